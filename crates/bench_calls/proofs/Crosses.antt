@@ -12,7 +12,7 @@ use Rattle.std.proofs.Crossing as heap
 use Rattle.std_heap.specs.contracts.Global as Heap
 use Rattle.std_heap.specs.contracts.GlobalAllocator.TheImpl.{ghosts}
 use Rattle.core.proofs.snapshot.Sent.{snapshot_send}
-use Rattle.past_events.specs.contracts.past.Past as Past
+use Rattle.legal_steps.specs.contracts.past.Past as Past
 use Rattle.interleaving.specs.contracts.tables.Tables as Tables
 use Rattle.interleaving.specs.contracts.world.World as World
 use Rattle.interleaving.specs.contracts.world.World.TheInside as InWorld

@@ -17,9 +17,9 @@ use atomic_table::{Seat, Table};
 use edge_word::EdgeWord;
 use instrument_log::InstrumentLog;
 use lab_plan::{EdgeNo, JobNo, Plan};
+use legal_steps::Past;
 use one_history::Start;
 use one_history::board::{Board, View};
-use past_events::Past;
 use std::alloc::{AllocError, Allocator};
 use std::snapshot::Snapshot;
 

@@ -9,6 +9,7 @@ pub mod end;
 pub mod event;
 pub mod laws;
 pub mod log_laws;
+mod past;
 pub mod phase;
 
 pub use bottles::{bottle_end, has};
@@ -16,4 +17,5 @@ pub use counts::{Counts, NO_COUNTS};
 pub use edge_state::{EdgeState, EndChoice};
 pub use end::{End, neighbour};
 pub use event::{Event, NotLegal, Step, StepLine};
+pub use past::Past;
 pub use phase::{Dining, Drinking, JobState};

@@ -1,6 +1,6 @@
 //! What a bench begins with.
 use lab_plan::Plan;
-use past_events::Past;
+use legal_steps::Past;
 use std::alloc::Allocator;
 use std::snapshot::Snapshot;
 

@@ -13,7 +13,7 @@ use edge_word::EdgeWord;
 use instrument_log::InstrumentLog;
 use interleaving::World;
 use lab_plan::Plan;
-use past_events::Past;
+use legal_steps::Past;
 use std::alloc::{AllocError, Allocator, Global};
 
 /// The edges and the logs by number, and what each job knows.

@@ -18,10 +18,10 @@ use types.Part.{agg}
 use types.Run.{enter, no_more, returns}
 use Rattle.legal_steps.specs.contracts.event.Event as added
 use Rattle.legal_steps.specs.declared.event.Event.{Event}
-use Rattle.past_events.specs.contracts.past.Past as made
-use Rattle.past_events.specs.contracts.past.Past.after as f
-use Rattle.past_events.proofs.past.Past.after.Statement.{statement}
-use Rattle.past_events.proofs.past.Past.after.Code as code
+use Rattle.legal_steps.specs.contracts.past.Past as made
+use Rattle.legal_steps.specs.contracts.past.Past.after as f
+use Rattle.legal_steps.proofs.past.Past.after.Statement.{statement}
+use Rattle.legal_steps.proofs.past.Past.after.Code as code
 
 abbrev stayed : Stays f.ended.signature.params f.ended.kept
 stayed = (stay_none_ref (0 ∷ []) tt (plain (λ _. made.the_row)) yes, (stay_none_ref (1 ∷ []) tt (plain (λ _. added.the_row)) yes, tt))

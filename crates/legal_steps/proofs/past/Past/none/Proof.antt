@@ -12,10 +12,10 @@ use types.ByLocal.{alloc_all, pass_all, free_all, look_at, sets}
 use types.Kit.{‵, raw, ◌$◌, ◌∵◌, !, qed, move, suffices, done}
 use types.Part.{agg}
 use types.Run.{enter, no_more, returns}
-use Rattle.past_events.specs.contracts.past.Past as made
-use Rattle.past_events.specs.contracts.past.Past.none as f
-use Rattle.past_events.proofs.past.Past.none.Statement.{statement}
-use Rattle.past_events.proofs.past.Past.none.Code as code
+use Rattle.legal_steps.specs.contracts.past.Past as made
+use Rattle.legal_steps.specs.contracts.past.Past.none as f
+use Rattle.legal_steps.proofs.past.Past.none.Statement.{statement}
+use Rattle.legal_steps.proofs.past.Past.none.Code as code
 
 abbrev stayed : Stays f.ended.signature.params f.ended.kept
 stayed = tt

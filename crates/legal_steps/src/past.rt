@@ -3,7 +3,7 @@ ghost use Rattle.std.specs.Prelude.{◌≡◌, List, [], ◌∷◌, ◌++◌};
 ghost use Rattle.std.specs.Borrow.{ftrue};
 ghost use Rattle.legal_steps.specs.declared.event.Event.{Event as AnEvent};
 
-use legal_steps::Event;
+use crate::event::Event;
 use std::marker::Model;
 
 /// Events in the order in which they happened, known to contracts alone.
