@@ -32,19 +32,24 @@ fn desk_in(inside: &Inside, job: u32) -> Result<TakenDesk, u32>
     }
 }
 
+/// A box with something else in it.
+fn filled(mut place: Box<Inside, Global>, inside: Inside) -> Box<Inside, Global>
+    ensures { result.value ≡ inside }
+{
+    Box::replace(&mut place, inside);
+    place
+}
+
 /// The same in a box. The box comes first, so that no desk is out without one.
 fn desk_at(alloc: Global, inside: &Inside, job: u32) -> Result<Box<Inside, Global>, u32>
     ensures desk { IfOk result (λ b. HasDeskOf inside.now job b.value) }
     ensures why { IfErr result (λ status. IsWhyNoDesk inside.now job status) }
 {
-    let Ok(mut place) = Box::new(alloc, Inside::Empty) else {
+    let Ok(place) = Box::new(alloc, Inside::Empty) else {
         return Err(NO_MEMORY);
     };
     match desk_in(inside, job) {
-        Ok(taken) => {
-            Box::replace(&mut place, Inside::Desk(taken));
-            Ok(place)
-        }
+        Ok(taken) => Ok(filled(place, Inside::Desk(taken))),
         Err(status) => Err(status),
     }
 }
@@ -101,10 +106,7 @@ pub fn give(alloc: Global, desk: &mut Handle) -> u32
     };
     let (after, status) = given(Box::replace(&mut inside, Inside::Empty));
     match after {
-        Some(after) => {
-            Box::replace(&mut inside, after);
-            put(&mut desk.slot, &mut desk.live, inside);
-        }
+        Some(after) => put(&mut desk.slot, &mut desk.live, filled(inside, after)),
         None => release(&mut desk.live),
     }
     status
