@@ -1,42 +1,28 @@
 -- One edge of a job that is due.
-use Rattle.std.proofs.Common.{◌≡◌, ◌≢◌, ℕ, ◌<◌, ◌≤◌, Bool, true, false, not, ◌&&◌, ◌==◌, List, [], ◌∷◌, length, slice_index_or, refl, sym, ap, ◌∙◌, subst, inl, inr, arith}
+use Rattle.std.proofs.Common.{◌≡◌, ◌≢◌, ℕ, ◌<◌, ◌≤◌, Bool, true, false, List, [], ◌∷◌, length, slice_index_or, slice_set, length-set, refl, sym, ap, ◌∙◌, subst, inl, inr, arith}
 use Rattle.std.proofs.lemmas.Bool.{false≢true, cases_eq}
 use Rattle.lab_plan.specs.LabPlan.{LabPlan}
 use Rattle.legal_steps.specs.declared.end.End.{End}
 use Rattle.legal_steps.specs.declared.edge_state.EdgeState.{EdgeState}
 use Rattle.legal_steps.specs.declared.event.Event.{Event}
-use Rattle.legal_steps.specs.declared.event.Event.TheVariants.{Look, AskFork, GiveFork, Soil, AskBottles, GiveBottles}
-use Rattle.legal_steps.specs.State.{State, IsOwn, edge, end_of}
+use Rattle.legal_steps.specs.declared.event.Event.TheVariants.{Look}
+use Rattle.legal_steps.specs.State.{State, Seat, IsOwn, edge, seat, end_of, bottles_at}
 use Rattle.legal_steps.specs.Legal.{after}
 use Rattle.legal_steps.specs.Run.{after_all}
 use Rattle.legal_steps.specs.Fitting.{Fits}
 use Rattle.legal_steps.proofs.FitsLaw.{own_is_job}
 use Rattle.interleaving.specs.World.{WorldView}
-use Rattle.edge_word.specs.declared.moves.EdgeMoves.{EdgeMoves}
-use Rattle.edge_word.specs.Moves.{on, events_of, is_nothing}
-use Rattle.turns.proofs.Calm.{nothing_due_is_calm}
+use Rattle.edge_word.specs.Moves.{events_of}
 use Rattle.settling.specs.Doing.{VisitsEdge}
 use Rattle.settling.specs.Left.{DueView, AreMarked, HasNothingAt, is_due}
-use Rattle.settling.specs.Attending.{TriesEdge, with_note, woken_at}
+use Rattle.settling.specs.Attending.{AttendsEdge, with_note, woken_at}
 use Rattle.settling.proofs.Deeds.{alone_visit}
-use Rattle.settling.proofs.DueThere.{seat_there}
+use Rattle.settling.proofs.DueThere.{edge_there, seat_there}
+use Rattle.settling.proofs.CalmAfter.{nothing_after}
+use Rattle.turns.proofs.Frame.{own_seat, as_many_seats}
 use Rattle.settling.proofs.Local.{IsNear, near_all, visit_at, marked_by_look}
 use Rattle.settling.proofs.Still.{still_at, seat_still_at, still_nothing}
 use Rattle.settling.proofs.Marks.{added, noted_still, noted_now, note_fits, note_jobs, note_only, woken_fits, woken_out, woken_due, woken_notes, woken_only, woken_stays, woken_kept, same_job}
-
--- where there are no events, nothing was due
-none_on : (a b c d f : Bool) (u v w x y : Event) → length (on a u (on (not b) v (on c w (on (not d) x (on f y []))))) ≡ 0 →
-    (not a && b && not c && d && not f) ≡ true
-none_on true b c d f u v w x y h = absurd (omega (arith, h))
-none_on false false c d f u v w x y h = absurd (omega (arith, h))
-none_on false true true d f u v w x y h = absurd (omega (arith, h))
-none_on false true false false f u v w x y h = absurd (omega (arith, h))
-none_on false true false true true u v w x y h = absurd (omega (arith, h))
-none_on false true false true false u v w x y h = refl
-
-nothing_of : (m : EdgeMoves) (j e : ℕ) → length (events_of m j e) ≡ 0 → is_nothing m ≡ true
-nothing_of m j e h = none_on m.give_fork (m.give_bottles == 0) m.ask_fork (m.ask_bottles == 0) m.soil (GiveFork j e) (GiveBottles j e m.give_bottles)
-    (AskFork j e) (AskBottles j e m.ask_bottles) (Soil j e) h
 
 nil_of : (l : List Event) → length l ≡ 0 → l ≡ []
 nil_of [] h = refl
@@ -76,57 +62,71 @@ module _ (old new : WorldView) (due : DueView) (j e n : ℕ) (fit : Fits old.pla
     | inr apart ↦ seat_still_at plan s t k (near.seats k apart) f (near.edges f other) h
   ]
 
+  inside_after : j < length (after plan s (Look j e saw)).seats
+  inside_after = subst (λ n. j < n) (sym (as_many_seats plan s (Look j e saw))) inside
+
+  abbrev u : State
+  u = after plan s (Look j e saw)
+
+  there : e < length (seat s j).bottle_marks
+  there = let a = (fit.seats_fit j (own_is_job plan j e own)).bottle_marks_there in omega (arith, a, own.is_edge)
+
+  there_after : e < length (seat u j).bottle_marks
+  there_after = let a = ap (λ (y : Seat). length y.bottle_marks) (own_seat plan s (Look j e saw) inside) in
+      let b : length (slice_set (seat s j).bottle_marks e (bottles_at plan e here saw)) ≡ length (seat s j).bottle_marks = length-set (seat s j).bottle_marks e _ in
+      omega (arith, a, b, there)
+
+  -- whether something was moved or not, nothing is left for the job there
+  nothing_here : HasNothingAt plan t j e
+  nothing_here = nothing_after plan u j e v.moves (edge_there plan s j e fit own) inside_after own v.due there_after (marked_by_look plan s j e saw inside there)
+
   -- ---- something was moved
 
-  pub edge_moved : 1 ≤ n → TriesEdge old due j e n new (woken_at plan due e)
+  abbrev woken : DueView
+  woken = woken_at plan due e
+
+  pub edge_moved : 1 ≤ n → AttendsEdge old due j e n new (with_note (woken_at plan due e) here e true)
   edge_moved some = record {
     alone = alone_visit old new j e n v;
-    marked = marked_new (woken_at plan due e) (record {
-      of_plan = woken_fits plan due e marked.of_plan;
-      others = λ k job out. let o = woken_out plan due e k out in
+    marked = marked_new (with_note woken here e true) (record {
+      of_plan = note_fits plan woken here e true (woken_fits plan due e marked.of_plan);
+      others = λ k job out. let o = woken_out plan due e k (sym (ap (λ (l : List Bool). slice_index_or l k true) (note_jobs woken here e true)) ∙ out) in
           let apart : k ≢ j = λ z. o.1 (subst (λ m. IsOwn plan m e) (sym z) own) in
           still_nothing plan s t k (near.seats k apart) (λ f mine. near.edges f (λ z. o.1 (subst (IsOwn plan k) z mine))) (marked.others k job o.0);
-      only = λ k f x mine is other. let o = woken_only plan due e k x is in elim (cases_eq f e) [
+      only = λ k f x mine is other. let o = woken_only plan due e k x (sym (note_only woken here e true k) ∙ is) in elim (cases_eq f e) [
         | inl same ↦ absurd (other (same ∙ sym (o.1 (subst (IsOwn plan k) same mine))))
         | inr apart ↦ elsewhere k f apart (elim o.0 [
           | inl before ↦ marked.only k f x mine before other
           | inr out ↦ (marked.others k (own_is_job plan k f mine) out.1).edges f mine
         ])
       ];
-      noted = λ k f mine noted. let o = woken_notes plan due e (end_of plan k f) f noted in elsewhere k f o.1 (marked.noted k f mine o.0);
+      noted = λ k f mine noted. elim (added woken here (end_of plan k f) e f noted) [
+        | inr before ↦ let o = woken_notes plan due e (end_of plan k f) f before in elsewhere k f o.1 (marked.noted k f mine o.0)
+        | inl z ↦ subst (λ (z : ℕ × ℕ). HasNothingAt plan t z.0 z.1)
+            (λ i. (sym (same_job plan j k e own (subst (IsOwn plan k) z.1 mine) (ap (end_of plan k) (sym z.1) ∙ z.0)) i, sym z.1 i)) nothing_here
+      ];
     });
-    still_due = woken_due plan due e j is;
-    noted = λ none. absurd (omega (arith, some, none));
-    kept = woken_kept plan due e;
-    only = woken_stays plan due e j;
+    still_due = ap (λ (l : List Bool). slice_index_or l j true) (note_jobs woken here e true) ∙ woken_due plan due e j is;
+    noted = let fits = woken_fits plan due e marked.of_plan in
+        noted_now woken here e (let a = fits.lower_there in omega (arith, a, own.is_edge)) (let a = fits.higher_there in omega (arith, a, own.is_edge));
+    kept = λ end f other before. noted_still woken here end e f (woken_kept plan due e end f other before);
+    only = λ h. note_only woken here e true j ∙ woken_stays plan due e j h;
     stays = λ none. absurd (omega (arith, some, none));
   }
 
   -- ---- nothing was
 
   module _ (none : n ≡ 0) where
-    abbrev u : State
-    u = after plan s (Look j e saw)
-
     no_events : events_of v.moves j e ≡ []
     no_events = nil_of (events_of v.moves j e) (sym v.many ∙ none)
 
     only_looked : t ≡ u
     only_looked = ap (after_all plan u) no_events
 
-    nothing : HasNothingAt plan u j e
-    nothing = record {
-      calm = nothing_due_is_calm plan u j e v.moves v.due (nothing_of v.moves j e (sym v.many ∙ none));
-      knows = marked_by_look plan s j e saw inside (let a = (fit.seats_fit j (own_is_job plan j e own)).bottle_marks_there in omega (arith, a, own.is_edge));
-    }
-
-    nothing_here : HasNothingAt plan t j e
-    nothing_here = subst (λ (z : State). HasNothingAt plan z j e) (sym only_looked) nothing
-
     edge_stays : (f : ℕ) → edge t f ≡ edge s f
     edge_stays f = ap (λ (z : State). edge z f) only_looked
 
-    pub edge_calm : TriesEdge old due j e n new (with_note due here e true)
+    pub edge_calm : AttendsEdge old due j e n new (with_note due here e true)
     edge_calm = record {
       alone = alone_visit old new j e n v;
       marked = marked_new (with_note due here e true) (record {
@@ -154,7 +154,7 @@ module _ (old new : WorldView) (due : DueView) (j e n : ℕ) (fit : Fits old.pla
         ];
       });
       still_due = ap (λ (l : List Bool). slice_index_or l j true) (note_jobs due here e true) ∙ is;
-      noted = λ h. noted_now due here e (let a = marked.of_plan.lower_there in omega (arith, a, own.is_edge)) (let a = marked.of_plan.higher_there in omega (arith, a, own.is_edge));
+      noted = noted_now due here e (let a = marked.of_plan.lower_there in omega (arith, a, own.is_edge)) (let a = marked.of_plan.higher_there in omega (arith, a, own.is_edge));
       kept = λ end f other before. noted_still due here end e f before;
       only = λ h. note_only due here e true j ∙ h;
       stays = λ h k out. ap (λ (l : List Bool). slice_index_or l k true) (note_jobs due here e true) ∙ out;

@@ -4,10 +4,12 @@ pub mod DueThere
 pub mod Visits
 pub mod Few
 pub mod Local
+pub mod Looked
 pub mod Still
 pub mod Marks
 pub mod Waking
 pub mod Deeds
+pub mod CalmAfter
 pub mod Attended
 pub mod Rested
 pub mod MarkedOn

@@ -1,6 +1,6 @@
 -- What is noted of a plan's jobs is true of them by a longer plan.
 use Rattle.std.proofs.Common.{◌≡◌, ℕ, true, length, sym, ap, ◌∙◌, subst, arith}
-use Rattle.lab_plan.specs.LabPlan.{LabPlan, edges}
+use Rattle.lab_plan.specs.LabPlan.{LabPlan}
 use Rattle.legal_steps.specs.declared.end.End.{End}
 use Rattle.legal_steps.specs.declared.event.Event.{Event}
 use Rattle.legal_steps.specs.declared.event.Event.TheVariants.{AskFork, GiveFork, Soil, AskBottles, GiveBottles, Hunger, Sit, Leave, Drink}

@@ -1,6 +1,6 @@
 -- Job after job, and round after round, until nobody has anything to do of itself.
-use Rattle.std.proofs.Common.{◌≡◌, ◌≢◌, ℕ, Bool, ◌+◌, ◌*◌, ◌<◌, ◌≤◌, true, false, List, [], ◌∷◌, ◌++◌, take, length, set, slice_index_or, get_or-set_same, get_or-set_other, length-set, refl, sym, ap, ◌∙◌, subst, inl, inr, arith}
-use Rattle.std.proofs.lemmas.Bool.{false≢true, cases_eq}
+use Rattle.std.proofs.Common.{◌≡◌, ◌≢◌, ℕ, ◌+◌, ◌*◌, ◌<◌, ◌≤◌, true, false, List, [], ◌∷◌, ◌++◌, take, length, set, slice_index_or, get_or-set_same, get_or-set_other, length-set, refl, sym, ap, ◌∙◌, subst, inl, inr, arith}
+use Rattle.std.proofs.lemmas.Bool.{cases_eq}
 use Rattle.lab_plan.specs.LabPlan.{LabPlan, edges, edges_of, session_names}
 use Rattle.lab_plan.specs.IsPlan.{IsPlan}
 use Rattle.legal_steps.specs.declared.phase.Drinking.TheVariants.{Thirsty}
@@ -26,120 +26,86 @@ use Rattle.reasons.proofs.Looks.{alike_looked, marked_looked}
 use Rattle.settling.specs.Doing.{IsOwnAct, ActsAlone}
 use Rattle.settling.specs.Left.{DueView, AreMarked, HasNothingToDo, KeepsMarks, IsBySelf, NobodyIsDue, is_due, is_noted, only_at}
 use Rattle.settling.specs.Resting.{DoesAlone, Rests}
-use Rattle.settling.specs.Attending.{TriesEdge, AttendsEdge, AttendsEdges, Attends, not_due}
+use Rattle.settling.specs.Attending.{AttendsEdge, AttendsEdges, Attends, not_due}
 use Rattle.settling.proofs.Worlds.{reached_sound}
 use Rattle.settling.proofs.Deeds.{alone_none, alone_both, alone_act, act_is, none_legal, few_alone}
 use Rattle.settling.proofs.Waking.{marked_on}
 
 -- ---- edge after edge
 
--- nothing was done at first, and so it is once
-pub edge_once : (old new : WorldView) (d0 d1 : DueView) (j e n : ℕ) → n ≡ 0 → TriesEdge old d0 j e n new d1 → AttendsEdge old d0 j e 0 false new d1
-edge_once old new d0 d1 j e n none a = record {
-  alone = subst (λ z. DoesAlone old z new) none a.alone;
-  marked = a.marked;
-  still_due = a.still_due;
-  closed = λ h. refl;
-  noted = λ h. a.noted none;
-  kept = a.kept;
-  only = a.only;
-  stays = λ h. a.stays none;
-}
-
 -- it is noted that there is nothing to do
 pub edge_noted : (w : WorldView) (due : DueView) (j e : ℕ) → AreMarked w.plan w.state due → is_due due j ≡ true → is_noted due (end_of w.plan j e) e ≡ true
-    → AttendsEdge w due j e 0 false w due
+    → AttendsEdge w due j e 0 w due
 edge_noted w due j e marked is noted = record {
   alone = alone_none w;
   marked = marked;
   still_due = is;
-  closed = λ none. refl;
-  noted = λ h. noted;
+  noted = noted;
   kept = λ end f other before. before;
   only = λ h. h;
   stays = λ none k out. out;
 }
 
--- something was done at first, and so it is twice
-pub edge_twice : (old mid new : WorldView) (d0 d1 d2 : DueView) (j e m n : ℕ) (undone : Bool) → 1 ≤ m → (undone ≡ false → n ≡ 0) → TriesEdge old d0 j e m mid d1 →
-    TriesEdge mid d1 j e n new d2 → AttendsEdge old d0 j e (m + n) undone new d2
-edge_twice old mid new d0 d1 d2 j e m n undone some closed a b = record {
-  alone = alone_both old mid new m n a.alone b.alone;
-  marked = b.marked;
-  still_due = b.still_due;
-  closed = λ none. absurd (omega (arith, none, some));
-  noted = λ h. subst (λ (p : LabPlan). is_noted d2 (end_of p j e) e ≡ true) a.alone.leads.same_plan (b.noted (closed h));
-  kept = λ end f other before. b.kept end f other (a.kept end f other before);
-  only = λ h. b.only (a.only h);
-  stays = λ none. absurd (omega (arith, none, some));
-}
-
--- k of the job's edges. If none is left open, it is noted of each that there is nothing to do
-pub record EdgesSoFar (old : WorldView) (due : DueView) (j : ℕ) (k n : ℕ) (undone : Bool) (new : WorldView) (due' : DueView) : Type 0 where
+-- k of the job's edges. It is noted of each that there is nothing to do
+pub record EdgesSoFar (old : WorldView) (due : DueView) (j : ℕ) (k n : ℕ) (new : WorldView) (due' : DueView) : Type 0 where
   pub alone : DoesAlone old n new
   pub marked : AreMarked new.plan new.state due'
   pub still_due : is_due due' j ≡ true
-  pub closed : n ≡ 0 → undone ≡ false
-  pub noted : undone ≡ false → (i : ℕ) → i < k → is_noted due' (end_of old.plan j (slice_index_or (edges_of old.plan j) i 0)) (slice_index_or (edges_of old.plan j) i 0) ≡ true
+  pub noted : (i : ℕ) → i < k → is_noted due' (end_of old.plan j (slice_index_or (edges_of old.plan j) i 0)) (slice_index_or (edges_of old.plan j) i 0) ≡ true
   pub stays : n ≡ 0 → (i : ℕ) → is_due due i ≡ false → is_due due' i ≡ false
-  pub few : n ≤ 10 * k
+  pub few : n ≤ 5 * k
 
-pub edges_none : (w : WorldView) (due : DueView) (j : ℕ) → AreMarked w.plan w.state due → is_due due j ≡ true → EdgesSoFar w due j 0 0 false w due
+pub edges_none : (w : WorldView) (due : DueView) (j : ℕ) → AreMarked w.plan w.state due → is_due due j ≡ true → EdgesSoFar w due j 0 0 w due
 edges_none w due j marked is = record {
   alone = alone_none w;
   marked = marked;
   still_due = is;
-  closed = λ none. refl;
-  noted = λ h i below. absurd (omega (arith, below));
+  noted = λ i below. absurd (omega (arith, below));
   stays = λ none i out. out;
   few = omega arith;
 }
 
-pub edges_more : (old mid new : WorldView) (d0 d1 d2 : DueView) (j k e m n : ℕ) (before left undone : Bool) → e ≡ slice_index_or (edges_of old.plan j) k 0 →
-    EdgesSoFar old d0 j k m before mid d1 → AttendsEdge mid d1 j e n left new d2 → n ≤ 10 → (before ≡ false → left ≡ false → undone ≡ false) →
-    (undone ≡ false → (before ≡ false) × (left ≡ false)) → EdgesSoFar old d0 j (k + 1) (m + n) undone new d2
-edges_more old mid new d0 d1 d2 j k e m n before left undone is a b few both each = record {
+pub edges_more : (old mid new : WorldView) (d0 d1 d2 : DueView) (j k e m n : ℕ) → e ≡ slice_index_or (edges_of old.plan j) k 0 →
+    EdgesSoFar old d0 j k m mid d1 → AttendsEdge mid d1 j e n new d2 → n ≤ 5 → EdgesSoFar old d0 j (k + 1) (m + n) new d2
+edges_more old mid new d0 d1 d2 j k e m n is a b few = record {
   alone = alone_both old mid new m n a.alone b.alone;
   marked = b.marked;
   still_due = b.still_due;
-  closed = λ none. both (a.closed (omega (arith, none))) (b.closed (omega (arith, none)));
-  noted = λ h i below. let f = slice_index_or (edges_of old.plan j) i 0 in elim (cases_eq f e) [
-    | inl same ↦ subst (λ (z : LabPlan × ℕ). is_noted d2 (end_of z.0 j z.1) z.1 ≡ true) (λ x. (a.alone.leads.same_plan x, sym same x)) (b.noted (each h).1)
+  noted = λ i below. let f = slice_index_or (edges_of old.plan j) i 0 in elim (cases_eq f e) [
+    | inl same ↦ subst (λ (z : LabPlan × ℕ). is_noted d2 (end_of z.0 j z.1) z.1 ≡ true) (λ x. (a.alone.leads.same_plan x, sym same x)) b.noted
     | inr apart ↦ b.kept (end_of old.plan j f) f apart
-        (a.noted (each h).0 i (let other : i ≢ k = λ last. apart (ap (λ p. slice_index_or (edges_of old.plan j) p 0) last ∙ sym is) in omega (arith, below, other)))
+        (a.noted i (let other : i ≢ k = λ last. apart (ap (λ p. slice_index_or (edges_of old.plan j) p 0) last ∙ sym is) in omega (arith, below, other)))
   ];
   stays = λ none i out. b.stays (omega (arith, none)) i (a.stays (omega (arith, none)) i out);
   few = let x = a.few in omega (arith, x, few);
 }
 
 -- all of them
-pub edges_all : (old new : WorldView) (d0 d1 : DueView) (j k n : ℕ) (undone : Bool) → length (edges_of old.plan j) ≤ k → EdgesSoFar old d0 j k n undone new d1 →
-    AttendsEdges old d0 j n undone new d1
-edges_all old new d0 d1 j k n undone past a =
+pub edges_all : (old new : WorldView) (d0 d1 : DueView) (j k n : ℕ) → length (edges_of old.plan j) ≤ k → EdgesSoFar old d0 j k n new d1 →
+    AttendsEdges old d0 j n new d1
+edges_all old new d0 d1 j k n past a =
     let same = a.alone.leads.same_plan in
     record {
       alone = a.alone;
       marked = a.marked;
       still_due = a.still_due;
-      closed = a.closed;
-      nothing = λ h e own. a.marked.noted j e own (subst (λ (p : LabPlan). is_noted d1 (end_of p j e) e ≡ true) (sym same)
-          (at_own_edges old.plan j (edges_of old.plan j) k (λ f. is_noted d1 (end_of old.plan j f) f ≡ true) refl past (a.noted h)
+      nothing = λ e own. a.marked.noted j e own (subst (λ (p : LabPlan). is_noted d1 (end_of p j e) e ≡ true) (sym same)
+          (at_own_edges old.plan j (edges_of old.plan j) k (λ f. is_noted d1 (end_of old.plan j f) f ≡ true) refl past a.noted
           e (subst (λ (p : LabPlan). IsOwn p j e) same own)));
       stays = a.stays;
     }
 
 -- the only one at which it may have something to do
-pub edges_one : (old new : WorldView) (d0 d1 : DueView) (j e n : ℕ) (undone : Bool) → IsOwn old.plan j e → only_at d0 j ≡ e + 1 → AttendsEdge old d0 j e n undone new d1 →
-    AttendsEdges old d0 j n undone new d1
-edges_one old new d0 d1 j e n undone mine only a =
+pub edges_one : (old new : WorldView) (d0 d1 : DueView) (j e n : ℕ) → IsOwn old.plan j e → only_at d0 j ≡ e + 1 → AttendsEdge old d0 j e n new d1 →
+    AttendsEdges old d0 j n new d1
+edges_one old new d0 d1 j e n mine only a =
     let same = a.alone.leads.same_plan in
     record {
       alone = a.alone;
       marked = a.marked;
       still_due = a.still_due;
-      closed = a.closed;
-      nothing = λ h f own. elim (cases_eq f e) [
-        | inl is ↦ a.marked.noted j f own (subst (λ (z : LabPlan × ℕ). is_noted d1 (end_of z.0 j z.1) z.1 ≡ true) (λ i. (sym same i, sym is i)) (a.noted h))
+      nothing = λ f own. elim (cases_eq f e) [
+        | inl is ↦ a.marked.noted j f own (subst (λ (z : LabPlan × ℕ). is_noted d1 (end_of z.0 j z.1) z.1 ≡ true) (λ i. (sym same i, sym is i)) a.noted)
         | inr other ↦ a.marked.only j f e own (a.only only) other
       ];
       stays = a.stays;
@@ -147,17 +113,7 @@ edges_one old new d0 d1 j e n undone mine only a =
 
 -- ---- one job
 
--- something is left
-pub job_left : (old new : WorldView) (d0 d1 : DueView) (j n : ℕ) (undone : Bool) → undone ≡ true → AttendsEdges old d0 j n undone new d1 →
-    Attends (λ i. i ≡ j) old d0 n new d1
-job_left old new d0 d1 j n undone is_so a = record {
-  alone = a.alone;
-  marked = a.marked;
-  unmarked = λ h k is. absurd (false≢true (sym (a.closed h) ∙ is_so));
-  stays = λ h k out. absurd (false≢true (sym (a.closed h) ∙ is_so));
-}
-
-module _ (old mid : WorldView) (d0 d1 : DueView) (j n : ℕ) (undone : Bool) (job : IsJob old.plan j) (a : AttendsEdges old d0 j n undone mid d1) where
+module _ (old mid : WorldView) (d0 d1 : DueView) (j n : ℕ) (job : IsJob old.plan j) (a : AttendsEdges old d0 j n mid d1) where
   -- it acted
   pub job_acted : (new : WorldView) (d2 : DueView) → ActsAlone mid j true new → KeepsMarks new.plan (IsBySelf j) d1 d2 → Attends (λ i. i ≡ j) old d0 (n + 1) new d2
   job_acted new d2 acts keeps = record {
@@ -168,13 +124,13 @@ module _ (old mid : WorldView) (d0 d1 : DueView) (j n : ℕ) (undone : Bool) (jo
   }
 
   -- nothing is left
-  module _ (none : undone ≡ false) (no_act : IsOwnAct mid.plan mid.state j []) where
+  module _ (no_act : IsOwnAct mid.plan mid.state j []) where
     same : mid.plan ≡ old.plan
     same = a.alone.leads.same_plan
 
     nothing_left : HasNothingToDo mid.plan mid.state j
     nothing_left = let acts = none_legal mid.plan mid.state j no_act in record {
-      edges = a.nothing none;
+      edges = a.nothing;
       no_drink = acts.0;
       no_leave = acts.1;
       no_sit = acts.2;

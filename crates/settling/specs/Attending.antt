@@ -37,35 +37,23 @@ abbrev pub woken_at : LabPlan → DueView → ℕ → DueView
 woken_at plan due e = with_note (with_note (with_due (with_due (placed (placed due (ends plan e).0 e) (ends plan e).1 e) (ends plan e).0) (ends plan e).1)
     Lower e false) Higher e false
 
--- one of the job's edges, once. The job stays due. If nothing was done, it is noted that there is nothing to do for it there, and nobody else is due now.
--- All that was noted of other edges still is
-pub record TriesEdge (old : WorldView) (due : DueView) (j e n : ℕ) (new : WorldView) (due' : DueView) : Type 0 where
+-- one of the job's edges. The job stays due, and it is noted that there is nothing to do for it there any more. If nothing was done, nobody else is due
+-- now. All that was noted of other edges still is
+pub record AttendsEdge (old : WorldView) (due : DueView) (j e n : ℕ) (new : WorldView) (due' : DueView) : Type 0 where
   pub alone : DoesAlone old n new
   pub marked : AreMarked new.plan new.state due'
   pub still_due : is_due due' j ≡ true
-  pub noted : n ≡ 0 → is_noted due' (end_of old.plan j e) e ≡ true
+  pub noted : is_noted due' (end_of old.plan j e) e ≡ true
   pub kept : (end : End) (f : ℕ) → f ≢ e → is_noted due end f ≡ true → is_noted due' end f ≡ true
   pub only : only_at due j ≡ e + 1 → only_at due' j ≡ e + 1
   pub stays : n ≡ 0 → (k : ℕ) → is_due due k ≡ false → is_due due' k ≡ false
 
--- the same, until nothing is to be done there, or it is left open
-pub record AttendsEdge (old : WorldView) (due : DueView) (j e n : ℕ) (undone : Bool) (new : WorldView) (due' : DueView) : Type 0 where
+-- all edges of the job where it may have something to do. The job stays due, and has nothing to do at any of its edges any more
+pub record AttendsEdges (old : WorldView) (due : DueView) (j n : ℕ) (new : WorldView) (due' : DueView) : Type 0 where
   pub alone : DoesAlone old n new
   pub marked : AreMarked new.plan new.state due'
   pub still_due : is_due due' j ≡ true
-  pub closed : n ≡ 0 → undone ≡ false
-  pub noted : undone ≡ false → is_noted due' (end_of old.plan j e) e ≡ true
-  pub kept : (end : End) (f : ℕ) → f ≢ e → is_noted due end f ≡ true → is_noted due' end f ≡ true
-  pub only : only_at due j ≡ e + 1 → only_at due' j ≡ e + 1
-  pub stays : n ≡ 0 → (k : ℕ) → is_due due k ≡ false → is_due due' k ≡ false
-
--- all edges of the job where it may have something to do. The job stays due. If none is left open, it has nothing to do at any of its edges
-pub record AttendsEdges (old : WorldView) (due : DueView) (j n : ℕ) (undone : Bool) (new : WorldView) (due' : DueView) : Type 0 where
-  pub alone : DoesAlone old n new
-  pub marked : AreMarked new.plan new.state due'
-  pub still_due : is_due due' j ≡ true
-  pub closed : n ≡ 0 → undone ≡ false
-  pub nothing : undone ≡ false → (e : ℕ) → IsOwn new.plan j e → HasNothingAt new.plan new.state j e
+  pub nothing : (e : ℕ) → IsOwn new.plan j e → HasNothingAt new.plan new.state j e
   pub stays : n ≡ 0 → (k : ℕ) → is_due due k ≡ false → is_due due' k ≡ false
 
 -- some jobs. If nothing was done, none of them is due any more, and no other is that wasn't

@@ -3,3 +3,4 @@ pub mod Left
 pub mod Resting
 pub mod Attending
 pub mod Longer
+pub mod Visiting

@@ -20,6 +20,9 @@ pub struct Due<A: Allocator = Global> {
     pub(crate) only: Vec<u32, A>,
     pub(crate) lower: Vec<bool, A>,
     pub(crate) higher: Vec<bool, A>,
+    /// An edge at which the job lacked a mark for a bottle, and one without a fork mark, when it was asked last. Nothing rests on them.
+    pub(crate) dry: Vec<EdgeNo, A>,
+    pub(crate) bare: Vec<EdgeNo, A>,
 }
 
 impl<A: Allocator> Model for Due<A> {
@@ -42,6 +45,8 @@ impl<A: Allocator + Copy> Due<A> {
             only: Vec::from_elem(alloc, 0u32, plan.jobs())?,
             lower: Vec::from_elem(alloc, false, edges)?,
             higher: Vec::from_elem(alloc, false, edges)?,
+            dry: Vec::from_elem(alloc, EdgeNo(0), plan.jobs())?,
+            bare: Vec::from_elem(alloc, EdgeNo(0), plan.jobs())?,
         })
     }
 }

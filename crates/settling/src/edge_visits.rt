@@ -2,30 +2,38 @@
 ghost use Rattle.std.specs.Prelude.{◌≡◌, ◌≤◌, ◌∷◌, [], true, length};
 ghost use Rattle.lab_plan.specs.LabPlan.{edges_of};
 ghost use Rattle.legal_steps.specs.declared.event.Event.TheVariants.{Look};
-ghost use Rattle.legal_steps.specs.State.{IsOwn, edge as edge_at};
+ghost use Rattle.legal_steps.specs.State.{IsOwn, edge as edge_at, end_of};
 ghost use Rattle.legal_steps.specs.Legal.{IsJob, May};
 ghost use Rattle.legal_steps.specs.Run.{IsLegalFrom};
 ghost use Rattle.interleaving.specs.World.{LeadsTo};
 ghost use Rattle.edge_word.specs.Moves.{events_of, on};
+ghost use Rattle.dining_layer.specs.Turned.{turned};
 ghost use Rattle.settling.specs.Doing.{VisitsEdge, VisitsEdges};
 
-use crate::moves::due_moves;
+use crate::moves::moves_by;
+use dining_layer::seen_from;
 use edge_word::EdgeMoves;
 use interleaving::World;
 use lab_plan::{EdgeNo, JobNo};
-use legal_steps::{End, Event};
+use legal_steps::{EdgeState, End, Event};
 use std::alloc::Allocator;
 
-/// Looks at the edge. A look that would change no mark leads to the same state, so it isn't done then.
-fn look<A: Allocator>(world: &mut World<A>, job: JobNo, edge: EdgeNo)
-    requires { IsOwn world.old.plan job edge }
+/// Looks at the edge, which is so, and so as it is seen from the job's own end. A look that would change no mark leads to the same state, so
+/// it isn't done then.
+fn look<A: Allocator>(
+    world: &mut World<A>,
+    job: JobNo,
+    edge: EdgeNo,
+    seen: EdgeState,
+    mine: EdgeState,
+)
+    requires own { IsOwn world.old.plan job edge }
+    requires seen { seen ≡ edge_at world.old.state edge }
+    requires mine { mine ≡ turned world.old.plan edge (end_of world.old.plan job edge) seen }
     ensures { LeadsTo world.old (Look job edge (edge_at world.old.state edge) ∷ []) world.new }
 {
-    let seen = world.edge(edge);
-    let here = End::of(world.plan(), job, edge);
-    let mark = seen.fork_mark(here, world.job(job).dining);
-    let marks = seen.bottles_at(world.plan(), edge, here);
-    if mark == world.fork_mark(job, edge) && marks == world.bottle_marks(job, edge) {
+    let mark = mine.fork_mark(End::Higher, world.job(job).dining);
+    if mark == world.fork_mark(job, edge) && mine.bottles == world.bottle_marks(job, edge) {
         return;
     }
     // What is there is seen: so the look is legal.
@@ -75,8 +83,12 @@ pub fn visit<A: Allocator>(world: &mut World<A>, job: JobNo, edge: EdgeNo) -> u3
     ensures visits { VisitsEdge world.old job edge result world.new }
     ensures few { result ≤ 5 }
 {
-    look(world, job, edge);
-    let moves = due_moves(world, job, edge);
+    let plan = world.plan();
+    let seen = world.edge(edge);
+    let mine = seen_from(plan, edge, End::of(plan, job, edge), seen);
+    let phase = world.job(job);
+    let moves = moves_by(plan, job, phase, edge, mine);
+    look(world, job, edge, seen, mine);
     if moves.is_empty() {
         return 0;
     }

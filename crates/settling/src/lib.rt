@@ -6,8 +6,10 @@
 
 mod due;
 mod edge_visits;
+mod guesses;
 mod longer;
 mod moves;
+mod own_acts;
 mod resting;
 
 pub use due::{Due, wake_near, wake_self};

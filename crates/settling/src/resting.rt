@@ -1,100 +1,45 @@
 //! Doing all that is left to do of itself.
 ghost use Rattle.std.specs.Prelude.{◌≡◌, ◌+◌, ◌↔◌, ◌≤◌, true, false, IfSome, IsTrue};
 ghost use Rattle.legal_steps.specs.State.{IsOwn};
-ghost use Rattle.legal_steps.specs.Legal.{IsJob, May};
-ghost use Rattle.settling.specs.Doing.{IsOwnAct, ActsAlone, act_of};
+ghost use Rattle.legal_steps.specs.Legal.{IsJob};
 ghost use Rattle.settling.specs.Left.{AreMarked, IsDueOf, NobodyIsDue, is_due as is_due_now, only_at as only_at_of};
 ghost use Rattle.settling.specs.Resting.{Rests};
-ghost use Rattle.settling.specs.Attending.{TriesEdge, AttendsEdge, AttendsEdges, Attends};
+ghost use Rattle.settling.specs.Attending.{AttendsEdge, AttendsEdges, Attends};
 
 use crate::due::{Due, clear, is_due, is_noted, note, only_at, wake_at, wake_self};
 use crate::edge_visits::visit;
+use crate::own_acts::{act_alone, is_own};
 use interleaving::World;
 use lab_plan::{EdgeNo, JobNo};
-use legal_steps::{Dining, Drinking, End, Event};
+use legal_steps::End;
 use std::alloc::Allocator;
 
-/// The job's first act that needs no word from its owner and is legal.
-fn own_act<A: Allocator>(world: &World<A>, job: JobNo) -> Option<Event>
-    requires { IsJob world.now.plan job }
-    ensures first { IsOwnAct world.now.plan world.now.state job (act_of result) }
-    ensures may { IfSome result (λ event. May world.now.plan world.now.state event) }
-{
-    let phase = world.job(job);
-    if phase.drinking == Drinking::Thirsty && world.enabled(Event::Drink(job)) {
-        return Some(Event::Drink(job));
-    }
-    if phase.dining == Dining::Eating && world.enabled(Event::Leave(job)) {
-        return Some(Event::Leave(job));
-    }
-    if phase.dining == Dining::Hungry && world.enabled(Event::Sit(job)) {
-        return Some(Event::Sit(job));
-    }
-    if phase.dining == Dining::Thinking && world.enabled(Event::Hunger(job)) {
-        return Some(Event::Hunger(job));
-    }
-    None
-}
-
-/// Does it. Answers whether there was one.
-fn act_alone<A: Allocator>(world: &mut World<A>, job: JobNo) -> bool
-    requires { IsJob world.old.plan job }
-    ensures { ActsAlone world.old job result world.new }
-{
-    let Some(event) = own_act(world, job) else {
-        return false;
-    };
-    if world.step(event).is_err() {
-        unreachable!()
-    }
-    true
-}
-
-/// Visits the edge, and notes it if the job has nothing to do there. Answers how many moves were done.
-fn try_edge<A: Allocator>(world: &mut World<A>, due: &mut Due<A>, job: JobNo, edge: EdgeNo) -> u32
-    requires own { IsOwn world.old.plan job edge }
-    requires marked { AreMarked world.old.plan world.old.state due.old }
-    requires due { is_due_now due.old job ≡ true }
-    ensures tries { TriesEdge world.old due.old job edge result world.new due.new }
-    ensures few { result ≤ 5 }
-{
-    let here = End::of(world.plan(), job, edge);
-    let moved = visit(world, job, edge);
-    if moved == 0 {
-        note(due, here, edge);
-    } else {
-        wake_at(world.plan(), due, edge);
-    }
-    moved
-}
-
-/// Visits the edge, if it isn't noted that the job has nothing to do there, and once more if something was done. Answers how many moves
-/// were done, and whether more may be left.
+/// Visits the edge, unless it is noted that the job has nothing to do there; once it was visited, that is noted. Answers how many moves
+/// were done.
 fn attend_edge<A: Allocator>(
     world: &mut World<A>,
     due: &mut Due<A>,
     job: JobNo,
     edge: EdgeNo,
-) -> (u32, bool)
+) -> u32
     requires own { IsOwn world.old.plan job edge }
     requires marked { AreMarked world.old.plan world.old.state due.old }
     requires due { is_due_now due.old job ≡ true }
-    ensures attends { AttendsEdge world.old due.old job edge result.0 result.1 world.new due.new }
-    ensures few { result.0 ≤ 10 }
+    ensures attends { AttendsEdge world.old due.old job edge result world.new due.new }
+    ensures few { result ≤ 5 }
 {
     let here = End::of(world.plan(), job, edge);
     if is_noted(due, here, edge) {
-        return (0, false);
+        return 0;
     }
-    let moved = try_edge(world, due, job, edge);
+    let moved = visit(world, job, edge);
     if moved == 0 {
-        return (0, false);
+        note(due, here, edge);
+        return 0;
     }
-    let more = try_edge(world, due, job, edge);
-    if more == 0 {
-        return (moved, false);
-    }
-    (moved + more, true)
+    wake_at(world.plan(), due, edge);
+    note(due, here, edge);
+    moved
 }
 
 /// The edge at which alone the job may have something to do, if it is known.
@@ -109,43 +54,37 @@ fn only_edge<A: Allocator>(world: &World<A>, due: &Due<A>, job: JobNo) -> Option
         return None;
     }
     let edge = EdgeNo((place - 1) as u16);
-    let (lower, higher) = world.plan().ends(edge);
-    if lower == job || higher == job {
+    if is_own(world.plan(), job, edge) {
         Some(edge)
     } else {
         None
     }
 }
 
-/// Attends to each edge of the job. Answers how many moves there were, and whether more may be left.
-fn attend_all<A: Allocator>(world: &mut World<A>, due: &mut Due<A>, job: JobNo) -> (u32, bool)
+/// Attends to each edge of the job. Answers how many moves there were.
+fn attend_all<A: Allocator>(world: &mut World<A>, due: &mut Due<A>, job: JobNo) -> u32
     requires job { IsJob world.old.plan job }
     requires marked { AreMarked world.old.plan world.old.state due.old }
     requires due { is_due_now due.old job ≡ true }
-    ensures attends { AttendsEdges world.old due.old job result.0 result.1 world.new due.new }
-    ensures few { result.0 ≤ 4960 }
+    ensures attends { AttendsEdges world.old due.old job result world.new due.new }
+    ensures few { result ≤ 2480 }
 {
     let _ = world.plan().edges();
     let mut done = 0u32;
-    let mut undone = false;
     for index in 0..world.plan().edges_of(job).len() {
         let edge = world.plan().edges_of(job)[index];
-        let (moved, left) = attend_edge(world, due, job, edge);
-        done += moved;
-        if left {
-            undone = true;
-        }
+        done += attend_edge(world, due, job, edge);
     }
-    (done, undone)
+    done
 }
 
-/// Attends to the edges at which the job may have something to do. Answers how many moves there were, and whether more may be left.
-fn attend_edges<A: Allocator>(world: &mut World<A>, due: &mut Due<A>, job: JobNo) -> (u32, bool)
+/// Attends to the edges at which the job may have something to do. Answers how many moves there were.
+fn attend_edges<A: Allocator>(world: &mut World<A>, due: &mut Due<A>, job: JobNo) -> u32
     requires job { IsJob world.old.plan job }
     requires marked { AreMarked world.old.plan world.old.state due.old }
     requires due { is_due_now due.old job ≡ true }
-    ensures attends { AttendsEdges world.old due.old job result.0 result.1 world.new due.new }
-    ensures few { result.0 ≤ 4960 }
+    ensures attends { AttendsEdges world.old due.old job result world.new due.new }
+    ensures few { result ≤ 2480 }
 {
     match only_edge(world, due, job) {
         Some(edge) => attend_edge(world, due, job, edge),
@@ -153,23 +92,21 @@ fn attend_edges<A: Allocator>(world: &mut World<A>, due: &mut Due<A>, job: JobNo
     }
 }
 
-/// Attends to the edges of the job, and does its own act. If nothing is left then, the job isn't due any more. Answers how many moves and
-/// acts there were.
+/// Attends to the edges of the job, and does its own act. If there is none, nothing is left, and the job isn't due any more. Answers how
+/// many moves and acts there were.
 fn attend<A: Allocator>(world: &mut World<A>, due: &mut Due<A>, job: JobNo) -> u32
     requires job { IsJob world.old.plan job }
     requires marked { AreMarked world.old.plan world.old.state due.old }
     requires due { is_due_now due.old job ≡ true }
     ensures attends { Attends (λ k. k ≡ job) world.old due.old result world.new due.new }
-    ensures few { result ≤ 4961 }
+    ensures few { result ≤ 2481 }
 {
-    let (done, undone) = attend_edges(world, due, job);
-    if act_alone(world, job) {
+    let done = attend_edges(world, due, job);
+    if act_alone(world, due, job) {
         wake_self(world.plan(), due, job);
         return done + 1;
     }
-    if !undone {
-        clear(due, job);
-    }
+    clear(due, job);
     done
 }
 
@@ -177,7 +114,7 @@ fn attend<A: Allocator>(world: &mut World<A>, due: &mut Due<A>, job: JobNo) -> u
 fn round<A: Allocator>(world: &mut World<A>, due: &mut Due<A>) -> u32
     requires { AreMarked world.old.plan world.old.state due.old }
     ensures attends { Attends (IsJob world.old.plan) world.old due.old result world.new due.new }
-    ensures few { result ≤ 158752 }
+    ensures few { result ≤ 79392 }
 {
     let mut done = 0u32;
     for job in 0..world.plan().jobs() {

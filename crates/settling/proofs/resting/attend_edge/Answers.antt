@@ -1,16 +1,15 @@
-use Rattle.std.proofs.Common.{ℕ, ◌+◌, ◌≡◌, true, false, sym, ap, ◌∙◌, subst, arith}
+use Rattle.std.proofs.Common.{◌≡◌, ℕ, true, sym, ap, ◌∙◌, subst}
 use Rattle.lab_plan.specs.LabPlan.{LabPlan}
 use Rattle.legal_steps.specs.declared.end.End.{End}
-use Rattle.legal_steps.specs.State.{IsOwn, end_of}
+use Rattle.legal_steps.specs.State.{end_of}
 use Rattle.interleaving.specs.World.{WorldView}
-use Rattle.settling.specs.Left.{is_noted}
-use Rattle.settling.specs.Attending.{AttendsEdge}
+use Rattle.settling.specs.Left.{DueView, is_noted}
+use Rattle.settling.specs.Attending.{AttendsEdge, with_note, woken_at}
+use Rattle.settling.proofs.Worlds.{reached_fits}
 use Rattle.settling.proofs.Deeds.{some_if}
-use Rattle.settling.proofs.Rested.{edge_noted, edge_once, edge_twice}
+use Rattle.settling.proofs.Attended.{edge_calm, edge_moved}
+use Rattle.settling.proofs.Rested.{edge_noted}
 use Rattle.settling.proofs.resting.attend_edge.Goals as goal
-
-pub try_edge-more-requires-clause-own : goal.try_edge-more-requires-clause-own
-try_edge-more-requires-clause-own g c = subst (λ (p : LabPlan). IsOwn p c.args.job c.args.edge) (sym c.try_edge-moved.ensures.tries.alone.leads.same_plan) c.requires.own
 
 pub returns-then-is_noted-clause-attends : goal.returns-then-is_noted-clause-attends
 returns-then-is_noted-clause-attends g c =
@@ -21,26 +20,28 @@ returns-then-is_noted-clause-attends g c =
 
 pub returns-then-moved-eq0-clause-attends : goal.returns-then-moved-eq0-clause-attends
 returns-then-moved-eq0-clause-attends g c =
-    edge_once c.args.world.now c.try_edge-moved.new.world c.args.due.now c.try_edge-moved.new.due c.args.job c.args.edge c.try_edge-moved.result
-    c.if-moved-eq0.true c.try_edge-moved.ensures.tries
-
-zero_added : (m n : ℕ) → n ≡ 0 → m + n ≡ m
-zero_added m n h = omega (arith, h)
-
-pub returns-then-more-eq0-clause-attends : goal.returns-then-more-eq0-clause-attends
-returns-then-more-eq0-clause-attends g c =
     let w : WorldView = c.args.world.now in
-    subst (λ z. AttendsEdge w c.args.due.now c.args.job c.args.edge z false c.try_edge-more.new.world c.try_edge-more.new.due)
-    (zero_added c.try_edge-moved.result c.try_edge-more.result c.if-more-eq0.true)
-    (edge_twice w c.try_edge-moved.new.world c.try_edge-more.new.world c.args.due.now c.try_edge-moved.new.due c.try_edge-more.new.due c.args.job c.args.edge
-    c.try_edge-moved.result c.try_edge-more.result false (some_if c.try_edge-moved.result c.if-moved-eq0.false) (λ h. c.if-more-eq0.true)
-    c.try_edge-moved.ensures.tries c.try_edge-more.ensures.tries)
-
-true_not : true ≡ false → ⊥
-true_not h = absurd (cc)
+    let due : DueView = c.args.due.now in
+    let j = c.args.job in
+    let e = c.args.edge in
+    let n = c.visit-moved.result in
+    let none = c.if-moved-eq0.true in
+    let new : WorldView = c.visit-moved.new.world in
+    let here = c.of-here.ensures.end ∙ ap (λ (p : LabPlan). end_of p j e) c.plan.ensures.plan in
+    subst (λ (z : ℕ × DueView). AttendsEdge w due j e z.0 new z.1) (λ i. (none i, sym (c.note.ensures ∙ (λ k. with_note due (here k) e true)) i))
+    (edge_calm w new due j e n (reached_fits w c.plan.ensures.reached) c.requires.own c.requires.marked c.requires.due c.visit-moved.ensures.visits none)
 
 pub returns-clause-attends : goal.returns-clause-attends
 returns-clause-attends g c =
-    edge_twice c.args.world.now c.try_edge-moved.new.world c.try_edge-more.new.world c.args.due.now c.try_edge-moved.new.due c.try_edge-more.new.due c.args.job c.args.edge
-    c.try_edge-moved.result c.try_edge-more.result true (some_if c.try_edge-moved.result c.if-moved-eq0.false) (λ h. absurd (true_not h))
-    c.try_edge-moved.ensures.tries c.try_edge-more.ensures.tries
+    let w : WorldView = c.args.world.now in
+    let due : DueView = c.args.due.now in
+    let j = c.args.job in
+    let e = c.args.edge in
+    let n = c.visit-moved.result in
+    let new : WorldView = c.visit-moved.new.world in
+    let here = c.of-here.ensures.end ∙ ap (λ (p : LabPlan). end_of p j e) c.plan.ensures.plan in
+    let same = c.plan-2.ensures.plan ∙ c.visit-moved.ensures.visits.leads.same_plan in
+    subst (λ (d : DueView). AttendsEdge w due j e n new d)
+    (sym (c.note-2.ensures ∙ (λ i. with_note ((c.wake_at.ensures ∙ (λ k. woken_at (same k) due e)) i) (here i) e true)))
+    (edge_moved w new due j e n (reached_fits w c.plan.ensures.reached) c.requires.own c.requires.marked c.requires.due c.visit-moved.ensures.visits
+    (some_if n c.if-moved-eq0.false))
