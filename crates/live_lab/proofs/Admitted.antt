@@ -1,5 +1,5 @@
 -- Those who are let in, round after round.
-use Rattle.std.proofs.Common.{◌≡◌, ◌≢◌, ℕ, suc, ◌+◌, ◌*◌, ◌≤◌, false, List, [], ◌++◌, length, refl, sym, ap, ◌∙◌, subst, inl, inr, arith}
+use Rattle.std.proofs.Common.{◌≡◌, ◌≢◌, ℕ, zero, suc, ◌∷◌, if◌then◌else◌, ◌+◌, ◌*◌, ◌≤◌, false, List, [], ◌++◌, length, refl, sym, ap, ◌∙◌, subst, inl, inr, arith}
 use Rattle.std.specs.List.{count_by}
 use Rattle.lab_plan.specs.LabPlan.{LabPlan}
 use Rattle.lab_plan.specs.InstrumentSets.{holds}
@@ -7,7 +7,7 @@ use Rattle.legal_steps.specs.declared.event.Event.{Event}
 use Rattle.legal_steps.specs.declared.event.Event.TheVariants.{Thirst}
 use Rattle.legal_steps.specs.State.{Has, IsDrinking, phase}
 use Rattle.legal_steps.specs.Legal.{May, IsJob}
-use Rattle.interleaving.specs.World.{WorldView, LeadsTo}
+use Rattle.interleaving.specs.World.{WorldView, LeadsTo, IsReachedWith}
 use Rattle.reasons.specs.Deeds.{is_deed}
 use Rattle.settling.specs.Left.{DueView, AreMarked}
 use Rattle.settling.proofs.Worlds.{leads_both}
@@ -16,11 +16,13 @@ use Rattle.late_thirst.specs.Outside.{LineView}
 use Rattle.late_thirst.proofs.Gone.{were_ready, nobody_in, as_many_after}
 use Rattle.late_thirst.proofs.Fewer.{count, at_most_all, fewer_after}
 use Rattle.live_lab.specs.declared.words.Word.{Word}
-use Rattle.live_lab.specs.declared.words.Word.TheVariants.{Begins}
+use Rattle.live_lab.specs.declared.words.Word.TheVariants.{Begins, GivesUp}
 use Rattle.live_lab.specs.Labs.{IsLineOf}
-use Rattle.live_lab.specs.Sets.{events_of_jobs}
+use Rattle.live_lab.specs.Sets.{events_below, events_of_jobs}
+use Rattle.lab_plan.proofs.Bits.{holds_none}
+use Rattle.settling.proofs.Worlds.{reached_fits}
 use Rattle.live_lab.specs.Rests.{IsAtRest}
-use Rattle.live_lab.specs.Doing.{said, RestsIn, DoesAndRests, AdmitsIn}
+use Rattle.live_lab.specs.Doing.{said, RestsIn, DoesAndRests, AdmitsIn, GivesUpIn}
 use Rattle.live_lab.specs.Admitting.{AreAskers, LetsInNext, Admits, WasFree}
 use Rattle.live_lab.proofs.Bits.{holds_has, has_holds}
 use Rattle.live_lab.proofs.Lawful.{not_true, others_go, holding_goes, tranquil_holds_nothing, still_askers, free_holds, stands_outside}
@@ -135,4 +137,52 @@ all_admitted waiting w0 line0 w there due n line lets x =
       askers = y.askers;
       stay = y.stay;
       deeds = y.deeds;
+    }
+
+-- ---- giving up
+
+events_of_none : (event : ℕ → Event) (n : ℕ) → events_below event 0 n ≡ []
+events_of_none event zero = refl
+events_of_none event (suc n) = λ i. events_of_none event n i ++ (if holds_none n i then event n ∷ [] else [])
+
+-- nobody gives up: then nobody is due either
+pub none_give_up : (waiting set : ℕ) (w : WorldView) (line : LineView) → set ≡ 0 → LeadsTo w [] w → IsReachedWith w.plan w.state w.counts →
+    LetsInNext waiting w line 0 line → IsAtRest w → IsLineOf w line → AreAskers w line → GivesUpIn waiting set w line 0 w line
+none_give_up waiting set w line none still reached over at_rest of askers =
+    let quiet : events_of_jobs (said GivesUp) w.plan set ≡ [] = ap (λ n. events_of_jobs (said GivesUp) w.plan n) none ∙ events_of_none (said GivesUp) (length w.plan.jobs) in
+    record {
+      left = w;
+      many = 0;
+      more = 0;
+      does = record {
+        events = [];
+        does = record {
+          mid = w;
+          later = [];
+          each = subst (λ (l : List Event). LeadsTo w l w) (sym quiet) still;
+          rests = record { leads = still; between = tt; at_rest = at_rest };
+          events_are = ap (λ (l : List Event). l ++ []) (sym quiet);
+        };
+        seats = (reached_fits w reached).seats_there;
+        leads = still;
+        deeds = refl;
+      };
+      admits = record {
+        events = [];
+        admits = record {
+          times = 0;
+          one_by_one = (refl, refl, refl);
+          over = over;
+          free_hold = λ k job no. absurd no;
+          outside = let due = nobody_in line.most over.ready over.used line.places line.places over.lets.places in
+              stands_outside waiting w line over due.0 due.1 of askers;
+        };
+        leads = still;
+        at_rest = λ r. r;
+        line_of = of;
+        askers = askers;
+        stay = λ k job h. h;
+        deeds = refl;
+      };
+      says = refl;
     }

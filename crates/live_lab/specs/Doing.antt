@@ -103,3 +103,12 @@ pub record AdmitsIn (waiting : ℕ) (old : WorldView) (line : LineView) (n : ℕ
   pub askers : AreAskers new line'
   pub stay : (k : ℕ) → IsJob old.plan k → IsDrinking (phase old.state k) → IsDrinking (phase new.state k)
   pub deeds : n ≡ count_by is_deed events
+
+-- the jobs of the set gave their sessions up, and then those who were due by that were let in: so many deeds
+pub record GivesUpIn (waiting set : ℕ) (old : WorldView) (line : LineView) (n : ℕ) (new : WorldView) (line' : LineView) : Type 0 where
+  pub left : WorldView
+  pub many : ℕ
+  pub more : ℕ
+  pub does : DoesAndRests GivesUp set old many left
+  pub admits : AdmitsIn waiting left line more new line'
+  pub says : n ≡ many + more

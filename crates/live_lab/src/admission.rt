@@ -7,7 +7,9 @@ ghost use Rattle.legal_steps.specs.Legal.{IsJob, Needs, May};
 ghost use Rattle.reasons.specs.Deeds.{is_deed};
 ghost use Rattle.settling.specs.Left.{AreMarked};
 ghost use Rattle.live_lab.specs.Labs.{IsLineOf};
-ghost use Rattle.live_lab.specs.Doing.{said, DoesAndRests, AdmitsIn};
+ghost use Rattle.live_lab.specs.declared.words.Word.TheVariants.{GivesUp};
+ghost use Rattle.live_lab.specs.Rests.{IsAtRest};
+ghost use Rattle.live_lab.specs.Doing.{said, DoesAndRests, AdmitsIn, GivesUpIn};
 ghost use Rattle.live_lab.specs.Admitting.{AreInUse, AreAskers, LetsInNext};
 
 use crate::clock::Clock;
@@ -98,4 +100,34 @@ pub(crate) fn admit<A: Allocator>(
         deeds += say_and_rest(world, due, set, Word::Begins);
     }
     deeds
+}
+
+/// The jobs of the set give their sessions up, and then those are let in who are due by that. If nobody does, nobody is due. Answers how many deeds that
+/// took.
+pub(crate) fn give_up<A: Allocator>(
+    world: &mut World<A>,
+    due: &mut Due<A>,
+    line: &mut Line,
+    clocks: &[Clock],
+    waiting: u32,
+    set: u32,
+) -> u32
+    requires may { (j : ℕ) → IsJob world.old.plan j → Has set j → May world.old.plan world.old.state (said GivesUp j) }
+    requires clocks { length clocks.now ≡ length world.old.plan.jobs }
+    requires line { IsLineOf world.old line.old }
+    requires askers { AreAskers world.old line.old }
+    requires over { LetsInNext waiting world.old line.old 0 line.old }
+    requires at_rest { IsAtRest world.old }
+    requires marked { AreMarked world.old.plan world.old.state due.old }
+    ensures gives { GivesUpIn waiting set world.old line.old result world.new line.new }
+    ensures marked { AreMarked world.new.plan world.new.state due.new }
+    ensures few { result ≤ 4277328 }
+{
+    // Each job has a seat, since the world is reached.
+    let _ = world.plan();
+    if set == 0 {
+        return 0;
+    }
+    let said = say_and_rest(world, due, set, Word::GivesUp);
+    said + admit(world, due, line, clocks, waiting)
 }

@@ -3,13 +3,12 @@ ghost use Rattle.std.specs.Prelude.{◌≡◌, length};
 ghost use Rattle.live_lab.specs.Counting.{AreTurnsCounted};
 ghost use Rattle.live_lab.specs.Settles.{Settles};
 
-use crate::admission::{admit, say_and_rest};
+use crate::admission::{admit, give_up};
 use crate::ask::ask;
 use crate::clock::{Clock, after_turn};
 use crate::kinds::{Kind, jobs_of};
 use crate::lab::Lab;
 use crate::rest::come_to_rest;
-use crate::words::Word;
 use interleaving::World;
 use lab_plan::JobNo;
 use late_thirst::has;
@@ -60,20 +59,20 @@ impl Lab {
             waiting,
         );
         let given_up = jobs_of(&self.world, &self.clocks, waiting, Kind::IsImpatient);
-        let third = say_and_rest(&mut self.world, &mut self.due, given_up, Word::GivesUp);
-        let fourth = admit(
+        let third = give_up(
             &mut self.world,
             &mut self.due,
             &mut self.line,
             &self.clocks,
             waiting,
+            given_up,
         );
         count_turns(&mut self.clocks, &self.world, waiting, thirsty);
         Came {
             holds: jobs_of(&self.world, &self.clocks, waiting, Kind::Holds),
             given_up,
             none_left: jobs_of(&self.world, &self.clocks, waiting, Kind::NoneLeft),
-            deeds: first + second + third + fourth,
+            deeds: first + second + third,
         }
     }
 }
