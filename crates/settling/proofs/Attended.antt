@@ -6,8 +6,8 @@ use Rattle.legal_steps.specs.declared.end.End.{End}
 use Rattle.legal_steps.specs.declared.edge_state.EdgeState.{EdgeState}
 use Rattle.legal_steps.specs.declared.event.Event.{Event}
 use Rattle.legal_steps.specs.declared.event.Event.TheVariants.{Look}
-use Rattle.legal_steps.specs.State.{State, Seat, IsOwn, edge, seat, end_of, bottles_at}
-use Rattle.legal_steps.specs.Legal.{after}
+use Rattle.legal_steps.specs.State.{State, Seat, IsOwn, edge, seat, dining, end_of, bottles_at}
+use Rattle.legal_steps.specs.Legal.{after, fork_mark_seen}
 use Rattle.legal_steps.specs.Run.{after_all}
 use Rattle.legal_steps.specs.Fitting.{Fits}
 use Rattle.legal_steps.proofs.FitsLaw.{own_is_job}
@@ -20,7 +20,7 @@ use Rattle.settling.proofs.Deeds.{alone_visit}
 use Rattle.settling.proofs.DueThere.{edge_there, seat_there}
 use Rattle.settling.proofs.CalmAfter.{nothing_after}
 use Rattle.turns.proofs.Frame.{own_seat, as_many_seats}
-use Rattle.settling.proofs.Local.{IsNear, near_all, visit_at, marked_by_look}
+use Rattle.settling.proofs.Local.{IsNear, near_all, visit_at, marked_by_look, looked_by_look}
 use Rattle.settling.proofs.Still.{still_at, seat_still_at, still_nothing}
 use Rattle.settling.proofs.Marks.{added, noted_still, noted_now, note_fits, note_jobs, note_only, woken_fits, woken_out, woken_due, woken_notes, woken_only, woken_stays, woken_kept, same_job}
 
@@ -58,7 +58,7 @@ module _ (old new : WorldView) (due : DueView) (j e n : ℕ) (fit : Fits old.pla
   elsewhere : (k f : ℕ) → f ≢ e → HasNothingAt plan s k f → HasNothingAt plan t k f
   elsewhere k f other h = elim (cases_eq k j) [
     | inl same ↦ subst (λ m. HasNothingAt plan t m f) (sym same)
-        (still_at plan s t j f (near.edges f other) near.phase (near.marks f other) (subst (λ m. HasNothingAt plan s m f) same h))
+        (still_at plan s t j f (near.edges f other) near.phase (near.forks f other) (near.marks f other) (subst (λ m. HasNothingAt plan s m f) same h))
     | inr apart ↦ seat_still_at plan s t k (near.seats k apart) f (near.edges f other) h
   ]
 
@@ -68,8 +68,16 @@ module _ (old new : WorldView) (due : DueView) (j e n : ℕ) (fit : Fits old.pla
   abbrev u : State
   u = after plan s (Look j e saw)
 
+  forks_there : e < length (seat s j).fork_marks
+  forks_there = let a = (fit.seats_fit j (own_is_job plan j e own)).fork_marks_there in omega (arith, a, own.is_edge)
+
   there : e < length (seat s j).bottle_marks
   there = let a = (fit.seats_fit j (own_is_job plan j e own)).bottle_marks_there in omega (arith, a, own.is_edge)
+
+  forks_after : e < length (seat u j).fork_marks
+  forks_after = let a = ap (λ (y : Seat). length y.fork_marks) (own_seat plan s (Look j e saw) inside) in
+      let b : length (slice_set (seat s j).fork_marks e (fork_mark_seen (dining s j) here saw)) ≡ length (seat s j).fork_marks = length-set (seat s j).fork_marks e _ in
+      omega (arith, a, b, forks_there)
 
   there_after : e < length (seat u j).bottle_marks
   there_after = let a = ap (λ (y : Seat). length y.bottle_marks) (own_seat plan s (Look j e saw) inside) in
@@ -78,7 +86,8 @@ module _ (old new : WorldView) (due : DueView) (j e n : ℕ) (fit : Fits old.pla
 
   -- whether something was moved or not, nothing is left for the job there
   nothing_here : HasNothingAt plan t j e
-  nothing_here = nothing_after plan u j e v.moves (edge_there plan s j e fit own) inside_after own v.due there_after (marked_by_look plan s j e saw inside there)
+  nothing_here = nothing_after plan u j e v.moves (edge_there plan s j e fit own) inside_after own v.due forks_after (looked_by_look plan s j e inside forks_there)
+      there_after (marked_by_look plan s j e saw inside there)
 
   -- ---- something was moved
 

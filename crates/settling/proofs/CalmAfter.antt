@@ -11,12 +11,12 @@ use Rattle.legal_steps.specs.declared.phase.Drinking.TheVariants.{Thirsty}
 use Rattle.legal_steps.specs.declared.phase.Dining.TheVariants.{Hungry, Eating}
 use Rattle.legal_steps.specs.declared.phase.JobState.{JobState}
 use Rattle.legal_steps.specs.declared.edge_state.EdgeState.{EdgeState}
-use Rattle.legal_steps.specs.State.{State, Seat, Has, IsOwn, IsDrinking, IsInSession, opposite, edge, seat, phase, drinking, bottle_marks, end_of, bottle_end, bottles_at, all_bottles}
-use Rattle.legal_steps.specs.Legal.{MayGiveBottle, MayAskBottle, Needs, instrument_of, fork_given, fork_asked}
+use Rattle.legal_steps.specs.State.{State, Seat, Has, IsOwn, IsDrinking, IsInSession, opposite, edge, seat, phase, dining, drinking, fork_mark, bottle_marks, end_of, bottle_end, bottles_at, all_bottles}
+use Rattle.legal_steps.specs.Legal.{MayGiveBottle, MayAskBottle, Needs, instrument_of, fork_given, fork_asked, fork_mark_seen}
 use Rattle.legal_steps.specs.Run.{after_all}
 use Rattle.legal_steps.proofs.BottleSets.{subset, member_below, bottle_end_flips, bottle_end_stays, some_bottle, at_end}
 use Rattle.edge_word.specs.declared.moves.EdgeMoves.{EdgeMoves}
-use Rattle.edge_word.specs.Moves.{events_of, when, end_moved}
+use Rattle.edge_word.specs.Moves.{events_of, when, end_moved, fork_mark_after}
 use Rattle.edge_word.proofs.MoveLaws.{at_once, dirty_after}
 use Rattle.edge_word.proofs.MoveLemmas.{after_all-moves}
 use Rattle.edge_word.proofs.MoveFrame.{moves_change_only_their_edge}
@@ -25,6 +25,7 @@ use Rattle.turns.proofs.ForkGuards.{GiveAt, AskAt, SoilAt, ask_at, soil_at}
 use Rattle.turns.proofs.Groups.{groups_change_one_seat_and_edge}
 use Rattle.turns.proofs.Stages.{stage_one, stage_three}
 use Rattle.settling.specs.Left.{HasNothingAt}
+use Rattle.settling.proofs.Seen.{seen_after}
 
 turned : (x : End) → opposite x ≡ x → ⊥
 turned Lower h = cc
@@ -227,5 +228,16 @@ module _ (plan : LabPlan) (s : State) (j e : ℕ) (m : EdgeMoves) (he : e < leng
       a ∙ (without_part (bottle_marks s j e) m.give_bottles within ∙ (ap (λ z. bit_xor z m.give_bottles) knew
       ∙ sent_from plan e here x (edge t e) m.give_bottles (ap (λ (q : EdgeState). q.bottles) edge_is)))
 
-  pub nothing_after : e < length (seat s j).bottle_marks → bottle_marks s j e ≡ bottles_at plan e here x → HasNothingAt plan t j e
-  nothing_after there knew = record { calm = calm_now; knows = knows_now there knew }
+  -- and its fork mark is as a look would set it, if it was so before
+  looked_now : e < length (seat s j).fork_marks → fork_mark s j e ≡ fork_mark_seen ph.dining here x → fork_mark t j e ≡ fork_mark_seen (dining t j) here (edge t e)
+  looked_now there knew =
+      let seat_is = (groups_change_one_seat_and_edge plan s j e m).0 hj in
+      let a : fork_mark t j e ≡ fork_mark_after m (fork_mark s j e) =
+      ap (λ (z : Seat). slice_index_or z.fork_marks e false) seat_is ∙ get_or-set_same (seat s j).fork_marks e _ false there in
+      a ∙ (seen_after plan j e x (edge t e) ph m.give_fork m.ask_fork m.soil (fork_mark s j e) gives asks soils (ap (λ (q : EdgeState). q.fork) edge_is)
+      (ap (λ (q : EdgeState). q.dirty) edge_is) (ap (λ (q : EdgeState). q.token) edge_is) knew
+      ∙ ap (λ (q : JobState). fork_mark_seen q.dining here (edge t e)) (sym phase_is))
+
+  pub nothing_after : e < length (seat s j).fork_marks → fork_mark s j e ≡ fork_mark_seen ph.dining here x →
+      e < length (seat s j).bottle_marks → bottle_marks s j e ≡ bottles_at plan e here x → HasNothingAt plan t j e
+  nothing_after marks looked there knew = record { calm = calm_now; looked = looked_now marks looked; knows = knows_now there knew }

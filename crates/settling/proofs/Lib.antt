@@ -9,6 +9,7 @@ pub mod Still
 pub mod Marks
 pub mod Waking
 pub mod Deeds
+pub mod Seen
 pub mod CalmAfter
 pub mod Attended
 pub mod Rested

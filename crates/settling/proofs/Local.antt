@@ -4,8 +4,8 @@ use Rattle.lab_plan.specs.LabPlan.{LabPlan}
 use Rattle.legal_steps.specs.declared.event.Event.{Event}
 use Rattle.legal_steps.specs.declared.event.Event.TheVariants.{Look, AskFork, GiveFork, Soil, AskBottles, GiveBottles, Thirst, Hunger, Sit, Leave, Drink, Reach, Act, Quit, Retire, Glance, Withdraw}
 use Rattle.legal_steps.specs.declared.edge_state.EdgeState.{EdgeState}
-use Rattle.legal_steps.specs.State.{State, Seat, IsOwn, edge, seat, phase, bottle_marks, end_of, bottles_at}
-use Rattle.legal_steps.specs.Legal.{May, after, fork_given, fork_soiled, bottles_given}
+use Rattle.legal_steps.specs.State.{State, Seat, IsOwn, edge, seat, phase, dining, fork_mark, bottle_marks, end_of, bottles_at}
+use Rattle.legal_steps.specs.Legal.{May, after, fork_given, fork_soiled, bottles_given, fork_mark_seen}
 use Rattle.legal_steps.specs.Run.{IsLegalFrom, after_all, actor}
 use Rattle.legal_steps.proofs.FitsWrites.{edge_other}
 use Rattle.edge_word.specs.declared.moves.EdgeMoves.{EdgeMoves}
@@ -30,6 +30,7 @@ pub record IsNear (j e : ℕ) (s t : State) : Type 0 where
   pub seats : (k : ℕ) → k ≢ j → seat t k ≡ seat s k
   pub edges : (f : ℕ) → f ≢ e → edge t f ≡ edge s f
   pub phase : phase t j ≡ phase s j
+  pub forks : (f : ℕ) → f ≢ e → fork_mark t j f ≡ fork_mark s j f
   pub marks : (f : ℕ) → f ≢ e → bottle_marks t j f ≡ bottle_marks s j f
 
 -- a look or a move of the job at its edge e
@@ -110,35 +111,43 @@ module _ (plan : LabPlan) where
   abbrev marks_of : ℕ → Seat → ℕ
   marks_of f x = slice_index_or x.bottle_marks f 0
 
+  abbrev fork_of : ℕ → Seat → Bool
+  fork_of f x = slice_index_or x.fork_marks f false
+
   near_of : (s : State) (x : Event) (e : ℕ) → actor x < length s.seats → ((f : ℕ) → f ≢ e → edge (after plan s x) f ≡ edge s f) →
       (seat_after plan (seat s (actor x)) x).phase ≡ phase s (actor x) →
+      ((f : ℕ) → f ≢ e → fork_of f (seat_after plan (seat s (actor x)) x) ≡ fork_mark s (actor x) f) →
       ((f : ℕ) → f ≢ e → marks_of f (seat_after plan (seat s (actor x)) x) ≡ bottle_marks s (actor x) f) → IsNear (actor x) e s (after plan s x)
-  near_of s x e inside edges same marks = record {
+  near_of s x e inside edges same forks marks = record {
     seats = λ k other. other_seat plan s x k other;
     edges = edges;
     phase = ap (λ (y : Seat). y.phase) (own_seat plan s x inside) ∙ same;
+    forks = λ f other. ap (fork_of f) (own_seat plan s x inside) ∙ forks f other;
     marks = λ f other. ap (marks_of f) (own_seat plan s x inside) ∙ marks f other;
   }
 
   near_here : (s : State) (j e : ℕ) (x : Event) → IsAt j e x → j < length s.seats → IsNear j e s (after plan s x)
   near_here s j e (Look k f seen) at inside =
       subst (λ (z : ℕ × ℕ). IsNear z.0 z.1 s (after plan s (Look k f seen))) (λ i. (at.0 i, at.1 i))
-      (near_of s (Look k f seen) f (subst (λ n. n < length s.seats) (sym at.0) inside) (λ g other. refl) refl (λ g other. get_or-set_other (seat s k).bottle_marks f g _ 0 other))
+      (near_of s (Look k f seen) f (subst (λ n. n < length s.seats) (sym at.0) inside) (λ g other. refl) refl (λ g other. get_or-set_other (seat s k).fork_marks f g _ false other)
+      (λ g other. get_or-set_other (seat s k).bottle_marks f g _ 0 other))
   near_here s j e (AskFork k f) at inside =
       subst (λ (z : ℕ × ℕ). IsNear z.0 z.1 s (after plan s (AskFork k f))) (λ i. (at.0 i, at.1 i))
-      (near_of s (AskFork k f) f (subst (λ n. n < length s.seats) (sym at.0) inside) (λ g other. edge_other s f _ g other) refl (λ g other. refl))
+      (near_of s (AskFork k f) f (subst (λ n. n < length s.seats) (sym at.0) inside) (λ g other. edge_other s f _ g other) refl (λ g other. refl) (λ g other. refl))
   near_here s j e (GiveFork k f) at inside =
       subst (λ (z : ℕ × ℕ). IsNear z.0 z.1 s (after plan s (GiveFork k f))) (λ i. (at.0 i, at.1 i))
-      (near_of s (GiveFork k f) f (subst (λ n. n < length s.seats) (sym at.0) inside) (λ g other. edge_other s f (fork_given (edge s f)) g other) refl (λ g other. refl))
+      (near_of s (GiveFork k f) f (subst (λ n. n < length s.seats) (sym at.0) inside) (λ g other. edge_other s f (fork_given (edge s f)) g other) refl
+      (λ g other. get_or-set_other (seat s k).fork_marks f g false false other) (λ g other. refl))
   near_here s j e (Soil k f) at inside =
       subst (λ (z : ℕ × ℕ). IsNear z.0 z.1 s (after plan s (Soil k f))) (λ i. (at.0 i, at.1 i))
-      (near_of s (Soil k f) f (subst (λ n. n < length s.seats) (sym at.0) inside) (λ g other. edge_other s f (fork_soiled (edge s f)) g other) refl (λ g other. refl))
+      (near_of s (Soil k f) f (subst (λ n. n < length s.seats) (sym at.0) inside) (λ g other. edge_other s f (fork_soiled (edge s f)) g other) refl
+      (λ g other. get_or-set_other (seat s k).fork_marks f g true false other) (λ g other. refl))
   near_here s j e (AskBottles k f set) at inside =
       subst (λ (z : ℕ × ℕ). IsNear z.0 z.1 s (after plan s (AskBottles k f set))) (λ i. (at.0 i, at.1 i))
-      (near_of s (AskBottles k f set) f (subst (λ n. n < length s.seats) (sym at.0) inside) (λ g other. edge_other s f _ g other) refl (λ g other. refl))
+      (near_of s (AskBottles k f set) f (subst (λ n. n < length s.seats) (sym at.0) inside) (λ g other. edge_other s f _ g other) refl (λ g other. refl) (λ g other. refl))
   near_here s j e (GiveBottles k f set) at inside =
       subst (λ (z : ℕ × ℕ). IsNear z.0 z.1 s (after plan s (GiveBottles k f set))) (λ i. (at.0 i, at.1 i))
-      (near_of s (GiveBottles k f set) f (subst (λ n. n < length s.seats) (sym at.0) inside) (λ g other. edge_other s f (bottles_given set (edge s f)) g other) refl
+      (near_of s (GiveBottles k f set) f (subst (λ n. n < length s.seats) (sym at.0) inside) (λ g other. edge_other s f (bottles_given set (edge s f)) g other) refl (λ g other. refl)
       (λ g other. get_or-set_other (seat s k).bottle_marks f g _ 0 other))
   near_here s j e (Thirst k) at inside = absurd at
   near_here s j e (Hunger k) at inside = absurd at
@@ -153,7 +162,7 @@ module _ (plan : LabPlan) where
   near_here s j e (Withdraw k) at inside = absurd at
 
   pub near_all : (j e : ℕ) (s : State) (events : List Event) → Each (IsAt j e) events → j < length s.seats → IsNear j e s (after_all plan s events)
-  near_all j e s [] at inside = record { seats = λ k other. refl; edges = λ f other. refl; phase = refl; marks = λ f other. refl }
+  near_all j e s [] at inside = record { seats = λ k other. refl; edges = λ f other. refl; phase = refl; forks = λ f other. refl; marks = λ f other. refl }
   near_all j e s (x ∷ events) at inside =
       let one = near_here s j e x at.0 inside in
       let more = near_all j e (after plan s x) events at.1 (subst (λ n. j < n) (sym (as_many_seats plan s x)) inside) in
@@ -161,6 +170,7 @@ module _ (plan : LabPlan) where
         seats = λ k other. more.seats k other ∙ one.seats k other;
         edges = λ f other. more.edges f other ∙ one.edges f other;
         phase = more.phase ∙ one.phase;
+        forks = λ f other. more.forks f other ∙ one.forks f other;
         marks = λ f other. more.marks f other ∙ one.marks f other;
       }
 
@@ -169,6 +179,14 @@ module _ (plan : LabPlan) where
       bottle_marks (after plan s (Look j e seen)) j e ≡ bottles_at plan e (end_of plan j e) seen
   marked_by_look s j e seen inside there =
       ap (marks_of e) (own_seat plan s (Look j e seen) inside) ∙ get_or-set_same (seat s j).bottle_marks e (bottles_at plan e (end_of plan j e) seen) 0 there
+
+  pub looked_by_look : (s : State) (j e : ℕ) → j < length s.seats → e < length (seat s j).fork_marks →
+      fork_mark (after plan s (Look j e (edge s e))) j e
+      ≡ fork_mark_seen (dining (after plan s (Look j e (edge s e))) j) (end_of plan j e) (edge s e)
+  looked_by_look s j e inside there =
+      let own = own_seat plan s (Look j e (edge s e)) inside in
+      ap (fork_of e) own ∙ (get_or-set_same (seat s j).fork_marks e (fork_mark_seen (dining s j) (end_of plan j e) (edge s e)) false there
+      ∙ ap (λ (y : Seat). fork_mark_seen y.phase.dining (end_of plan j e) (edge s e)) (sym own))
 
 -- ---- the events of a visit
 

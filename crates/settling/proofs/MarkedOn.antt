@@ -4,8 +4,8 @@ use Rattle.lab_plan.specs.LabPlan.{LabPlan}
 use Rattle.legal_steps.specs.declared.end.End.{End}
 use Rattle.legal_steps.specs.declared.event.Event.{Event}
 use Rattle.legal_steps.specs.declared.event.Event.TheVariants.{AskFork, GiveFork, Soil, AskBottles, GiveBottles, Hunger, Sit, Leave, Drink}
-use Rattle.legal_steps.specs.State.{State, edge, end_of, bottles_at}
-use Rattle.legal_steps.specs.Legal.{May}
+use Rattle.legal_steps.specs.State.{State, edge, end_of, dining, bottles_at}
+use Rattle.legal_steps.specs.Legal.{May, fork_mark_seen}
 use Rattle.legal_steps.specs.Fitting.{Fits}
 use Rattle.longer_plans.specs.Longer.{IsLonger, AsksWhatIsLeft}
 use Rattle.longer_plans.proofs.Stays.{own_back, end_same, bottles_at_same, is_as_legal}
@@ -26,6 +26,7 @@ module _ (p q : LabPlan) (j : ℕ) (more : IsLonger p q j) (s : State) (fit : Fi
       no_bottles_given = λ set. not_legal (GiveBottles k e set) (λ is. is) (h.calm.no_bottles_given set);
       no_bottles_asked = λ set. not_legal (AskBottles k e set) (λ is. is) (h.calm.no_bottles_asked set);
     };
+    looked = h.looked ∙ sym (ap (λ (here : End). fork_mark_seen (dining s k) here (edge s e)) (end_same p q j more k e));
     knows = h.knows ∙ sym (ap (λ (here : End). bottles_at q e here (edge s e)) (end_same p q j more k e)
         ∙ bottles_at_same p q j more e (end_of p k e) (edge s e));
   }

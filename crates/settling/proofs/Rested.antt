@@ -16,7 +16,7 @@ use Rattle.legal_steps.specs.Precedence.{IsAcyclic}
 use Rattle.legal_steps.specs.Fitting.{Fits}
 use Rattle.legal_steps.proofs.FitsLaw.{own_is_job}
 use Rattle.legal_steps.proofs.OwnEdges.{at_own_edges}
-use Rattle.legal_steps.proofs.ReachedInvariant.{sound_after_all}
+use Rattle.legal_steps.proofs.ReachedInvariant.{IsSound, sound_after_all}
 use Rattle.interleaving.specs.World.{WorldView, LeadsTo, IsReachedWith}
 use Rattle.turns.proofs.Runs.{after_all-append, legal-append}
 use Rattle.reasons.specs.Quiet.{Waited, IsQuietFor, MovesThings, looked}
@@ -30,6 +30,7 @@ use Rattle.settling.specs.Attending.{AttendsEdge, AttendsEdges, Attends, not_due
 use Rattle.settling.proofs.Worlds.{reached_sound}
 use Rattle.settling.proofs.Deeds.{alone_none, alone_both, alone_act, act_is, none_legal, few_alone}
 use Rattle.settling.proofs.Waking.{marked_on}
+use Rattle.settling.proofs.Seen.{no_dawdling}
 
 -- ---- edge after edge
 
@@ -280,13 +281,15 @@ pub rested : (old mid new : WorldView) (d1 d2 : DueView) (rounds m n : ℕ) → 
 rested old mid new d1 d2 rounds m n reached s none a =
     let both : DoesAlone old m new = subst (λ z. DoesAlone old z new) (ap (λ z. m + z) none ∙ zero_added m) (alone_both old mid new m n s.alone a.alone) in
     let leads = both.leads in
-    let fit : Fits new.plan new.state = subst (λ (z : LabPlan × State). Fits z.0 z.1) (λ i. (sym leads.same_plan i, sym leads.run.leads i))
-    (sound_after_all old.plan old.state both.events (reached_sound old reached) leads.run.legal).fits in
+    let sound : IsSound new.plan new.state = subst (λ (z : LabPlan × State). IsSound z.0 z.1) (λ i. (sym leads.same_plan i, sym leads.run.leads i))
+    (sound_after_all old.plan old.state both.events (reached_sound old reached) leads.run.legal) in
+    let fit : Fits new.plan new.state = sound.fits in
     let all : (k : ℕ) → IsJob new.plan k → HasNothingToDo new.plan new.state k = λ k job. a.marked.others k job (nobody_due mid new d1 d2 n none a k job) in
     record {
       alone = both;
       all_done = all;
       quiet = all_quiet new.plan new.state fit all;
+      nobody_dawdles = λ j job eats. no_dawdling new.plan new.state j sound job (all j job) eats;
       reasons = λ j job thirsty. has_chain new.plan new.state (record {
         is_plan = subst IsPlan (sym leads.same_plan) reached.reached.is_plan;
         opening = reached.reached.opening;

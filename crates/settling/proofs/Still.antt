@@ -3,16 +3,17 @@ use Rattle.std.proofs.Common.{◌≡◌, ◌≢◌, ℕ, true, false, slice_inde
 use Rattle.lab_plan.specs.LabPlan.{LabPlan, session_names}
 use Rattle.legal_steps.specs.declared.phase.Dining.TheVariants.{Thinking, Hungry, Eating}
 use Rattle.legal_steps.specs.declared.phase.Drinking.TheVariants.{Thirsty}
-use Rattle.legal_steps.specs.State.{State, Seat, Has, IsOwn, IsInSession, edge, seat, phase, bottle_marks, end_of, bottles_at}
-use Rattle.legal_steps.specs.Legal.{IsJob, Needs, instrument_of}
+use Rattle.legal_steps.specs.State.{State, Seat, Has, IsOwn, IsInSession, edge, seat, phase, fork_mark, bottle_marks, end_of, bottles_at}
+use Rattle.legal_steps.specs.Legal.{IsJob, Needs, instrument_of, fork_mark_seen}
 use Rattle.turns.specs.Due.{but_position}
 use Rattle.turns.proofs.Calm.{stays_calm}
 use Rattle.settling.specs.Left.{HasNothingAt, HasNothingToDo}
 
-pub still_at : (plan : LabPlan) (s t : State) (k e : ℕ) → edge t e ≡ edge s e → phase t k ≡ phase s k → bottle_marks t k e ≡ bottle_marks s k e →
-    HasNothingAt plan s k e → HasNothingAt plan t k e
-still_at plan s t k e edge_is phase_is marks_are h = record {
+pub still_at : (plan : LabPlan) (s t : State) (k e : ℕ) → edge t e ≡ edge s e → phase t k ≡ phase s k → fork_mark t k e ≡ fork_mark s k e →
+    bottle_marks t k e ≡ bottle_marks s k e → HasNothingAt plan s k e → HasNothingAt plan t k e
+still_at plan s t k e edge_is phase_is fork_is marks_are h = record {
   calm = stays_calm plan s t k e edge_is (ap but_position phase_is) h.calm;
+  looked = fork_is ∙ (h.looked ∙ (λ i. fork_mark_seen (sym phase_is i).dining (end_of plan k e) (sym edge_is i)));
   knows = marks_are ∙ (h.knows ∙ ap (bottles_at plan e (end_of plan k e)) (sym edge_is));
 }
 
@@ -24,7 +25,8 @@ module _ (plan : LabPlan) (s t : State) (k : ℕ) (same : seat t k ≡ seat s k)
   }
 
   pub seat_still_at : (e : ℕ) → edge t e ≡ edge s e → HasNothingAt plan s k e → HasNothingAt plan t k e
-  seat_still_at e is h = still_at plan s t k e is (ap (λ (x : Seat). x.phase) same) (ap (λ (x : Seat). slice_index_or x.bottle_marks e 0) same) h
+  seat_still_at e is h = still_at plan s t k e is (ap (λ (x : Seat). x.phase) same) (ap (λ (x : Seat). slice_index_or x.fork_marks e false) same)
+      (ap (λ (x : Seat). slice_index_or x.bottle_marks e 0) same) h
 
   pub still_nothing : ((e : ℕ) → IsOwn plan k e → edge t e ≡ edge s e) → HasNothingToDo plan s k → HasNothingToDo plan t k
   still_nothing edges_same h = record {

@@ -5,15 +5,17 @@ use Rattle.legal_steps.specs.declared.end.End.{End}
 use Rattle.legal_steps.specs.declared.end.End.TheVariants.{Lower, Higher}
 use Rattle.legal_steps.specs.declared.event.Event.{Event}
 use Rattle.legal_steps.specs.declared.event.Event.TheVariants.{AskFork, GiveFork, Soil, AskBottles, GiveBottles, Hunger, Sit, Leave, Drink}
-use Rattle.legal_steps.specs.State.{State, IsOwn, edge, end_of, bottle_marks, bottles_at}
-use Rattle.legal_steps.specs.Legal.{May, IsJob}
+use Rattle.legal_steps.specs.State.{State, IsOwn, edge, end_of, dining, fork_mark, bottle_marks, bottles_at}
+use Rattle.legal_steps.specs.Legal.{May, IsJob, fork_mark_seen}
 use Rattle.legal_steps.specs.Run.{IsLegalFrom, after_all, actor}
 use Rattle.turns.specs.Due.{IsCalm}
 use Rattle.turns.specs.Lists.{Each}
 
--- the job has nothing to do at its edge: no move is legal there, and it knows which bottles it has there
+-- the job has nothing to do at its edge: no move is legal there, and a look would change none of its marks: it knows how its fork is, and which
+-- bottles it has there
 pub record HasNothingAt (plan : LabPlan) (s : State) (j e : ℕ) : Type 0 where
   pub calm : IsCalm plan s j e
+  pub looked : fork_mark s j e ≡ fork_mark_seen (dining s j) (end_of plan j e) (edge s e)
   pub knows : bottle_marks s j e ≡ bottles_at plan e (end_of plan j e) (edge s e)
 
 -- the job has nothing to do of itself: nothing at any of its edges, and no act of its own is legal

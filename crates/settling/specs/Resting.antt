@@ -3,7 +3,8 @@ use Rattle.std.specs.Prelude.{◌≡◌, ℕ, List}
 use Rattle.std.specs.List.{count_by}
 use Rattle.legal_steps.specs.declared.phase.Drinking.TheVariants.{Thirsty}
 use Rattle.legal_steps.specs.declared.event.Event.{Event}
-use Rattle.legal_steps.specs.State.{drinking}
+use Rattle.legal_steps.specs.declared.phase.Dining.TheVariants.{Eating}
+use Rattle.legal_steps.specs.State.{dining, drinking}
 use Rattle.legal_steps.specs.Legal.{IsJob}
 use Rattle.interleaving.specs.World.{WorldView, LeadsTo}
 use Rattle.reasons.specs.Quiet.{Waited, IsQuietFor}
@@ -18,10 +19,11 @@ pub record DoesAlone (old : WorldView) (n : ℕ) (new : WorldView) : Type 0 wher
   pub between : AreBetween events
   pub deeds : n ≡ count_by is_deed events
 
--- and then no job has anything to do of itself, and the state is quiet, whoever waits. So from each job that is thirsty still a chain of
--- jobs leads to one that holds, each of which keeps a bottle that the one before it lacks
+-- and then no job has anything to do of itself, and the state is quiet, whoever waits. So nobody is at its meal who isn't thirsty, and from each job
+-- that is thirsty still a chain of jobs leads to one that holds, each of which keeps a bottle that the one before it lacks
 pub record Rests (old : WorldView) (n : ℕ) (new : WorldView) : Type 0 where
   pub alone : DoesAlone old n new
   pub all_done : (j : ℕ) → IsJob new.plan j → HasNothingToDo new.plan new.state j
   pub quiet : (waited : Waited) → IsQuietFor new.plan new.state waited
+  pub nobody_dawdles : (j : ℕ) → IsJob new.plan j → dining new.state j ≡ Eating → drinking new.state j ≡ Thirsty
   pub reasons : (j : ℕ) → IsJob new.plan j → drinking new.state j ≡ Thirsty → (chain : List ℕ) × LeadsToHolder new.plan new.state j chain

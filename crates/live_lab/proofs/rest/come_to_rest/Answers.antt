@@ -6,7 +6,7 @@ returns-clause-rests g c = let r = c.rest.ensures.rests in record {
   rests = record {
     leads = r.alone.leads;
     between = r.alone.between;
-    at_rest = record { all_done = r.all_done; quiet = r.quiet; reasons = r.reasons };
+    at_rest = record { all_done = r.all_done; quiet = r.quiet; nobody_dawdles = r.nobody_dawdles; reasons = r.reasons };
   };
   deeds = r.alone.deeds;
 }
