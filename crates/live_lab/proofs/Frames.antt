@@ -115,7 +115,7 @@ one_began plan s n true has there =
     subst (λ (y : Seat). Began x.phase y.phase) (sym (own_seat plan s (Thirst n) there)) (refl, refl)
 one_began plan s n false has there = absurd (false≢true has)
 
-seats_below : (plan : LabPlan) (s : State) (events : List Event) → length (after_all plan s events).seats ≡ length s.seats
+pub seats_below : (plan : LabPlan) (s : State) (events : List Event) → length (after_all plan s events).seats ≡ length s.seats
 seats_below plan s [] = refl
 seats_below plan s (event ∷ events) = seats_below plan (after plan s event) events ∙ as_many_seats plan s event
 

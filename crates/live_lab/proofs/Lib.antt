@@ -14,5 +14,7 @@ mod Admitted
 mod Frames
 mod Lawful
 mod AtOnce
+mod Retirement
+mod Told
 mod Waited
 pub mod LongerLabs

@@ -7,6 +7,7 @@ pub mod Kinds
 pub mod Counting
 pub mod Rests
 pub mod Admitting
+pub mod Told
 pub mod Settles
 pub mod Waited
 pub mod Stages

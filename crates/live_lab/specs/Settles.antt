@@ -18,6 +18,7 @@ use Rattle.live_lab.specs.Labs.{LabView, clock_at}
 use Rattle.late_thirst.specs.Outside.{LineView}
 use Rattle.live_lab.specs.Sets.{AreJobs}
 use Rattle.live_lab.specs.Rests.{IsAtRest, ComesToRest, DoAndRest}
+use Rattle.live_lab.specs.Told.{EachIsTold}
 use Rattle.live_lab.specs.Admitting.{MayAsk, Asks, NobodyIsOutside, AdmitsAll, WasFree, EachStandsOutside}
 
 -- the job is in no session, and has none left
@@ -95,5 +96,7 @@ pub record Settles (waiting : ℕ) (old : LabView) (came : Came) (new : LabView)
   pub none_left : AreJobs new.world.plan came.none_left (λ j. Has waiting j × IsThrough new.world.plan new.world.state j)
   -- nothing is left to do, and each that waits has a reason
   pub at_rest : IsAtRest new.world
+  -- so whoever is waited for is told that it holds, that its session was given up, or that it has none left; or it waits for a job that holds
+  pub each_told : EachIsTold waiting came new
   -- a turn was counted of each job that is waited for, or that was thirsty at the start
   pub counted : AreCounted waiting old new

@@ -68,6 +68,8 @@ impl Lab {
             given_up,
         );
         count_turns(&mut self.clocks, &self.world, waiting, thirsty);
+        // Who has retired has no session left, since the world is reached.
+        let _ = self.world.plan();
         Came {
             holds: jobs_of(&self.world, &self.clocks, waiting, Kind::Holds),
             given_up,

@@ -17,7 +17,7 @@ use Rattle.live_lab.specs.Settles.{IsOutOfPatience, SettlesAtOnce, Settles}
 use Rattle.live_lab.specs.Admitting.{NobodyIsOutside}
 use Rattle.live_lab.proofs.AtOnce.{all_ask, in_at_once, never}
 use Rattle.live_lab.proofs.Clocks.{are_counted}
-use Rattle.live_lab.proofs.InLab.{lab_on, line_on, both_on}
+use Rattle.live_lab.proofs.InLab.{lab_on, both_on}
 use Rattle.lab_plan.specs.LabPlan.{LabPlan}
 use Rattle.lab_plan.specs.InstrumentSets.{holds}
 use Rattle.legal_steps.specs.declared.phase.Drinking.TheVariants.{Thirsty}
@@ -25,7 +25,9 @@ use Rattle.legal_steps.specs.State.{Has, phase, drinking}
 use Rattle.legal_steps.specs.Legal.{IsJob}
 use Rattle.live_lab.specs.declared.words.Word.TheVariants.{GivesUp}
 use Rattle.live_lab.proofs.Bits.{holds_has}
-use Rattle.live_lab.proofs.Lawful.{not_true, others_go, holding_goes, thirsty_holds_nothing, asked_right, askers_after}
+use Rattle.live_lab.proofs.Lawful.{not_true, others_go, holding_goes, thirsty_holds_nothing, asked_right}
+use Rattle.live_lab.proofs.Retirement.{retired_has_none}
+use Rattle.live_lab.proofs.Told.{seats_in, seats_before, each_told}
 use Rattle.live_lab.proofs.lab.Lab.settle.Goals as goal
 
 -- the sum of the counts of four lists
@@ -140,6 +142,11 @@ returns c =
       holds = c.jobs_of.ensures;
       none_left = c.jobs_of-2.ensures;
       at_rest = a4.at_rest d3.does.rests.at_rest;
+      each_told =
+          let back = seats_in c.args.waiting a2.admits.times w1 c.ask.new.line a2.events w3 c.admit-second.new.line a2.admits.one_by_one in
+          each_told c.args.waiting w1 x.line c.ask.new.line a2.events w3 c.admit-second.new.line d3.events w4 a4.events w5 c.give_up-third.new.line
+          (with_items x.clocks c.count_turns.new.clocks).items came r1.rests.at_rest c.ask.ensures (seats_before w1 w3 back d3.seats) a2.admits d3.does a4.admits
+          (a4.at_rest d3.does.rests.at_rest) (retired_has_none w5 c.plan.ensures.reached) c.jobs_of.ensures c.jobs_of-2.ensures;
       counted = are_counted w0 w5 c.args.waiting c.jobs_of-thirsty.result x.clocks.items _ all.same_plan c.jobs_of-thirsty.ensures
           (subst (λ (z : List Clock × List Clock). AreTurnsCounted w5 c.args.waiting c.jobs_of-thirsty.result z.0 z.1) (λ i. (c.deref_mut.ensures.value i, sym items i))
           c.count_turns.ensures) x.line c.give_up-third.new.line;
