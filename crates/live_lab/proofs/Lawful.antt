@@ -165,7 +165,7 @@ free_one most ready used old set new (inr (inr (no_due, free, is, same))) none k
 both_one : (x y z : ℕ) → z ≡ min x y → x ≡ 1 → y ≡ 1 → z ≡ 0 → ⊥
 both_one x y z is p q none = omega (arith, is, p, q, none)
 
-apart_no : (a b i : ℕ) → bit_and a b ≡ 0 → holds a i ≡ true → holds b i ≡ true → ⊥
+pub apart_no : (a b i : ℕ) → bit_and a b ≡ 0 → holds a i ≡ true → holds b i ≡ true → ⊥
 unfolding Has
 apart_no a b i none p q =
     both_one (bit_at a i) (bit_at b i) (bit_at (bit_and a b) i) (bit_at_and a b i) (holds_has a i p) (holds_has b i q)

@@ -17,4 +17,5 @@ mod AtOnce
 mod Retirement
 mod Told
 mod Waited
+mod Counted
 pub mod LongerLabs

@@ -26,7 +26,7 @@ both j m (suc n) a b c first (mid, before, once, out) =
     (suc all.0, (mid, all.1, once, out))
 
 -- who isn't outside is not behind letting-ins either
-none_after : (waiting m : ℕ) (old : WorldView) (line : LineView) (events : List Event) (new : WorldView) (line' : LineView)
+pub none_after : (waiting m : ℕ) (old : WorldView) (line : LineView) (events : List Event) (new : WorldView) (line' : LineView)
     → Admits waiting m old line events new line' → (j : ℕ) → place line.places j ≡ None → place line'.places j ≡ None
 none_after waiting zero old line events new line' (no_events, same, is) j none = ap (λ (x : LineView). place x.places j) is ∙ none
 none_after waiting (suc m) old line events new line' (mid, there, before, set, last, earlier, next, is) j none =

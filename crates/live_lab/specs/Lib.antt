@@ -10,6 +10,7 @@ pub mod Admitting
 pub mod Told
 pub mod Settles
 pub mod Waited
+pub mod Before
 pub mod Stages
 pub mod Ends
 pub mod Readers

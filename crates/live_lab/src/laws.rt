@@ -1,9 +1,16 @@
 //! What follows of settles from their contract.
 ghost use Rattle.live_lab.specs.Waited.{LettingsInAreWaited, SettlesAreWaited};
+ghost use Rattle.live_lab.specs.Before.{FewAreLetInBefore};
 
 /// All that a settle does to a job that it leaves outside are letting-ins, so it is passed by as `late_thirst::laws::is_passed_at_most` says: between its
 /// asking and its being let in, by at most as many sessions as the line's number says.
 pub fn settles_are_waited()
     ensures lettings_in { LettingsInAreWaited }
     ensures settles { SettlesAreWaited }
+{}
+
+/// While each settle names a job that waits outside, the sessions that need one of its instruments and are let in from its asking on are at most as
+/// many as the line's number says.
+pub fn few_are_let_in_before()
+    ensures { FewAreLetInBefore }
 {}

@@ -1,14 +1,15 @@
 //! The laws of the line of those who wait outside, of longer plans and of journals' texts: they say something of every call and do nothing.
 use journal_texts::laws as journal_laws;
 use late_thirst::laws::is_passed_at_most;
-use live_lab::laws::settles_are_waited;
+use live_lab::laws as lab_laws;
 use std::rt::HostRuntime;
 
 /// What follows from the definitions alone: each of these is a contract with nothing to do.
 #[test]
 fn laws(_rt: HostRuntime) {
     is_passed_at_most();
-    settles_are_waited();
+    lab_laws::settles_are_waited();
+    lab_laws::few_are_let_in_before();
     longer_plans::stays_legal();
     longer_plans::is_as_legal();
     longer_plans::still_fits();
