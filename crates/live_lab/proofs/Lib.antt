@@ -11,10 +11,11 @@ mod Calls
 mod Reported
 mod Asked
 mod Admitted
-mod Frames
+pub mod Frames
 mod Lawful
 mod AtOnce
 mod Retirement
+pub mod Staying
 mod Told
 mod Waited
 mod Counted

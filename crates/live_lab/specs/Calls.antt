@@ -1,10 +1,11 @@
 -- For readers: what the calls do that are steps of one job.
-use Rattle.std.specs.Prelude.{◌≡◌, ◌≢◌, ◌⊎◌, ℕ, zero, suc, ◌+◌, min, ◌≤◌, Bool, true, false, List, [], ◌∷◌, ◌++◌, length, map, Option, None, Some, slice_set}
-use Rattle.lab_plan.specs.LabPlan.{LabPlan, edges_of}
+use Rattle.std.specs.Prelude.{◌≡◌, ◌≢◌, ◌⊎◌, ℕ, zero, suc, ◌+◌, min, ◌<◌, ◌≤◌, Bool, true, false, List, [], ◌∷◌, ◌++◌, length, map}
+use Rattle.std.specs.Prelude.{Option, None, Some, IsSome, slice_set}
+use Rattle.lab_plan.specs.LabPlan.{LabPlan, sessions, edges_of, patience}
 use Rattle.instrument_log.specs.declared.entry.Entry.{Entry}
 use Rattle.legal_steps.specs.declared.event.Event.{Event}
-use Rattle.legal_steps.specs.declared.event.Event.TheVariants.{Leave, Sit, Reach, Act, Withdraw}
-use Rattle.legal_steps.specs.State.{State, phase, drinking}
+use Rattle.legal_steps.specs.declared.event.Event.TheVariants.{Leave, Sit, Thirst, Reach, Act, Withdraw}
+use Rattle.legal_steps.specs.State.{State, phase, drinking, session}
 use Rattle.legal_steps.specs.Legal.{May, IsJob, next_entry}
 use Rattle.legal_steps.specs.Run.{after_all}
 use Rattle.interleaving.specs.World.{LeadsTo}
@@ -92,6 +93,26 @@ Withdraws j old true new =
     ((a : Asker) × IsLeftOutside old j a × (new ≡ with_line old (with_place old.line j None)))
     ⊎ (((a : Asker) → ¬ IsLeftOutside old j a) × May old.world.plan old.world.state (Withdraw j) × Does old (Withdraw j ∷ []) new)
 Withdraws j old false new = ((a : Asker) → ¬ IsLeftOutside old j a) × (May old.world.plan old.world.state (Withdraw j) → ⊥) × (new ≡ old)
+
+-- the job has a session left, and the next one has a patience
+abbrev pub IsNextPatient : LabPlan → State → ℕ → Type 0
+IsNextPatient plan s j = (session s j < length (sessions plan j)) × IsSome (patience plan j (session s j + 1))
+
+-- the job may begin its next session, and that can be given up
+abbrev pub MaySkip : LabPlan → State → ℕ → Type 0
+MaySkip plan s j = May plan s (Thirst j) × IsSome (patience plan j (session s j + 1))
+
+-- It began and was given up at once: nothing was done in between, so that it held nothing. If the job waited outside it doesn't any more
+pub record SkipsNext (j : ℕ) (old new : LabView) : Type 0 where
+  pub may : MaySkip old.world.plan old.world.state j
+  pub leads : LeadsTo old.world (Thirst j ∷ Withdraw j ∷ []) new.world
+  pub clocks : new.clocks ≡ old.clocks
+  pub line : new.line ≡ with_place old.line j None
+
+-- so it was; or it couldn't be, and nothing changed
+abbrev pub Skips : ℕ → LabView → Bool → LabView → Type 0
+Skips j old true new = SkipsNext j old new
+Skips j old false new = (MaySkip old.world.plan old.world.state j → ⊥) × (new ≡ old)
 
 -- the job's next command was done, and this is its entry; or the job doesn't hold, or has none left, and nothing changed
 abbrev pub Commands : ℕ → LabView → Option Entry → LabView → Type 0

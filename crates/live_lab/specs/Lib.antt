@@ -17,3 +17,4 @@ pub mod Readers
 pub mod Keepers
 pub mod Prints
 pub mod Adding
+pub mod Staying

@@ -1,5 +1,6 @@
 //! What follows of settles from their contract.
 ghost use Rattle.live_lab.specs.Waited.{LettingsInAreWaited, SettlesAreWaited};
+ghost use Rattle.live_lab.specs.Staying.{HoldersStay};
 ghost use Rattle.live_lab.specs.Before.{FewAreLetInBefore};
 
 /// All that a settle does to a job that it leaves outside are letting-ins, so it is passed by as `late_thirst::laws::is_passed_at_most` says: between its
@@ -13,4 +14,9 @@ pub fn settles_are_waited()
 /// many as the line's number says.
 pub fn few_are_let_in_before()
     ensures { FewAreLetInBefore }
+{}
+
+/// Who holds goes on to hold, in the same session, over every call that doesn't end that session: only an end of its own does.
+pub fn holders_stay()
+    ensures { HoldersStay }
 {}

@@ -24,6 +24,7 @@ mod rest;
 mod retire;
 mod service;
 mod settle;
+mod skip;
 mod stage;
 mod steps;
 mod turn;

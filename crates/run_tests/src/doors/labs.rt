@@ -50,3 +50,34 @@ fn take_and_come(rt: HostRuntime) {
         Err(_) => panic!(rt; "no lab"),
     }
 }
+
+/// Each session can be given up.
+const PATIENT: &[u8] =
+    b"lab 2\njob a\nsession 9\nscale add 1\nend\njob b\nsession 9\nscale set 5\nend\nsession 9\nscale read\nend\n";
+
+/// The next session of a job outside is skipped, and the one behind it; none of a job that holds, or has none left.
+fn skips(rt: &impl Abort, lab: &mut Lab) {
+    lab.set_overtakes(4);
+    check(rt, "a holds", lab.settle(1).holds, 1);
+    check(rt, "b waits", lab.settle(2).none_left, 0);
+    check(rt, "outside", lab.outside(1), Some(Some(0)));
+    check(rt, "a skips", lab.skip(0), Some(false));
+    check(rt, "b skips", lab.skip(1), Some(true));
+    check(rt, "not outside", lab.outside(1), Some(None));
+    check(rt, "b waits again", lab.settle(2).none_left, 0);
+    check(rt, "outside again", lab.outside(1), Some(Some(0)));
+    check(rt, "b skips again", lab.skip(1), Some(true));
+    check(rt, "b has none", lab.skip(1), Some(false));
+    check(rt, "c isn't there", lab.skip(2), None);
+    let came = lab.settle(2);
+    check(rt, "none left", came.none_left, 2);
+    check(rt, "a holds on", came.holds, 1);
+}
+
+#[test]
+fn skip(rt: HostRuntime) {
+    match Lab::open(rt.alloc(), PATIENT) {
+        Ok(mut lab) => skips(&rt, &mut lab),
+        Err(_) => panic!(rt; "no lab"),
+    }
+}

@@ -10,6 +10,7 @@ fn laws(_rt: HostRuntime) {
     is_passed_at_most();
     lab_laws::settles_are_waited();
     lab_laws::few_are_let_in_before();
+    lab_laws::holders_stay();
     longer_plans::stays_legal();
     longer_plans::is_as_legal();
     longer_plans::still_fits();
