@@ -46,7 +46,7 @@ record Behind (line front back rest : List ℕ) : Type 0 where
   rest_is : more ++ back ≡ rest
   ends : Ends more
 
-no_feed : (b : ℕ) → is_inside b ≡ true → b ≡ 10 → ⊥
+pub no_feed : (b : ℕ) → is_inside b ≡ true → b ≡ 10 → ⊥
 no_feed b inside is = let h : is_inside 10 ≡ true = subst (λ k. is_inside k ≡ true) is inside in cc
 
 behind : (line front back rest : List ℕ) → IsOneLine line → (front ++ 10 ∷ []) ++ back ≡ line ++ 10 ∷ rest → Behind line (front ++ 10 ∷ []) back rest
@@ -68,14 +68,14 @@ behind (b ∷ line) (y ∷ front) back rest one same =
     }
 
 -- it is some of the lines
-abbrev IsSome : List (List ℕ) → List ℕ → Type 0
+abbrev pub IsSome : List (List ℕ) → List ℕ → Type 0
 IsSome lines front = (n : ℕ) × (front ≡ closed (take n lines))
 
 no_more : (front back : List ℕ) → front ++ back ≡ [] → front ≡ []
 no_more [] back same = refl
 no_more (x ∷ front) back same = let h : length ((x ∷ front) ++ back) ≡ 0 = ap (λ (l : List ℕ). length l) same in absurd (omega (arith, h))
 
-some_lines : (lines : List (List ℕ)) (front back : List ℕ) → AllByRecursion IsOneLine lines → front ++ back ≡ closed lines → Ends front → IsSome lines front
+pub some_lines : (lines : List (List ℕ)) (front back : List ℕ) → AllByRecursion IsOneLine lines → front ++ back ≡ closed lines → Ends front → IsSome lines front
 some_lines [] front back one same ends = (0, no_more front back same)
 some_lines (line ∷ lines) front back one same (inl none) = (0, none)
 some_lines (line ∷ lines) front back one same (inr fed) =
@@ -95,7 +95,7 @@ end_closed : (plan : LabPlan) (events : List Event) (ended : Bool)
 end_closed plan events true = refl
 end_closed plan events false = refl
 
-piece_closed : (plan : LabPlan) (piece : Piece) → piece_text plan piece ≡ closed (piece_lines plan piece)
+pub piece_closed : (plan : LabPlan) (piece : Piece) → piece_text plan piece ≡ closed (piece_lines plan piece)
 piece_closed plan piece =
     let own = map (step_text plan) (map step_of piece.events) in
     (λ i. codes "#steps\n" ++ steps_closed plan (map step_of piece.events) i ++ end_closed plan piece.events piece.ended i)
@@ -108,7 +108,7 @@ pieces_closed plan (piece ∷ pieces) =
     (λ i. piece_closed plan piece i ++ pieces_closed plan pieces i) ∙ sym (closed-append (piece_lines plan piece) (all_lines plan pieces))
 
 -- each of them is one line
-shown_one : (line : List ℕ) → list_all is_shown line ≡ true → IsOneLine line
+pub shown_one : (line : List ℕ) → list_all is_shown line ≡ true → IsOneLine line
 shown_one [] h = refl
 shown_one (b ∷ line) h =
     let parts = and_parts (is_shown b) (list_all is_shown line) h in
@@ -118,15 +118,15 @@ shown_one (b ∷ line) h =
     inside : (b : ℕ) → is_shown b ≡ true → is_inside b ≡ true
     inside b h = grind (arith, nat_tests, h)
 
-both_one : (a b : List (List ℕ)) → AllByRecursion IsOneLine a → AllByRecursion IsOneLine b → AllByRecursion IsOneLine (a ++ b)
+pub both_one : (a b : List (List ℕ)) → AllByRecursion IsOneLine a → AllByRecursion IsOneLine b → AllByRecursion IsOneLine (a ++ b)
 both_one [] b p q = q
 both_one (x ∷ a) b p q = (p.0, both_one a b p.1 q)
 
-steps_one : (plan : LabPlan) (l : List Step) → IsPlan plan → AllByRecursion (IsNameable plan) l → AllByRecursion IsOneLine (map (step_text plan) l)
+pub steps_one : (plan : LabPlan) (l : List Step) → IsPlan plan → AllByRecursion (IsNameable plan) l → AllByRecursion IsOneLine (map (step_text plan) l)
 steps_one plan [] is all = tt
 steps_one plan (x ∷ l) is all = (shown_one (step_text plan x) (step_shown plan x is all.0), steps_one plan l is all.1)
 
-end_one : (plan : LabPlan) (events : List Event) (ended : Bool) → AllByRecursion IsOneLine (if ended then sum_line (lines_text plan events) ∷ [] else [])
+pub end_one : (plan : LabPlan) (events : List Event) (ended : Bool) → AllByRecursion IsOneLine (if ended then sum_line (lines_text plan events) ∷ [] else [])
 end_one plan events true = (sum_one (lines_text plan events), tt)
 end_one plan events false = tt
 
@@ -149,13 +149,13 @@ record AreFirst (plan : LabPlan) (lines : List (List ℕ)) (events : List Event)
   many : ℕ
   events_are : events_of pieces ≡ take many events
 
-map_take : {A B : Type 0} (f : A → B) (n : ℕ) (l : List A) → take n (map f l) ≡ map f (take n l)
+pub map_take : {A B : Type 0} (f : A → B) (n : ℕ) (l : List A) → take n (map f l) ≡ map f (take n l)
 map_take f zero l = refl
 map_take f (suc n) [] = refl
 map_take f (suc n) (x ∷ l) = ap (λ z. f x ∷ z) (map_take f n l)
 
 -- taken out of two lists: of the first alone, or of the second behind it
-take_two : {A : Type 0} (n : ℕ) (a b : List A) → (take n (a ++ b) ≡ take n a) ⊎ ((m : ℕ) × (take n (a ++ b) ≡ a ++ take m b))
+pub take_two : {A : Type 0} (n : ℕ) (a b : List A) → (take n (a ++ b) ≡ take n a) ⊎ ((m : ℕ) × (take n (a ++ b) ≡ a ++ take m b))
 take_two zero a b = inl refl
 take_two (suc n) [] b = inr (suc n, refl)
 take_two (suc n) (x ∷ a) b = ⊎_elim (λ is. inl (ap (λ z. x ∷ z) is)) (λ more. inr (more.0, ap (λ z. x ∷ z) more.1)) (take_two n a b)
@@ -175,7 +175,7 @@ none zero = refl
 none (suc m) = refl
 
 -- the end line, or none
-end_taken : (m : ℕ) (ended : Bool) (line : List ℕ)
+pub end_taken : (m : ℕ) (ended : Bool) (line : List ℕ)
     → (b : Bool) × (take m (if ended then line ∷ [] else []) ≡ (if b then line ∷ [] else []))
 end_taken zero ended line = (false, refl)
 end_taken (suc m) true line = (true, ap (λ (z : List (List ℕ)). line ∷ z) (none m))

@@ -7,3 +7,4 @@ pub mod SessionBack
 pub mod MoreLines
 pub mod SamePlans
 pub mod Parts
+pub mod Cuts

@@ -1,5 +1,5 @@
 -- A journal of a lab that sessions came to is read as its steps and these sessions.
-use Rattle.std.proofs.Common.{◌≡◌, ℕ, ◌+◌, ◌<◌, ◌≤◌, if◌then◌else◌, List, [], ◌∷◌, ◌++◌, length, map, refl, sym, ap, ◌∙◌, subst, arith, ◌-◌, get_or-set_same}
+use Rattle.std.proofs.Common.{◌≡◌, ℕ, ◌+◌, ◌<◌, ◌≤◌, Bool, if◌then◌else◌, List, [], ◌∷◌, ◌++◌, length, map, refl, sym, ap, ◌∙◌, subst, arith, ◌-◌, get_or-set_same}
 use Rattle.std.specs.Prelude.{None, codes, slice_index_or}
 use Rattle.std.specs.List.{AllByRecursion, flat_map}
 use Rattle.std.proofs.lemmas.List.{map-append, length-map, get_or_push}
@@ -27,22 +27,25 @@ use Rattle.written_steps.specs.StepLists.{script_head, step_line, step_lines, li
 use Rattle.written_steps.proofs.ListsBack.{no_steps_line, joined, script_head_is}
 use Rattle.journal_texts.specs.Texts.{Piece, sum_line, piece_text, summed}
 use Rattle.journal_texts.specs.Sums.{wrong_sum, wrong_from, wrong_behind}
-use Rattle.journal_texts.specs.More.{more_command, more_lines, more_text}
-use Rattle.journal_texts.specs.Additions.{Addition, additions, additions_from, additions_behind}
+use Rattle.journal_texts.specs.More.{more_command, more_lines, begun, broken}
+use Rattle.journal_texts.specs.Additions.{Addition, session_in, additions, additions_from, additions_behind}
 use Rattle.journal_texts.specs.Reading.{TextsStay}
-use Rattle.journal_texts.specs.Parts.{Part, Took, Came, plan_after, events_in, parts_text, AreTaken}
-use Rattle.journal_texts.proofs.PieceLines.{piece_lines, piece_then}
+use Rattle.journal_texts.specs.Parts.{Part, Took, Came, Broke, Said, plan_after, events_in, said, came_text, parts_text, AreTaken}
+use Rattle.journal_texts.proofs.PieceLines.{piece_lines, piece_then, plain_then}
 use Rattle.journal_texts.proofs.Read.{all_nameable, piece_list, head_passed, head_has_none, steps_there, piece_no_more, piece_right, split_all, map_both}
 use Rattle.journal_texts.proofs.SamePlans.{AreAlike, alike_self, alike_both, alike_more, text_same, all_back}
 use Rattle.journal_texts.proofs.MoreLines.{more_part, part_then, all_skipped, none_listed, none_added, part_added, addition_at, more_right}
+use Rattle.journal_texts.proofs.MoreLines.{broke_part, broken_then, broken_skipped, broken_added, broken_right, said_skipped, said_none, said_added, said_right}
 
 -- ---- the texts of steps are those by the first plan
 
 -- the parts' texts, the steps by the first plan, and the sessions by the plan to which they came
-abbrev base_text : LabPlan → LabPlan → List Part → List ℕ
+abbrev pub base_text : LabPlan → LabPlan → List Part → List ℕ
 base_text plan p [] = []
 base_text plan p (Took piece ∷ parts) = piece_text plan piece ++ base_text plan p parts
-base_text plan p (Came j session ∷ parts) = summed (more_lines p j session) ++ base_text plan (with_one_more p j session) parts
+base_text plan p (Came j session ended ∷ parts) = begun (more_lines p j session) ended ++ base_text plan (with_one_more p j session) parts
+base_text plan p (Broke j session many ∷ parts) = broken p j session many ++ base_text plan p parts
+base_text plan p (Said words ∷ parts) = (said words ++ codes "\n") ++ base_text plan p parts
 
 line_same : (plan p : LabPlan) → AreAlike plan p → (x : Step) → step_line p x ≡ step_line plan x
 unfolding step_line
@@ -76,35 +79,40 @@ last_is p j session there =
     let before : length (sessions p j) + 1 - 1 ≡ length (sessions p j) = omega arith in
     (λ i. slice_index_or (own i) (before i) no_session) ∙ get_or_push (sessions p j) session no_session (length (sessions p j)) refl
 
-text_is : (p : LabPlan) (j : ℕ) (session : SessionPlan) → j < length p.jobs → AreAlike p (with_one_more p j session)
-    → more_text (with_one_more p j session) j (length (sessions p j) + 1) ≡ summed (more_lines p j session)
-text_is p j session there alike =
-    ap (λ (x : SessionPlan). summed (more_lines (with_one_more p j session) j x)) (last_is p j session there) ∙ ap summed (more_same p j session j session alike)
+text_is : (p : LabPlan) (j : ℕ) (session : SessionPlan) (ended : Bool) → j < length p.jobs → AreAlike p (with_one_more p j session)
+    → came_text (with_one_more p j session) j (length (sessions p j) + 1) ended ≡ begun (more_lines p j session) ended
+text_is p j session ended there alike =
+    ap (λ (x : SessionPlan). begun (more_lines (with_one_more p j session) j x) ended) (last_is p j session there)
+    ∙ ap (λ l. begun l ended) (more_same p j session j session alike)
 
-next_alike : (plan p : LabPlan) (j : ℕ) (session : SessionPlan) → AreAlike plan p → j < length p.jobs → more_refusal p j session ≡ None
+pub next_alike : (plan p : LabPlan) (j : ℕ) (session : SessionPlan) → AreAlike plan p → j < length p.jobs → more_refusal p j session ≡ None
     → AreAlike plan (with_one_more p j session)
 next_alike plan p j session alike there none = alike_both plan p (with_one_more p j session) alike (alike_more p j session there none)
 
-parts_same : (plan p : LabPlan) (parts : List Part) → AreAlike plan p → AreTaken p parts → parts_text p parts ≡ base_text plan p parts
+pub parts_same : (plan p : LabPlan) (parts : List Part) → AreAlike plan p → AreTaken p parts → parts_text p parts ≡ base_text plan p parts
 parts_same plan p [] alike taken = refl
 parts_same plan p (Took piece ∷ parts) alike taken = λ i. piece_same plan p alike piece i ++ parts_same plan p parts alike taken i
-parts_same plan p (Came j session ∷ parts) alike taken =
+parts_same plan p (Broke j session many ∷ parts) alike taken = ap (λ l. broken p j session many ++ l) (parts_same plan p parts alike taken.2)
+parts_same plan p (Said words ∷ parts) alike taken = ap (λ l. (said words ++ codes "\n") ++ l) (parts_same plan p parts alike taken.1)
+parts_same plan p (Came j session ended ∷ parts) alike taken =
     let q = with_one_more p j session in
-    λ i. text_is p j session taken.0 (alike_more p j session taken.0 taken.1) i
+    λ i. text_is p j session ended taken.0 (alike_more p j session taken.0 taken.1) i
     ++ parts_same plan q parts (next_alike plan p j session alike taken.0 taken.1) taken.2 i
 
 -- ---- the lines
 
-abbrev base_lines : LabPlan → LabPlan → List Part → List (List ℕ)
+abbrev pub base_lines : LabPlan → LabPlan → List Part → List (List ℕ)
 base_lines plan p [] = []
 base_lines plan p (Took piece ∷ parts) = piece_lines plan piece ++ base_lines plan p parts
-base_lines plan p (Came j session ∷ parts) = more_part p j session ++ base_lines plan (with_one_more p j session) parts
+base_lines plan p (Came j session ended ∷ parts) = more_part p j session ended ++ base_lines plan (with_one_more p j session) parts
+base_lines plan p (Broke j session many ∷ parts) = broke_part p j session many ++ base_lines plan p parts
+base_lines plan p (Said words ∷ parts) = said words ∷ base_lines plan p parts
 
 -- the steps of the parts can be named
-abbrev AreNamed : LabPlan → List Part → Type 0
+abbrev pub AreNamed : LabPlan → List Part → Type 0
 AreNamed plan parts = AllByRecursion (IsNameable plan) (map step_of (events_in parts))
 
-named_parts : (plan : LabPlan) (piece : Piece) (parts : List Part) → AreNamed plan (Took piece ∷ parts)
+pub named_parts : (plan : LabPlan) (piece : Piece) (parts : List Part) → AreNamed plan (Took piece ∷ parts)
     → AllByRecursion (IsNameable plan) (map step_of piece.events) × AreNamed plan parts
 named_parts plan piece parts named =
     split_all (IsNameable plan) (map step_of piece.events) (map step_of (events_in parts))
@@ -114,8 +122,18 @@ named_parts plan piece parts named =
 abbrev pub added_in : LabPlan → ℕ → LabPlan → List Part → List Addition
 added_in plan n p [] = []
 added_in plan n p (Took piece ∷ parts) = added_in plan (n + length (piece_lines plan piece)) p parts
-added_in plan n p (Came j session ∷ parts) =
-    addition_at n p j session ∷ added_in plan (n + length (more_part p j session)) (with_one_more p j session) parts
+added_in plan n p (Came j session ended ∷ parts) =
+    addition_at n p j session ∷ added_in plan (n + length (more_part p j session ended)) (with_one_more p j session) parts
+added_in plan n p (Broke j session many ∷ parts) = added_in plan (n + length (broke_part p j session many)) p parts
+added_in plan n p (Said words ∷ parts) = added_in plan (n + 1) p parts
+
+-- no line of them goes on with a session
+none_goes_on : (plan p : LabPlan) (parts : List Part) → session_in (base_lines plan p parts) ≡ None
+none_goes_on plan p [] = refl
+none_goes_on plan p (Took piece ∷ parts) = refl
+none_goes_on plan p (Came j session ended ∷ parts) = refl
+none_goes_on plan p (Broke j session many ∷ parts) = refl
+none_goes_on plan p (Said words ∷ parts) = said_none words (base_lines plan p parts)
 
 module _ (plan : LabPlan) (is_plan : IsPlan plan) where
   lines_of : (p : LabPlan) (parts : List Part) → IsPlan p → AreTaken p parts → AreNamed plan parts → text_lines (base_text plan p parts) ≡ base_lines plan p parts
@@ -123,18 +141,25 @@ module _ (plan : LabPlan) (is_plan : IsPlan plan) where
   lines_of p (Took piece ∷ parts) is taken named =
       let both = named_parts plan piece parts named in
       piece_then plan piece (base_text plan p parts) is_plan both.0 ∙ ap (λ l. piece_lines plan piece ++ l) (lines_of p parts is taken both.1)
-  lines_of p (Came j session ∷ parts) is taken named =
+  lines_of p (Came j session ended ∷ parts) is taken named =
       let may = granted p j session taken.1 in
       let q = with_one_more p j session in
-      part_then p j session (base_text plan q parts) is taken.0 may
-      ∙ ap (λ l. more_part p j session ++ l) (lines_of q parts (plan_more p j session taken.0 may is) taken.2 named)
+      part_then p j session ended (base_text plan q parts) is taken.0 may
+      ∙ ap (λ l. more_part p j session ended ++ l) (lines_of q parts (plan_more p j session taken.0 may is) taken.2 named)
+  lines_of p (Broke j session many ∷ parts) is taken named =
+      broken_then p j session many (base_text plan p parts) is taken.0 (granted p j session taken.1)
+      ∙ ap (λ l. broke_part p j session many ++ l) (lines_of p parts is taken.2 named)
+  lines_of p (Said words ∷ parts) is taken named =
+      plain_then (said words) (base_text plan p parts) taken.0 ∙ ap (λ l. said words ∷ l) (lines_of p parts is taken.1 named)
 
   -- ---- the steps
 
   abbrev steps_in : ℕ → LabPlan → List Part → List StepLine
   steps_in n p [] = []
   steps_in n p (Took piece ∷ parts) = lines_from_here (n + 1) (map step_of piece.events) ++ steps_in (n + length (piece_lines plan piece)) p parts
-  steps_in n p (Came j session ∷ parts) = steps_in (n + length (more_part p j session)) (with_one_more p j session) parts
+  steps_in n p (Came j session ended ∷ parts) = steps_in (n + length (more_part p j session ended)) (with_one_more p j session) parts
+  steps_in n p (Broke j session many ∷ parts) = steps_in (n + length (broke_part p j session many)) p parts
+  steps_in n p (Said words ∷ parts) = steps_in (n + 1) p parts
 
   list_is : (n : ℕ) (p : LabPlan) (parts : List Part) → IsPlan p → AreTaken p parts → AreNamed plan parts
       → list_of plan n (base_lines plan p parts) ≡ map placed (steps_in n p parts)
@@ -146,11 +171,16 @@ module _ (plan : LabPlan) (is_plan : IsPlan plan) where
       numbered-append (step_in plan) n (piece_lines plan piece) (base_lines plan p parts)
       ∙ (λ i. piece_list plan n piece is_plan both.0 i ++ list_is next p parts is taken both.1 i)
       ∙ sym (map-append placed first (steps_in next p parts))
-  list_is n p (Came j session ∷ parts) is taken named =
+  list_is n p (Came j session ended ∷ parts) is taken named =
       let may = granted p j session taken.1 in
       let q = with_one_more p j session in
-      none_listed plan n (more_part p j session) (base_lines plan q parts) (all_skipped plan p j session is may)
-      ∙ list_is (n + length (more_part p j session)) q parts (plan_more p j session taken.0 may is) taken.2 named
+      none_listed plan n (more_part p j session ended) (base_lines plan q parts) (all_skipped plan p j session ended is may)
+      ∙ list_is (n + length (more_part p j session ended)) q parts (plan_more p j session taken.0 may is) taken.2 named
+  list_is n p (Broke j session many ∷ parts) is taken named =
+      none_listed plan n (broke_part p j session many) (base_lines plan p parts) (broken_skipped plan p j session many is (granted p j session taken.1))
+      ∙ list_is (n + length (broke_part p j session many)) p parts is taken.2 named
+  list_is n p (Said words ∷ parts) is taken named =
+      none_listed plan n (said words ∷ []) (base_lines plan p parts) (said_skipped plan words, tt) ∙ list_is (n + 1) p parts is taken.1 named
 
   abbrev step : StepLine → Step
   step line = line.step
@@ -162,15 +192,20 @@ module _ (plan : LabPlan) (is_plan : IsPlan plan) where
       let next = n + length (piece_lines plan piece) in
       map-append step first (steps_in next p parts)
       ∙ (λ i. steps_there (n + 1) (map step_of piece.events) i ++ steps_are next p parts i) ∙ sym (map_both piece.events (events_in parts))
-  steps_are n p (Came j session ∷ parts) = steps_are (n + length (more_part p j session)) (with_one_more p j session) parts
+  steps_are n p (Came j session ended ∷ parts) = steps_are (n + length (more_part p j session ended)) (with_one_more p j session) parts
+  steps_are n p (Broke j session many ∷ parts) = steps_are (n + length (broke_part p j session many)) p parts
+  steps_are n p (Said words ∷ parts) = steps_are (n + 1) p parts
 
   -- ---- the sums
 
   sums_right : (p : LabPlan) (parts : List Part) (n : ℕ) (text : List ℕ) → wrong_from n text (base_lines plan p parts) ≡ None
   sums_right p [] n text = refl
   sums_right p (Took piece ∷ parts) n text = piece_right plan piece (base_lines plan p parts) n text (λ m t. sums_right p parts m t)
-  sums_right p (Came j session ∷ parts) n text =
-      more_right n text p j session (base_lines plan (with_one_more p j session) parts) (λ m t. sums_right (with_one_more p j session) parts m t)
+  sums_right p (Came j session ended ∷ parts) n text =
+      more_right n text p j session ended (base_lines plan (with_one_more p j session) parts) (λ m t. sums_right (with_one_more p j session) parts m t)
+  sums_right p (Broke j session many ∷ parts) n text =
+      broken_right n text p j session many (base_lines plan p parts) (λ m t. sums_right p parts m t)
+  sums_right p (Said words ∷ parts) n text = said_right n text words (base_lines plan p parts) (λ m t. sums_right p parts m t)
 
   -- ---- the sessions
 
@@ -179,9 +214,13 @@ module _ (plan : LabPlan) (is_plan : IsPlan plan) where
   additions_are n p (Took piece ∷ parts) =
       none_added n (piece_lines plan piece) (base_lines plan p parts) (piece_no_more plan piece)
       ∙ additions_are (n + length (piece_lines plan piece)) p parts
-  additions_are n p (Came j session ∷ parts) =
-      part_added n p j session (base_lines plan (with_one_more p j session) parts)
-      ∙ ap (λ l. addition_at n p j session ∷ l) (additions_are (n + length (more_part p j session)) (with_one_more p j session) parts)
+  additions_are n p (Came j session ended ∷ parts) =
+      part_added n p j session ended (base_lines plan (with_one_more p j session) parts)
+      ∙ ap (λ l. addition_at n p j session ∷ l) (additions_are (n + length (more_part p j session ended)) (with_one_more p j session) parts)
+  additions_are n p (Broke j session many ∷ parts) =
+      broken_added n p j session many (base_lines plan p parts) (none_goes_on plan p parts)
+      ∙ additions_are (n + length (broke_part p j session many)) p parts
+  additions_are n p (Said words ∷ parts) = said_added n words (base_lines plan p parts) ∙ additions_are (n + 1) p parts
 
 -- ---- all of it
 
@@ -196,16 +235,24 @@ pub record ReadsParts (plan : LabPlan) (file : List ℕ) (parts : List Part) : T
 after_alike : (plan p : LabPlan) (parts : List Part) → AreAlike plan p → AreTaken p parts → AreAlike plan (plan_after p parts)
 after_alike plan p [] alike taken = alike
 after_alike plan p (Took piece ∷ parts) alike taken = after_alike plan p parts alike taken
-after_alike plan p (Came j session ∷ parts) alike taken =
+after_alike plan p (Came j session ended ∷ parts) alike taken =
     after_alike plan (with_one_more p j session) parts (next_alike plan p j session alike taken.0 taken.1) taken.2
+after_alike plan p (Broke j session many ∷ parts) alike taken = after_alike plan p parts alike taken.2
+after_alike plan p (Said words ∷ parts) alike taken = after_alike plan p parts alike taken.1
+
+-- the steps of legal events can be named by the first plan
+pub names_stay : (plan : LabPlan) (parts : List Part) → AreTaken plan parts
+    → IsLegalFrom (plan_after plan parts) (the_opening (plan_after plan parts)) (events_in parts) → AreNamed plan parts
+names_stay plan parts taken legal =
+    let q = plan_after plan parts in
+    all_back plan q (after_alike plan plan parts (alike_self plan) taken) (map step_of (events_in parts)) (all_nameable q (the_opening q) (events_in parts) legal)
 
 pub parts_read : StepsGiveEvents → (plan : LabPlan) (script : List ℕ) (parts : List Part) → IsPlan plan → ScriptMeans script plan → AreTaken plan parts
     → IsLegalFrom (plan_after plan parts) (the_opening (plan_after plan parts)) (events_in parts) → length (events_in parts) ≤ 1000000
     → ReadsParts plan (script_head script ++ parts_text plan parts) parts
 parts_read give plan script parts is means taken legal few =
     let q = plan_after plan parts in
-    let named : AreNamed plan parts =
-    all_back plan q (after_alike plan plan parts (alike_self plan) taken) (map step_of (events_in parts)) (all_nameable q (the_opening q) (events_in parts) legal) in
+    let named = names_stay plan parts taken legal in
     let h = script_head_is plan script means in
     let n = length h.front + 2 in
     let tail = parts_text plan parts in

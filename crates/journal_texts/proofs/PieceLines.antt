@@ -18,13 +18,10 @@ use Rattle.written_steps.specs.ReadBack.{IsNameable}
 use Rattle.written_steps.specs.StepLists.{step_line, step_lines}
 use Rattle.written_steps.proofs.TextLines.{IsOneLine, first_line, read_plain}
 use Rattle.written_steps.proofs.ListsBack.{step_shown}
+use Rattle.journal_texts.specs.Parts.{is_plain}
 use Rattle.journal_texts.specs.Texts.{Piece, lines_text, sum_line, end_text, piece_text}
 
 -- ---- a sum is one line
-
--- neither a line feed nor a carriage return
-abbrev is_plain : ℕ → Bool
-is_plain b = not (b == 10) && not (b == 13)
 
 plain_at : (l : List ℕ) (n : ℕ) → list_all is_plain l ≡ true → is_plain (get_or l n 0) ≡ true
 plain_at [] n h = refl
@@ -40,7 +37,7 @@ sum_plain : (text : List ℕ) → list_all is_plain (sum_line text) ≡ true
 unfolding sum_line encode_with
 sum_plain text = digits_plain (take 8 (sha256 text))
 
-plain_one : (line : List ℕ) → list_all is_plain line ≡ true → IsOneLine line
+pub plain_one : (line : List ℕ) → list_all is_plain line ≡ true → IsOneLine line
 plain_one [] h = refl
 plain_one (b ∷ line) h =
     let parts = and_parts (is_plain b) (list_all is_plain line) h in
@@ -87,11 +84,14 @@ steps_then plan (step ∷ steps) rest is all =
     ∙ one_more_line (step_text plan step) (step_lines plan steps ++ rest) (step_shown plan step is all.0)
     ∙ ap (λ l. step_text plan step ∷ l) (steps_then plan steps rest is all.1)
 
+-- a line without either is read as it is
+pub plain_then : (line rest : List ℕ) → list_all is_plain line ≡ true → text_lines ((line ++ codes "\n") ++ rest) ≡ line ∷ text_lines rest
+plain_then line rest plain =
+    ap text_lines (append_assoc line (codes "\n") rest) ∙ first_line line rest (plain_one line plain)
+    ∙ ap (λ l. l ∷ text_lines rest) (read_plain line (plain_ended line plain))
+
 pub sum_then : (text rest : List ℕ) → text_lines ((sum_line text ++ codes "\n") ++ rest) ≡ sum_line text ∷ text_lines rest
-sum_then text rest =
-    let line = sum_line text in
-    ap text_lines (append_assoc line (codes "\n") rest) ∙ first_line line rest (plain_one line (sum_plain text))
-    ∙ ap (λ l. l ∷ text_lines rest) (read_plain line (plain_ended line (sum_plain text)))
+sum_then text rest = plain_then (sum_line text) rest (sum_plain text)
 
 end_then : (plan : LabPlan) (events : List Event) (ended : Bool) (rest : List ℕ)
     → text_lines ((if ended then end_text plan events else []) ++ rest) ≡ (if ended then sum_line (lines_text plan events) ∷ [] else []) ++ text_lines rest

@@ -1,5 +1,5 @@
 -- For readers: what a journal is read as.
-use Rattle.std.specs.Prelude.{◌≡◌, ℕ, ◌-◌, ◌<◌, ◌≤◌, List, [], ◌∷◌, ◌++◌, length, take, None, Ok}
+use Rattle.std.specs.Prelude.{◌≡◌, ◌≢◌, ℕ, ◌-◌, ◌<◌, ◌≤◌, List, [], ◌∷◌, ◌++◌, length, take, slice_index, None, Ok}
 use Rattle.std.specs.List.{flat_map}
 use Rattle.lab_plan.specs.LabPlan.{LabPlan, SessionPlan, sessions}
 use Rattle.lab_plan.specs.Upgrade.{session_text}
@@ -18,6 +18,7 @@ use Rattle.journal_texts.specs.Lines.{AreWholeLines}
 use Rattle.journal_texts.specs.More.{more_text}
 use Rattle.journal_texts.specs.Sums.{wrong_sum}
 use Rattle.journal_texts.specs.Additions.{additions}
+use Rattle.journal_texts.specs.Parts.{Part, parts_text, IsHistory, AreFirst}
 use Rattle.journal_texts.specs.Texts.{Piece, events_of, journal_text, piece_text, pieces_of, file_text}
 
 -- the file is read as the plan and as steps of exactly these events, no sum in it is wrong, and no session came
@@ -43,6 +44,21 @@ BeginningsAreRead =
     → IsLegalFrom plan (the_opening plan) (events_of pieces) → length (events_of pieces) ≤ 1000000
     → front ++ back ≡ flat_map (piece_text plan) pieces → AreWholeLines front (length front)
     → (n : ℕ) × IsRead plan (script_head script ++ front) (take n (events_of pieces))
+
+-- the text has the first of these parts, which are a lab's too, and a rest without a line end
+pub record HasParts (plan : LabPlan) (parts : List Part) (front : List ℕ) : Type 0 where
+  pub first : List Part
+  pub are_first : AreFirst first parts
+  pub history : IsHistory plan (the_opening plan) first
+  pub rest : List ℕ
+  pub text : front ≡ parts_text plan first ++ rest
+  pub no_line : (k : ℕ) → k < length rest → slice_index rest k ≢ 10
+
+-- the texts of a lab's parts, cut at any byte, are those of the first of them, and a rest without a line end
+abbrev pub CutsAreParts : Type 0
+CutsAreParts =
+    (plan : LabPlan) (parts : List Part) (front back : List ℕ) → IsPlan plan → IsHistory plan (the_opening plan) parts → front ++ back ≡ parts_text plan parts
+    → HasParts plan parts front
 
 -- texts that were taken one after another are pieces, which have the same events
 abbrev pub TextsArePieces : Type 0

@@ -1,5 +1,5 @@
 //! What holds of journals' texts. Each law is the contract of a function that does nothing.
-ghost use Rattle.journal_texts.specs.Reading.{FilesAreRead, BeginningsAreRead, TextsArePieces, SessionsAreReadBack, TextsStay};
+ghost use Rattle.journal_texts.specs.Reading.{FilesAreRead, BeginningsAreRead, CutsAreParts, TextsArePieces, SessionsAreReadBack, TextsStay};
 
 use round_trace::laws::steps_give_events;
 
@@ -16,6 +16,12 @@ pub fn beginnings_are_read()
 {
     steps_give_events();
 }
+
+/// The texts of a lab that sessions came to, cut at any byte, are the first of them up to the last whole line. Whatever is left of the one that was
+/// cut is such a text too.
+pub fn cuts_are_parts()
+    ensures { CutsAreParts }
+{}
 
 /// Texts that were taken one after another make such a journal.
 pub fn texts_are_pieces()

@@ -1,7 +1,8 @@
 -- A lab that is resumed from a journal stands where its events lead.
-use Rattle.std.proofs.Common.{◌≡◌, ◌≢◌, ◌⊎◌, ℕ, ◌+◌, ◌<◌, ◌≤◌, Bool, true, false, if◌then◌else◌, List, [], ◌∷◌, ◌++◌, length, take, get_or, refl, sym, ap, ◌∙◌, subst, inl, inr, arith, append_assoc, append-nil, length-append}
+use Rattle.std.proofs.Common.{◌≡◌, ◌≢◌, ◌⊎◌, ℕ, ◌+◌, ◌-◌, ◌<◌, ◌≤◌, Bool, true, false, if◌then◌else◌, List, [], ◌∷◌, ◌++◌, length, take, get_or, refl, sym, ap, ◌∙◌, subst, inl, inr, ⊎_elim, arith, append_assoc, append-nil, length-append}
 use Rattle.std.specs.Prelude.{codes, map, slice_index, Result, Ok, Err}
 use Rattle.std.specs.List.{All, flat_map}
+use Rattle.std.proofs.lemmas.Bool.{cases_lt}
 use Rattle.std.proofs.lemmas.List.{ext_get_or, get_or-append-add, take_all}
 use Rattle.lab_plan.specs.LabPlan.{LabPlan}
 use Rattle.legal_steps.specs.declared.event.Event.{Event}
@@ -13,10 +14,10 @@ use Rattle.legal_steps.specs.declared.counts.Counts.{Counts}
 use Rattle.legal_steps.specs.State.{State, drinking}
 use Rattle.legal_steps.specs.Legal.{IsJob, May}
 use Rattle.legal_steps.specs.Opening.{the_opening}
-use Rattle.legal_steps.specs.Run.{IsLegalFrom}
+use Rattle.legal_steps.specs.Run.{IsLegalFrom, after_all}
 use Rattle.legal_steps.specs.Counting.{no_counts}
 use Rattle.interleaving.specs.Counting.{AreCountsOf}
-use Rattle.interleaving.specs.World.{IsReachedBy}
+use Rattle.interleaving.specs.World.{WorldView, IsReachedBy}
 use Rattle.turns.proofs.Runs.{legal-goes_on}
 use Rattle.script_reader.specs.declared.fault.ScriptFault.{ScriptFault}
 use Rattle.script_reader.specs.Laws.{HasOneList}
@@ -31,7 +32,7 @@ use Rattle.journal_texts.proofs.Beginnings.{ends_whole}
 use Rattle.journal_texts.specs.Texts.{Piece, events_of, lines_text, sum_line, end_text, piece_text, file_text}
 use Rattle.lab_journal.specs.Meaning.{with_additions}
 use Rattle.lab_journal.specs.Resumed.{IsAct}
-use Rattle.lab_journal.specs.Laws.{ResumesAt, JournalComesBack, BeginningsComeBack}
+use Rattle.lab_journal.specs.Laws.{ResumesAt, HasDone, ComesBackAs, JournalComesBack, BeginningsComeBack}
 
 -- ---- a journal ends with a line feed
 
@@ -78,17 +79,37 @@ fed_head script = fed_behind (script ++ lacking_end script) (codes "steps\n") (c
 fed_file : (plan : LabPlan) (script : List ℕ) (pieces : List Piece) → Fed (file_text plan script pieces)
 fed_file plan script pieces = fed_kept (script_head script) (flat_map (piece_text plan) pieces) (fed_head script) (keeps_pieces plan pieces)
 
--- so all of it is whole lines
-all_of_it : (file : List ℕ) (n : ℕ) → Fed file → AreWholeLines file n → n ≡ length file
-all_of_it file n fed lines =
-    let size : length file ≡ length fed.0 + 1 = ap (λ (l : List ℕ). length l) fed.1 ∙ length-append fed.0 (10 ∷ []) in
-    let last : slice_index file (length fed.0) ≡ 10 =
-    ap (λ (l : List ℕ). get_or l (length fed.0) 0) fed.1 ∙ (let none : length fed.0 ≡ length fed.0 + 0 = omega arith in ap (λ k. get_or (fed.0 ++ 10 ∷ []) k 0) none
-    ∙ get_or-append-add fed.0 (10 ∷ []) 0 0) in
-    small n (length fed.0) (length file) size lines.within (λ less. lines.behind (length fed.0) less (omega (arith, size)) last)
+-- so all of it is whole lines, and with a rest that has no line end it alone
+pub whole_lines : (whole rest : List ℕ) → Fed whole → ((k : ℕ) → k < length rest → slice_index rest k ≢ 10) → AreWholeLines (whole ++ rest) (length whole)
+whole_lines whole rest fed none =
+    let size : length whole ≡ length fed.0 + 1 = ap (λ (l : List ℕ). length l) fed.1 ∙ length-append fed.0 (10 ∷ []) in
+    let cut : whole ++ rest ≡ fed.0 ++ 10 ∷ rest = ap (λ (l : List ℕ). l ++ rest) fed.1 ∙ append_assoc fed.0 (10 ∷ []) rest in
+    let place : length whole - 1 ≡ length fed.0 + 0 = omega (arith, size) in record {
+      within = omega (arith, length-append whole rest);
+      ended = inr ((λ i. get_or (cut i) (place i) 0) ∙ get_or-append-add fed.0 (10 ∷ rest) 0 0);
+      behind = λ k from below is. no_end whole rest none k (k - length whole) (omega (arith, from)) (omega (arith, below, length-append whole rest)) is;
+    }
   where
-    small : (n k m : ℕ) → m ≡ k + 1 → n ≤ m → (n ≤ k → ⊥) → n ≡ m
-    small n k m e h less = omega (arith, e, h, less)
+    no_end : (whole rest : List ℕ) → ((k : ℕ) → k < length rest → slice_index rest k ≢ 10) → (k i : ℕ) → length whole + i ≡ k → k < length whole + length rest
+        → slice_index (whole ++ rest) k ≢ 10
+    no_end whole rest none k i same below is =
+        none i (omega (arith, same, below)) (sym (ap (λ n. get_or (whole ++ rest) n 0) (sym same) ∙ get_or-append-add whole rest i 0) ∙ is)
+
+all_of_it : (file : List ℕ) → Fed file → AreWholeLines file (length file)
+all_of_it file fed =
+    subst (λ (l : List ℕ). AreWholeLines l (length file)) (append-nil file) (whole_lines file [] fed (λ k below. absurd (omega (arith, below))))
+
+pub lines_once : (file : List ℕ) (m n : ℕ) → AreWholeLines file m → AreWholeLines file n → m ≡ n
+lines_once file m n a b = by (cases_lt m n) (cases_lt n m)
+  where
+    not_less : (m n : ℕ) → AreWholeLines file m → AreWholeLines file n → m < n → ⊥
+    not_less m n a b less =
+        ⊎_elim (λ none. omega (arith, none, less)) (λ is. a.behind (n - 1) (omega (arith, less)) (omega (arith, less, b.within)) is) b.ended
+
+    by : (m < n) ⊎ (n ≤ m) → (n < m) ⊎ (m ≤ n) → m ≡ n
+    by (inl less) other = absurd (not_less m n a b less)
+    by (inr more) (inl less) = absurd (not_less n m b a less)
+    by (inr more) (inr less) = omega (arith, more, less)
 
 -- ---- no command was in hand
 
@@ -110,32 +131,57 @@ same_way : (plan : LabPlan) (o : State) (events : List Event) (s t : State) (a b
 same_way plan o events s t a b p q = (p.run.leads ∙ sym q.run.leads, same_counts plan events a b p.counted q.counted)
 
 -- the plan of an answer
-abbrev plan_or : LabPlan → Result LabPlan ScriptFault → LabPlan
+abbrev pub plan_or : LabPlan → Result LabPlan ScriptFault → LabPlan
 plan_or other (Ok plan) = plan
 plan_or other (Err fault) = other
 
--- whatever lab is resumed from a file of this script and these steps, with the sessions that came
-pub stands_by : HasOneList → (script plan : LabPlan) (file : List ℕ) (steps : List StepLine) (events : List Event) (s : State) (counts : List Counts) → Fed file
-    → StepsMean file script steps → with_additions script (additions file) ≡ Ok plan → events_from_opening plan steps ≡ events
-    → IsReachedBy plan (the_opening plan) events s counts → ((j : ℕ) → IsJob plan j → drinking s j ≢ Reaching) → ResumesAt file plan s counts
-stands_by one script plan file steps events s counts fed means came events_are by none n x is =
-    let all : n ≡ length file = all_of_it file n fed is.lines in
-    let whole : take n file ≡ file = ap (λ k. take k file) all ∙ take_all (length file) file (omega arith) in
-    let both = one file is.means.script script is.steps steps (subst (λ l. StepsMean l is.means.script is.steps) whole is.means.means) means in
-    let longer : Ok x.world.plan ≡ Ok plan = sym is.means.came ∙ ((λ i. with_additions (both.0 i) (additions (whole i))) ∙ came) in
+-- whatever lab is resumed from a file whose whole lines are of this script and these steps, with the sessions that came
+pub comes_as : HasOneList → (script plan : LabPlan) (file whole : List ℕ) (steps : List StepLine) (events : List Event) → AreWholeLines file (length whole)
+    → take (length whole) file ≡ whole → StepsMean whole script steps → with_additions script (additions whole) ≡ Ok plan
+    → events_from_opening plan steps ≡ events → ComesBackAs file (length whole) plan events
+comes_as one script plan file whole steps events lines cut means came events_are n x is =
+    let all : n ≡ length whole = lines_once file n (length whole) is.lines lines in
+    let here : take n file ≡ whole = ap (λ k. take k file) all ∙ cut in
+    let both = one whole is.means.script script is.steps steps (subst (λ l. StepsMean l is.means.script is.steps) here is.means.means) means in
+    let longer : Ok x.world.plan ≡ Ok plan = sym is.means.came ∙ ((λ i. with_additions (both.0 i) (additions (here i))) ∙ came) in
     let same : x.world.plan ≡ plan = ap (plan_or script) longer in
     let told : events_from_opening x.world.plan is.steps ≡ events = (λ i. events_from_opening (same i) (both.1 i)) ∙ events_are in
     let past : x.world.past ≡ events ++ is.acts = is.past ∙ ap (λ (l : List Event). l ++ is.acts) told in
     let reached : IsReachedBy plan (the_opening plan) (events ++ is.acts) x.world.state x.world.counts =
     subst (λ (z : LabPlan × State × List Event). IsReachedBy z.0 z.1 z.2 x.world.state x.world.counts)
     (λ i. (same i, (is.opening ∙ ap the_opening same) i, past i)) is.reached in
-    let legal : IsLegalFrom plan s is.acts = subst (λ (z : State). IsLegalFrom plan z is.acts) (sym by.run.leads)
-    (legal-goes_on plan (the_opening plan) events is.acts reached.run.legal) in
-    let none_left = no_acts plan s is.acts is.are_acts legal none in
-    let there = same_way plan (the_opening plan) events x.world.state s x.world.counts counts
-    (subst (λ (l : List Event). IsReachedBy plan (the_opening plan) l x.world.state x.world.counts)
-    (ap (λ (l : List Event). events ++ l) none_left ∙ append-nil events) reached) by in
-    (all, same, there.0, there.1)
+    let legal : IsLegalFrom plan (after_all plan (the_opening plan) events) is.acts = legal-goes_on plan (the_opening plan) events is.acts reached.run.legal in (
+      all,
+      record {
+        same_plan = same;
+        opening = is.opening ∙ ap the_opening same;
+        acts = is.acts;
+        are_acts = is.are_acts;
+        past = past;
+        reached = reached;
+        none_in_hand = subst (λ (p : LabPlan). (j : ℕ) → IsJob p j → drinking x.world.state j ≢ Reaching) same is.none_in_hand;
+        none_left = no_acts plan (after_all plan (the_opening plan) events) is.acts is.are_acts legal;
+        kept = is.kept;
+        whole = is.whole;
+      },
+    )
+
+-- it stands where the events lead, if no command is in hand there
+there : (plan : LabPlan) (events : List Event) (w : WorldView) (s : State) (counts : List Counts) → HasDone plan events w
+    → IsReachedBy plan (the_opening plan) events s counts → ((j : ℕ) → IsJob plan j → drinking s j ≢ Reaching) → (w.state ≡ s) × (w.counts ≡ counts)
+there plan events w s counts done by none =
+    let left = done.none_left (subst (λ (z : State). (j : ℕ) → IsJob plan j → drinking z j ≢ Reaching) by.run.leads none) in
+    same_way plan (the_opening plan) events w.state s w.counts counts
+    (subst (λ (l : List Event). IsReachedBy plan (the_opening plan) l w.state w.counts)
+    (ap (λ (l : List Event). events ++ l) left ∙ append-nil events) done.reached) by
+
+pub stands_by : HasOneList → (script plan : LabPlan) (file : List ℕ) (steps : List StepLine) (events : List Event) (s : State) (counts : List Counts) → Fed file
+    → StepsMean file script steps → with_additions script (additions file) ≡ Ok plan → events_from_opening plan steps ≡ events
+    → IsReachedBy plan (the_opening plan) events s counts → ((j : ℕ) → IsJob plan j → drinking s j ≢ Reaching) → ResumesAt file plan s counts
+stands_by one script plan file steps events s counts fed means came events_are by none n x is =
+    let back = comes_as one script plan file file steps events (all_of_it file fed) (take_all (length file) file (omega arith)) means came events_are n x is in
+    let at = there plan events x.world s counts back.1 by none in
+    (back.0, back.1.same_plan, at.0, at.1)
 
 stands_there : HasOneList → (plan : LabPlan) (file : List ℕ) (events : List Event) (s : State) (counts : List Counts) → Fed file → IsRead plan file events
     → IsReachedBy plan (the_opening plan) events s counts → ((j : ℕ) → IsJob plan j → drinking s j ≢ Reaching) → ResumesAt file plan s counts

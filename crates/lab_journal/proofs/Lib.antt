@@ -1,7 +1,9 @@
 pub mod Taken
 pub mod ComesBack
+pub mod OnlyMemory
 pub mod Finished
 pub mod OfPlan
 pub mod Replayed
 pub mod Longer
 pub mod SessionsComeBack
+pub mod Histories

@@ -17,7 +17,7 @@ taken_is w before is =
     (λ i. take (n i) (is i)) ∙ take_at before w.kept.events (length before) refl
 
 -- if none was left out, all are there
-abbrev AreAllKept : TapeView → List Event → Type 0
+abbrev pub AreAllKept : TapeView → List Event → Type 0
 AreAllKept kept events = (after_kept kept events).whole ≡ true → (kept.whole ≡ true) × ((after_kept kept events).events ≡ kept.events ++ events)
 
 one_kept : (kept : TapeView) (event : Event) (events : List Event) (b : Bool) → ((k : TapeView) → AreAllKept k events)
@@ -28,7 +28,7 @@ one_kept kept event events true more whole =
     let all = more (record kept { events = kept.events ++ event ∷ [] }) whole in (all.0, all.1 ∙ append_assoc kept.events (event ∷ []) events)
 one_kept kept event events false more whole = absurd (false≢true (more (record kept { whole = false }) whole).0)
 
-all_kept : (kept : TapeView) (events : List Event) → AreAllKept kept events
+pub all_kept : (kept : TapeView) (events : List Event) → AreAllKept kept events
 all_kept kept [] = λ whole. (whole, sym (append-nil kept.events))
 all_kept kept (event ∷ events) = one_kept kept event events (ltb (length kept.events) kept.room) (λ k. all_kept k events)
 

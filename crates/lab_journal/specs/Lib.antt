@@ -4,3 +4,4 @@ pub mod Meaning
 pub mod Resumed
 pub mod Finishing
 pub mod Laws
+pub mod Writing

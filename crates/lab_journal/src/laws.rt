@@ -1,9 +1,10 @@
 //! What holds of journals. Each law is the contract of a function that does nothing.
-ghost use Rattle.lab_journal.specs.Laws.{JournalsFollow, JournalComesBack, BeginningsComeBack, SessionsComeBack};
+ghost use Rattle.lab_journal.specs.Laws.{JournalsFollow, JournalComesBack, BeginningsComeBack, SessionsComeBack, CutsComeBack};
+ghost use Rattle.lab_journal.specs.Writing.{StaysWritten};
 
 use journal_texts::laws::{beginnings_are_read, files_are_read};
 use round_trace::laws::steps_give_events;
-use script_reader::laws::one_meaning_with_steps;
+use script_reader::laws::{one_meaning_with_steps, sessions_are_granted};
 
 /// What was taken stays taken, whatever calls do, as long as no event is missed for want of room.
 pub fn journals_follow()
@@ -28,11 +29,29 @@ pub fn beginnings_come_back()
     one_meaning_with_steps();
 }
 
-/// So does a journal with sessions that came: a lab that is resumed from it has all of them, and stands where the events lead,
-/// if no command is in hand there.
+/// So does a journal with sessions that came: it is read as its script's plan with all of them, and as its events; and a lab that is resumed
+/// from it has this plan, and stands where the events lead, if no command is in hand there.
 pub fn sessions_come_back()
     ensures { SessionsComeBack }
 {
     steps_give_events();
     one_meaning_with_steps();
+}
+
+/// So does a lab's journal that was cut at any byte behind its line `steps`: its whole lines are read as the script's plan with the sessions whose
+/// lines are all there, and as the steps that are there; and a lab that is resumed from it has this plan, and has done these steps and the
+/// commands that were in hand then, and nothing else.
+pub fn cuts_come_back()
+    ensures { CutsComeBack }
+{
+    steps_give_events();
+    one_meaning_with_steps();
+}
+
+/// What is written of a lab that was opened kept is such a journal, whatever calls do, as long as no event is missed for want of room: what they do,
+/// sessions that they add, what is taken, and a resume from a file that was cut.
+pub fn stays_written()
+    ensures { StaysWritten }
+{
+    sessions_are_granted();
 }

@@ -22,6 +22,7 @@ fn laws(_rt: HostRuntime) {
     longer_plans::needs_more_room();
     journal_laws::files_are_read();
     journal_laws::beginnings_are_read();
+    journal_laws::cuts_are_parts();
     journal_laws::texts_are_pieces();
     journal_laws::sessions_are_read_back();
     journal_laws::texts_stay();
