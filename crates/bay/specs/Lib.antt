@@ -1,0 +1,6 @@
+pub mod Noting
+pub mod Following
+pub mod Bays
+pub mod Laws
+pub mod Crashes
+pub mod Own

@@ -1,0 +1,7 @@
+//! Tests of bays: what asks are told, and when.
+#![tactic(auto)]
+
+#[cfg(test)]
+mod days;
+#[cfg(test)]
+mod rows;

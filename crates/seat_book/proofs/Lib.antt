@@ -1,0 +1,5 @@
+pub mod Places
+pub mod Going
+pub mod Once
+pub mod Last
+pub mod Durable

@@ -1,0 +1,4 @@
+pub mod Stages
+pub mod Seats
+pub mod Books
+pub mod Runs
