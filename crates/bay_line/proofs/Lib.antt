@@ -1,0 +1,5 @@
+pub mod Kept
+pub mod PassedBy
+pub mod Standing
+pub mod Overtaken
+pub mod Waiting

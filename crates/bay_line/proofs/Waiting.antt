@@ -1,0 +1,195 @@
+-- What a time of waiting does to one that waits.
+use Rattle.std.proofs.Common.{◌≡◌, ◌≢◌, ℕ, zero, suc, ◌+◌, ◌<◌, ◌≤◌, false, ◌&&◌, not, nat_lt, List, [], ◌∷◌, ◌++◌, length, Option, Some, refl, sym, ap, ◌∙◌, subst, inl, inr, arith, append_assoc, bit_and}
+use Rattle.std.proofs.lemmas.Bool.{cases_eq, eq-eqb, ne_eqb, false≢true}
+use Rattle.std.proofs.lemmas.Nat.{and_assoc}
+use Rattle.std.specs.Int.Bits.{and_zero_r}
+use Rattle.bay_line.specs.declared.wish.Wish.{Wish}
+use Rattle.bay_line.specs.declared.going_in.Seated.{Seated}
+use Rattle.bay_line.specs.Wishes.{wish_at, common, passes}
+use Rattle.bay_line.specs.Turns.{HasReason, MayGoIn, pass_first, others}
+use Rattle.bay_line.specs.Lines.{LineView, Rises, Seldom, Below, IsInOrder, GoesIn, LetsIn, wishes_of, asking, leaving}
+use Rattle.bay_line.specs.Bounds.{Stands, WaitsOnce, Waits, goes_before, overtakes, go_before, overtaken, one_if, HasWaited, WantsNoMore}
+use Rattle.bay_line.proofs.Standing.{in_order_others, in_order_goes, rises_more, seldom_more, fewer_others}
+use Rattle.bay_line.proofs.Overtaken.{Goes, one_goes, others_apart}
+
+-- ---- one letting-in
+
+let_in_once : (free needs ask k : ℕ) (ws : List Wish) (w : Wish) (place : ℕ) → Stands w place ws → (wish_at ws k).ask ≡ ask → k < length ws → w.ask ≢ ask → Rises ws
+    → Goes free needs ask w place (others ask (pass_first free needs k ws))
+let_in_once free needs ask k ws w place st at inside other rises =
+    let P : List Wish → Type 0 = λ vs. (wish_at vs k).ask ≡ ask → k < length vs → Rises vs → Goes free needs ask w (length st.before) (others ask (pass_first free needs k vs)) in
+    subst (λ n. Goes free needs ask w n (others ask (pass_first free needs k ws))) st.place_is
+    (subst P (sym st.is) (λ a i r. one_goes free needs ask k st.before w st.behind a i other r) at inside rises)
+
+has_gone : (free needs ask : ℕ) (w : Wish) (place : ℕ) (new : LineView) → Goes free needs ask w place new.wishes
+    → HasWaited w place (one_if (passes free needs w)) (one_if (nat_lt w.ask ask && passes free needs w)) new
+has_gone free needs ask w place new g = record {
+  it = g.it;
+  now = g.now;
+  stands = g.stands;
+  ask = g.its_ask;
+  needs = g.its_needs;
+  seats = g.its_seats;
+  counted = g.counted;
+  bound = g.bound;
+}
+
+-- ---- one thing that happens while it waits
+
+pub record Goes_on (w : Wish) (place all later : ℕ) (old new : LineView) : Type 0 where
+  pub waited : HasWaited w place all later new
+  pub in_order : IsInOrder new
+  pub most : new.most ≡ old.most
+
+goes_in : (in_use free : ℕ) (s : Seated) (old new : LineView) (w : Wish) (place : ℕ) → IsInOrder old → Stands w place old.wishes → s.ask ≢ w.ask
+    → LetsIn in_use free old (Some s) new → Goes_on w place (one_if (passes free s.needs w)) (one_if (nat_lt w.ask s.ask && passes free s.needs w)) old new
+goes_in in_use free s old new w place x st other lets =
+    let g : GoesIn old.most in_use free old.wishes s new.wishes = lets.goes in
+    let k = g.place in
+    let then : new.wishes ≡ others s.ask (pass_first free s.needs k old.wishes) =
+    g.then ∙ ap (λ (z : ℕ × ℕ). others z.0 (pass_first free z.1 k old.wishes)) (λ i. (sym g.next.ask i, sym g.next.needs i)) in
+    let one = let_in_once free s.needs s.ask k old.wishes w place st (sym g.next.ask) g.next.first.0 (λ e. other (sym e)) x.rises in
+    record {
+      waited = has_gone free s.needs s.ask w place new (subst (Goes free s.needs s.ask w place) (sym then) one);
+      in_order = subst IsInOrder (sym lets.same) (in_order_goes old.limit old.most in_use free old.wishes (Some s) new.wishes lets.goes x);
+      most = ap (λ (v : LineView). v.most) lets.same;
+    }
+
+nothing_went : (w : Wish) (place now : ℕ) (new : LineView) → Stands w now new.wishes → now ≤ place → HasWaited w place 0 0 new
+nothing_went w place now new st less = record {
+  it = w;
+  now = now;
+  stands = st;
+  ask = refl;
+  needs = refl;
+  seats = refl;
+  counted = omega arith;
+  bound = omega (arith, less);
+}
+
+stands_on : (w : Wish) (place : ℕ) (ws more : List Wish) → Stands w place ws → Stands w place (ws ++ more)
+stands_on w place ws more st = record {
+  before = st.before;
+  behind = st.behind ++ more;
+  is = ap (λ (l : List Wish). l ++ more) st.is ∙ append_assoc st.before (w ∷ st.behind) more;
+  place_is = st.place_is;
+}
+
+one_asks : (other : ℕ) (sets : List ℕ) (seats : ℕ) (d : Option ℕ) (old new : LineView) (w : Wish) (place : ℕ) → IsInOrder old → Stands w place old.wishes → Below other old.wishes
+    → new ≡ asking old other sets seats d → length new.wishes ≤ new.limit → Goes_on w place 0 0 old new
+one_asks other sets seats d old new w place x st below is few =
+    let P : LineView → Type 0 = λ v. length v.wishes ≤ v.limit → Goes_on w place 0 0 old v in
+    subst P (sym is) (λ f. record {
+      waited = nothing_went w place place (asking old other sets seats d) (stands_on w place old.wishes (wishes_of other sets seats d) st) (omega arith);
+      in_order = record { rises = rises_more other old.wishes sets seats d x.rises below; seldom = seldom_more old.most other old.wishes sets seats d x.seldom; few = f };
+      most = refl;
+    }) few
+
+stands_apart : (ask : ℕ) (ws : List Wish) (w : Wish) (place : ℕ) → w.ask ≢ ask → Stands w place ws → (now : ℕ) × Stands w now (others ask ws) × (now ≤ place)
+stands_apart ask ws w place other st =
+    let few = fewer_others ask st.before in let p = st.place_is in (
+      length (others ask st.before),
+      record {
+        before = others ask st.before;
+        behind = others ask st.behind;
+        is = ap (others ask) st.is ∙ others_apart ask st.before w st.behind other;
+        place_is = refl;
+      },
+      omega (arith, few, p),
+    )
+
+one_leaves : (other : ℕ) (old new : LineView) (w : Wish) (place : ℕ) → IsInOrder old → Stands w place old.wishes → other ≢ w.ask → new ≡ leaving old other
+    → Goes_on w place 0 0 old new
+one_leaves other old new w place x st apart is =
+    let a = stands_apart other old.wishes w place (λ e. apart (sym e)) st in
+    subst (Goes_on w place 0 0 old) (sym is) (record {
+      waited = nothing_went w place a.0 (leaving old other) a.1 a.2;
+      in_order = in_order_others old.limit old.most other old.wishes x;
+      most = refl;
+    })
+
+once : (ask : ℕ) (old new : LineView) (w : Wish) (place : ℕ) → IsInOrder old → w.ask ≡ ask → Stands w place old.wishes → (o : WaitsOnce ask old new)
+    → Goes_on w place (goes_before ask old new o w) (overtakes ask old new o w) old new
+once ask old new w place x is st (inl (in_use, free, s, lets, other)) = goes_in in_use free s old new w place x st (λ e. other (e ∙ is)) lets
+once ask old new w place x is st (inr (inl (other, sets, seats, d, below, same, few))) = one_asks other sets seats d old new w place x st below same few
+once ask old new w place x is st (inr (inr (other, apart, same))) = one_leaves other old new w place x st (λ e. apart (e ∙ is)) same
+
+-- ---- all that happens
+
+same_go : (ask : ℕ) (old new : LineView) (o : WaitsOnce ask old new) (v w : Wish) → v.needs ≡ w.needs → v.seats ≡ w.seats
+    → goes_before ask old new o v ≡ goes_before ask old new o w
+same_go ask old new (inl (in_use, free, s, lets, other)) v w needs seats =
+    ap (λ (z : ℕ × ℕ). one_if (common z.0 free && common z.1 s.needs)) (λ i. (seats i, needs i))
+same_go ask old new (inr same) v w needs seats = refl
+
+same_overtake : (ask : ℕ) (old new : LineView) (o : WaitsOnce ask old new) (v w : Wish) → v.ask ≡ w.ask → v.needs ≡ w.needs → v.seats ≡ w.seats
+    → overtakes ask old new o v ≡ overtakes ask old new o w
+same_overtake ask old new (inl (in_use, free, s, lets, other)) v w number needs seats =
+    ap (λ (z : ℕ × ℕ × ℕ). one_if (nat_lt z.0 s.ask && (common z.1 free && common z.2 s.needs))) (λ i. (number i, seats i, needs i))
+same_overtake ask old new (inr same) v w number needs seats = refl
+
+added : (w : Wish) (place a b c d : ℕ) (mid new : LineView) (x : HasWaited w place a b mid) → HasWaited x.it x.now c d new → HasWaited w place (a + c) (b + d) new
+added w place a b c d mid new x y =
+    let p = x.counted in let q = y.counted in let r = x.bound in let s = y.bound in
+    record {
+      it = y.it;
+      now = y.now;
+      stands = y.stands;
+      ask = y.ask ∙ x.ask;
+      needs = y.needs ∙ x.needs;
+      seats = y.seats ∙ x.seats;
+      counted = omega (arith, p, q);
+      bound = omega (arith, r, s);
+    }
+
+pub meanwhile : (ask n : ℕ) (old new : LineView) (w : Wish) (place : ℕ) → IsInOrder old → w.ask ≡ ask → Stands w place old.wishes → (o : Waits ask n old new)
+    → Goes_on w place (go_before ask n old new o w) (overtaken ask n old new o w) old new
+meanwhile ask zero old new w place x is st same =
+    subst (Goes_on w place 0 0 old) (sym same) (record { waited = nothing_went w place place old st (omega arith); in_order = x; most = refl })
+meanwhile ask (suc n) old new w place x is st (mid, before, o) =
+    let m = meanwhile ask n old mid w place x is st before in
+    let v = m.waited.it in
+    let one = once ask mid new v m.waited.now m.in_order (m.waited.ask ∙ is) m.waited.stands o in
+    let now : HasWaited v m.waited.now (goes_before ask mid new o w) (overtakes ask mid new o w) new =
+    subst (λ (z : ℕ × ℕ). HasWaited v m.waited.now z.0 z.1 new)
+    (λ i. (same_go ask mid new o v w m.waited.needs m.waited.seats i, same_overtake ask mid new o v w m.waited.ask m.waited.needs m.waited.seats i)) one.waited in
+    record {
+      waited = added w place (go_before ask n old mid before w) (overtaken ask n old mid before w) (goes_before ask mid new o w) (overtakes ask mid new o w) mid new m.waited now;
+      in_order = one.in_order;
+      most = one.most ∙ m.most;
+    }
+
+seldom_at : (most : ℕ) (xs : List Wish) (w : Wish) (ys : List Wish) → Seldom most (xs ++ w ∷ ys) → w.passed ≤ most
+seldom_at most [] w ys h = h.0
+seldom_at most (x ∷ xs) w ys h = seldom_at most xs w ys h.1
+
+pub passed_at_most : (most place all later : ℕ) (w : Wish) (new : LineView) → HasWaited w place all later new → IsInOrder new → new.most ≡ most
+    → (w.passed + later ≤ most) × (all + w.passed ≤ place + most)
+passed_at_most most place all later w new h x same =
+    let st = h.stands in
+    let few : h.it.passed ≤ new.most = seldom_at new.most st.before h.it st.behind (subst (Seldom new.most) st.is x.seldom) in
+    let p = h.counted in let q = h.bound in (omega (arith, few, p, same), omega (arith, few, p, q, same))
+
+-- ---- first come, first served
+
+zero_is : (a b : ℕ) → common a b ≡ false → bit_and a b ≡ 0
+zero_is a b h = elim (cases_eq (bit_and a b) 0) [
+  | inl is ↦ is
+  | inr isnt ↦ absurd (false≢true (sym h ∙ ap not (ne_eqb (bit_and a b) 0 isnt)))
+]
+
+-- whoever wants less shares no more
+less_shares : (a b f : ℕ) → bit_and a b ≡ a → common b f ≡ false → common a f ≡ false
+less_shares a b f less none =
+    let zero_a : bit_and a f ≡ 0 =
+    ap (λ n. bit_and n f) (sym less) ∙ (and_assoc f a b ∙ (ap (bit_and a) (zero_is b f none) ∙ and_zero_r a)) in
+    ap not (eq-eqb (bit_and a f) 0 zero_a)
+
+pub no_reason : (most in_use free : ℕ) (old : List Wish) (i k : ℕ) → i < k → MayGoIn most in_use free old k → WantsNoMore (wish_at old i) (wish_at old k)
+    → HasReason most in_use free old i → ⊥
+no_reason most in_use free old i k below may less (inl not_ready) =
+    false≢true (sym (less_shares (wish_at old k).seats (wish_at old i).seats free less.seats not_ready) ∙ may.ready)
+no_reason most in_use free old i k below may less (inr (inl used)) =
+    false≢true (sym (less_shares (wish_at old i).needs (wish_at old k).needs in_use less.needs may.unused) ∙ used)
+no_reason most in_use free old i k below may less (inr (inr (h, before, kept, shares))) =
+    false≢true (sym (less_shares (wish_at old i).needs (wish_at old k).needs (wish_at old h).needs less.needs (may.not_kept h (omega (arith, before, below)) kept)) ∙ shares)

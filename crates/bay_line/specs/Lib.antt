@@ -1,0 +1,4 @@
+pub mod Wishes
+pub mod Turns
+pub mod Lines
+pub mod Bounds

@@ -1,0 +1,96 @@
+-- For readers: the line as contracts see it, and what its calls do to it.
+use Rattle.std.specs.Prelude.{◌≡◌, ℕ, ◌<◌, ◌≤◌, List, [], ◌∷◌, ◌++◌, map, length, Option, Some, None, true, false}
+use Rattle.bay_line.specs.declared.wish.Wish.{Wish}
+use Rattle.bay_line.specs.declared.going_in.Seated.{Seated}
+use Rattle.bay_line.specs.Wishes.{wish_at, is_late}
+use Rattle.bay_line.specs.Turns.{IsFirst, HasReason, IsSeat, others, after}
+
+-- the wishes in the order of asking; for how many there is room; and how often one is passed by at most
+pub record LineView : Type 0 where
+  pub wishes : List Wish
+  pub limit : ℕ
+  pub most : ℕ
+
+-- none has a lower number than this
+abbrev pub Above : ℕ → List Wish → Type 0
+Above ask [] = Unit {0}
+Above ask (w ∷ wishes) = (ask ≤ w.ask) × Above ask wishes
+
+-- each has a lower number than this
+abbrev pub Below : ℕ → List Wish → Type 0
+Below ask [] = Unit {0}
+Below ask (w ∷ wishes) = (w.ask < ask) × Below ask wishes
+
+-- asks stand in the order of their numbers
+abbrev pub Rises : List Wish → Type 0
+Rises [] = Unit {0}
+Rises (w ∷ wishes) = Above w.ask wishes × Rises wishes
+
+-- none was passed by more often than this
+abbrev pub Seldom : ℕ → List Wish → Type 0
+Seldom most [] = Unit {0}
+Seldom most (w ∷ wishes) = (w.passed ≤ most) × Seldom most wishes
+
+-- What is true of every line: asks stand in the order of their numbers, none was passed by more often than may be, and there are no more wishes than there
+-- is room for
+pub record IsInOrder (x : LineView) : Type 0 where
+  pub rises : Rises x.wishes
+  pub seldom : Seldom x.most x.wishes
+  pub few : length x.wishes ≤ x.limit
+
+abbrev pub nobody : ℕ → ℕ → LineView
+nobody limit most = record { wishes = []; limit = limit; most = most }
+
+abbrev pub with_wishes : LineView → List Wish → LineView
+with_wishes x wishes = record { wishes = wishes; limit = x.limit; most = x.most }
+
+-- the wishes of one that asks
+abbrev pub wishes_of : ℕ → List ℕ → ℕ → Option ℕ → List Wish
+wishes_of ask sets seats deadline = map (λ needs. record { ask = ask; needs = needs; seats = seats; deadline = deadline; passed = 0 }) sets
+
+-- it stands behind all others
+abbrev pub asking : LineView → ℕ → List ℕ → ℕ → Option ℕ → LineView
+asking x ask sets seats deadline = with_wishes x (x.wishes ++ wishes_of ask sets seats deadline)
+
+-- it isn't in line, and all others stand as they stood
+abbrev pub leaving : LineView → ℕ → LineView
+leaving x ask = with_wishes x (others ask x.wishes)
+
+-- an ask in line whose time is over; or no ask's is
+abbrev pub IsLate : ℕ → List Wish → Option ℕ → Type 0
+IsLate now wishes (Some ask) = (k : ℕ) × (k < length wishes) × ((wish_at wishes k).ask ≡ ask) × (is_late now (wish_at wishes k) ≡ true)
+IsLate now wishes None = (k : ℕ) → k < length wishes → is_late now (wish_at wishes k) ≡ false
+
+-- it isn't in line any more
+abbrev pub TakesLate : ℕ → LineView → Option ℕ → LineView → Type 0
+TakesLate now old (Some ask) new = IsLate now old.wishes (Some ask) × (new ≡ leaving old ask)
+TakesLate now old None new = IsLate now old.wishes None × (new ≡ old)
+
+-- the first that may go in, and a seat that is free
+pub record IsNext (most in_use free : ℕ) (wishes : List Wish) (place : ℕ) (s : Seated) : Type 0 where
+  pub first : IsFirst most in_use free wishes (Some place)
+  pub ask : s.ask ≡ (wish_at wishes place).ask
+  pub needs : s.needs ≡ (wish_at wishes place).needs
+  pub seat : IsSeat free (wish_at wishes place) s.seat
+  pub deadline : s.deadline ≡ (wish_at wishes place).deadline
+
+-- or nobody is, and each that waits has a reason
+abbrev pub IsChosen : ℕ → ℕ → ℕ → List Wish → Option (ℕ × Seated) → Type 0
+IsChosen most in_use free wishes (Some c) = IsNext most in_use free wishes c.0 c.1
+IsChosen most in_use free wishes None = (k : ℕ) → k < length wishes → HasReason most in_use free wishes k
+
+-- it is let in
+pub record GoesIn (most in_use free : ℕ) (old : List Wish) (s : Seated) (new : List Wish) : Type 0 where
+  pub place : ℕ
+  pub next : IsNext most in_use free old place s
+  pub then : new ≡ after free place old
+
+-- or nobody is, and each that waits has a reason
+abbrev pub GoIn : ℕ → ℕ → ℕ → List Wish → Option Seated → List Wish → Type 0
+GoIn most in_use free old (Some s) new = GoesIn most in_use free old s new
+GoIn most in_use free old None new = ((k : ℕ) → k < length old → HasReason most in_use free old k) × (new ≡ old)
+
+-- so it is with the line, and the rest stays the same
+pub record LetsIn (in_use free : ℕ) (old : LineView) (s : Option Seated) (new : LineView) : Type 0 where
+  pub goes : GoIn old.most in_use free old.wishes s new.wishes
+  pub same : new ≡ with_wishes old new.wishes

@@ -1,0 +1,41 @@
+-- For readers: what somebody in line waits for, and by whom it is passed by.
+use Rattle.std.specs.Prelude.{ℕ, ◌+◌, Bool, ◌&&◌, not, ◌==◌, nat_le, if◌then◌else◌, false, List, slice_index_or, Option, None, Some}
+use Rattle.std.specs.Int.Bits.{bit_and}
+use Rattle.bay_line.specs.declared.wish.Wish.{Wish}
+
+-- (what isn't in line)
+abbrev pub no_wish : Wish
+no_wish = record { ask = 0; needs = 0; seats = 0; deadline = None; passed = 0 }
+
+abbrev pub wish_at : List Wish → ℕ → Wish
+wish_at wishes k = slice_index_or wishes k no_wish
+
+-- something is in both sets
+abbrev pub common : ℕ → ℕ → Bool
+common a b = not (bit_and a b == 0)
+
+-- a seat is free that it may take
+abbrev pub is_ready : ℕ → Wish → Bool
+is_ready free w = common w.seats free
+
+-- the limit of time has passed at this moment
+abbrev pub is_past : ℕ → Option ℕ → Bool
+is_past now (Some end) = nat_le end now
+is_past now None = false
+
+-- its time is over
+abbrev pub is_late : ℕ → Wish → Bool
+is_late now w = is_past now w.deadline
+
+-- it was passed by as often as may be, and a seat is free for it: so its instruments are kept for it from those behind it
+abbrev pub is_kept : ℕ → ℕ → Wish → Bool
+is_kept most free w = is_ready free w && nat_le most w.passed
+
+-- somebody comes to hold one of its instruments, though a seat was free for it
+abbrev pub passes : ℕ → ℕ → Wish → Bool
+passes free needs w = is_ready free w && common w.needs needs
+
+-- so it is passed by once more
+abbrev pub passed_by : ℕ → ℕ → Wish → Wish
+passed_by free needs w =
+    if passes free needs w then record { ask = w.ask; needs = w.needs; seats = w.seats; deadline = w.deadline; passed = w.passed + 1 } else w

@@ -1,0 +1,18 @@
+//! The line before the seats of a bay: who asked, for which instruments, in which order, and who gets a seat next. Pure bookkeeping, without a bench.
+//!
+//! Whoever is let in finds all its instruments free, and a seat; nobody who waits has one. Whoever stands in line may be passed by, by those behind it
+//! whose instruments are free, but only so often; from then on its instruments are kept for it from those behind it.
+#![tactic(auto)]
+
+mod appending;
+mod first;
+mod going_in;
+mod late;
+pub mod laws;
+mod line;
+mod passing;
+mod wish;
+
+pub use going_in::Seated;
+pub use line::{Line, NotInLine};
+pub use wish::Wish;

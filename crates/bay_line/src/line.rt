@@ -1,0 +1,123 @@
+//! The line.
+ghost use Rattle.std.specs.Prelude.{◌≡◌, ◌≤◌, ℕ, length, OnErr, OnOk};
+ghost use Rattle.bay_line.specs.declared.going_in.Seated.{Seated};
+ghost use Rattle.bay_line.specs.Turns.{after};
+ghost use Rattle.bay_line.specs.Lines.{nobody, Below, with_wishes, asking, leaving, TakesLate, IsChosen, IsNext, LetsIn};
+
+use crate::appending::append;
+use crate::going_in::{Seated, choose, go_at, go_in};
+use crate::late::first_late;
+use crate::passing::remove;
+use crate::wish::Wish;
+use std::alloc::Global;
+use std::marker::Model;
+
+/// Why an ask isn't in line. Nothing changed then.
+#[derive(Clone, Copy, PartialEq, Eq, Debug)]
+pub enum NotInLine {
+    /// The line has no room for its wishes.
+    Full,
+    /// There is no memory.
+    NoMemory,
+}
+
+/// Who waits for a seat, in the order of asking.
+#[derive(Drop)]
+pub struct Line {
+    wishes: Vec<Wish, Global>,
+    limit: usize,
+    most: u32,
+}
+
+impl Model for Line {
+    ghost use Rattle.bay_line.specs.Lines.{LineView, IsInOrder};
+
+    ghost Value = { LineView };
+
+    ghost view = { λ x. record { wishes = x.wishes.items; limit = x.limit; most = x.most } };
+
+    ghost invariant = { λ x. IsInOrder (record { wishes = x.wishes.items; limit = x.limit; most = x.most }) };
+}
+
+impl Line {
+    /// A line in which nobody waits, for so many wishes. Who stands in it is passed by at most so many times.
+    pub fn nobody(alloc: Global, limit: usize, most: u32) -> Line
+        ensures { result ≡ nobody limit most }
+    {
+        Line {
+            wishes: Vec::new(alloc),
+            limit,
+            most,
+        }
+    }
+
+    /// How many wishes are in line.
+    pub fn len(&self) -> usize
+        ensures { result ≡ length self.now.wishes }
+    {
+        self.wishes.len()
+    }
+
+    /// Somebody asks, for one of these sets of instruments, whichever is free first, and for one of these seats. Its number is above those of all that
+    /// are in line. It takes memory.
+    pub fn ask(
+        &mut self,
+        ask: u64,
+        sets: &[u64],
+        seats: u32,
+        deadline: Option<u64>,
+    ) -> Result<(), NotInLine>
+        requires { Below ask self.old.wishes }
+        ensures asks { OnOk result (self.new ≡ asking self.old ask sets.now seats deadline) }
+        ensures room { OnOk result (length self.new.wishes ≤ self.new.limit) }
+        ensures refused { OnErr result (self.new ≡ self.old) }
+    {
+        if self.limit - self.wishes.len() < sets.len() {
+            return Err(NotInLine::Full);
+        }
+        match append(&mut self.wishes, ask, sets, seats, deadline) {
+            Ok(()) => Ok(()),
+            Err(_) => Err(NotInLine::NoMemory),
+        }
+    }
+
+    /// The ask isn't in line any more.
+    pub fn leave(&mut self, ask: u64)
+        ensures { self.new ≡ leaving self.old ask }
+    {
+        remove(&mut self.wishes, ask);
+    }
+
+    /// One whose time is over at this moment, if there is one: it isn't in line any more. Call it until it answers none.
+    pub fn take_late(&mut self, now: u64) -> Option<u64>
+        ensures { TakesLate now self.old result self.new }
+    {
+        let Some(ask) = first_late(&self.wishes, now) else {
+            return None;
+        };
+        remove(&mut self.wishes, ask);
+        Some(ask)
+    }
+
+    /// The first whose instruments are all free, and kept for nobody before it, and for whom a seat is free; and where it stands.
+    pub fn next(&self, in_use: u64, free: u32) -> Option<(usize, Seated)>
+        ensures { IsChosen self.now.most in_use free self.now.wishes result }
+    {
+        choose(&self.wishes, self.most, in_use, free)
+    }
+
+    /// It is let in.
+    pub fn go(&mut self, place: usize, ask: u64, free: u32)
+        requires { (in_use : ℕ) × (s : Seated) × IsNext self.old.most in_use free self.old.wishes place s × (s.ask ≡ ask) }
+        ensures { self.new ≡ with_wishes self.old (after free place self.old.wishes) }
+    {
+        go_at(&mut self.wishes, place, ask, free);
+    }
+
+    /// Lets in the first whose instruments are all free, and kept for nobody before it, and for whom a seat is free. Call it until it answers none.
+    pub fn let_in(&mut self, in_use: u64, free: u32) -> Option<Seated>
+        ensures { LetsIn in_use free self.old result self.new }
+    {
+        go_in(&mut self.wishes, self.most, in_use, free)
+    }
+}

@@ -1,0 +1,67 @@
+//! What somebody in line waits for.
+ghost use Rattle.std.specs.Prelude.{◌≡◌, ◌<◌, true};
+ghost use Rattle.bay_line.specs.Wishes.{is_ready, is_kept, is_late, passes, passed_by};
+
+/// A set of instruments, and the ask that wants it. An ask that takes one of several sets has several wishes, which stand next to one another.
+#[derive(Clone, Copy)]
+pub struct Wish {
+    /// The number of the ask.
+    pub ask: u64,
+    /// The instruments: bit i for instrument i.
+    pub needs: u64,
+    /// The seats that it may take: bit k for seat k.
+    pub seats: u32,
+    /// Until when it is to be let in.
+    pub deadline: Option<u64>,
+    /// How often it was passed by.
+    pub passed: u32,
+}
+
+/// Whether a seat is free for it.
+pub(crate) fn is_ready(wish: Wish, free: u32) -> bool
+    ensures { result ≡ is_ready free wish }
+{
+    wish.seats & free != 0
+}
+
+/// Whether its time is over.
+pub(crate) fn is_late(wish: Wish, now: u64) -> bool
+    ensures { result ≡ is_late now wish }
+{
+    match wish.deadline {
+        None => false,
+        Some(end) => end <= now,
+    }
+}
+
+/// Whether its instruments are kept for it from those behind it.
+pub(crate) fn is_kept(wish: Wish, most: u32, free: u32) -> bool
+    ensures { result ≡ is_kept most free wish }
+{
+    is_ready(wish, free) && most <= wish.passed
+}
+
+/// Whether it is passed by, if one behind it with these needs is let in.
+pub(crate) fn passes(wish: Wish, free: u32, needs: u64) -> bool
+    ensures { result ≡ passes free needs wish }
+{
+    is_ready(wish, free) && wish.needs & needs != 0
+}
+
+/// The same wish, after one behind it with these needs was let in.
+pub(crate) fn passed_by(wish: Wish, free: u32, needs: u64) -> Wish
+    requires { passes free needs wish ≡ true → wish.passed < 4294967295 }
+    ensures { result ≡ passed_by free needs wish }
+{
+    if passes(wish, free, needs) {
+        Wish {
+            ask: wish.ask,
+            needs: wish.needs,
+            seats: wish.seats,
+            deadline: wish.deadline,
+            passed: wish.passed + 1,
+        }
+    } else {
+        wish
+    }
+}
