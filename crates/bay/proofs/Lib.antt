@@ -6,3 +6,4 @@ pub mod Kept
 pub mod Ends
 pub mod Placed
 pub mod Own
+pub mod Sets

@@ -4,3 +4,4 @@ pub mod Bays
 pub mod Laws
 pub mod Crashes
 pub mod Own
+pub mod Frees

@@ -7,9 +7,11 @@ ghost use Rattle.session_layer.specs.declared.turning.Turned.{Turned};
 ghost use Rattle.journal_texts.specs.Texts.{journal_text};
 ghost use Rattle.seat_book.specs.Books.{reaching, TellsNext};
 ghost use Rattle.bay.specs.Following.{IsReached};
+ghost use Rattle.bay.specs.Frees.{AreFree, AreUsed};
 ghost use Rattle.bay.specs.Bays.{AreHeld, IsThroughAll, IsOpened, Asks, LetsGo, Leaves, TakesAway, Times, with_book, gave};
 
 use crate::following::follow;
+use crate::free::{free_seats, in_use};
 use crate::noting::position;
 use lab_journal::{NotTaken, take_journal};
 use lab_plan::{InstrumentNo, Verb};
@@ -110,7 +112,7 @@ impl Bay {
         commands: &[(InstrumentNo, Verb)],
     ) -> Result<u64, NotAsked>
         ensures asks { IfOk result (λ ask. Asks seat owner deadline commands.now ask self.old self.new) }
-        ensures refused { OnErr result (self.new.book ≡ self.old.book) }
+        ensures refused { OnErr result (self.new ≡ self.old) }
     {
         if self.book.len() <= seat {
             return Err(NotAsked::NoSeat);
@@ -216,6 +218,21 @@ impl Bay {
     {
         self.book.tell()
     }
+
+    /// The seats that are free: nobody has them, and their last sessions are over.
+    pub fn free_seats(&self) -> u32
+        ensures { AreFree self.now.lab.world self.now.book result }
+    {
+        free_seats(&self.lab, &self.book)
+    }
+
+    /// The instruments that sessions need that aren't over.
+    pub fn in_use(&self) -> u64
+        ensures { AreUsed self.now.lab.world result }
+    {
+        in_use(&self.lab)
+    }
+
     /// (That the lab is reached, and that whoever holds by the book holds in the lab, is learnt by looking.)
     pub(crate) fn look(&self)
         ensures reached { IsReached self.now.lab.world }

@@ -7,6 +7,7 @@
 
 mod bay;
 mod following;
+mod free;
 pub mod laws;
 mod noting;
 
