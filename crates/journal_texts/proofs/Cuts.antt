@@ -1,5 +1,5 @@
 -- A lab's journal that was cut anywhere has the first of its parts.
-use Rattle.std.proofs.Common.{◌≡◌, ◌≢◌, ◌⊎◌, ℕ, zero, suc, ◌+◌, ◌<◌, ◌≤◌, Bool, true, false, not, ◌&&◌, if◌then◌else◌, List, [], ◌∷◌, ◌++◌, length, map, take, get_or, refl, sym, ap, ◌∙◌, subst, inl, inr, ⊎_elim, arith, append_assoc, append-nil, length-append}
+use Rattle.std.proofs.Common.{◌≡◌, ◌≢◌, ℕ, zero, suc, ◌+◌, ◌<◌, ◌≤◌, Bool, true, false, not, ◌&&◌, if◌then◌else◌, List, [], ◌∷◌, ◌++◌, length, map, take, get_or, refl, sym, ap, ◌∙◌, subst, inl, inr, ⊎_elim, arith, append_assoc, append-nil, length-append}
 use Rattle.std.specs.Prelude.{codes}
 use Rattle.std.specs.List.{AllByRecursion, list_all}
 use Rattle.std.proofs.lemmas.Bool.{and_parts, cases_eq, ne_eqb}
@@ -25,11 +25,11 @@ use Rattle.step_texts.specs.StepTexts.{step_text}
 use Rattle.written_steps.proofs.TextLines.{IsOneLine, is_inside, closed, closed-append}
 use Rattle.journal_texts.specs.Texts.{Piece, lines_text, sum_line, piece_text}
 use Rattle.journal_texts.specs.More.{more_lines, begun, broken}
-use Rattle.journal_texts.specs.Parts.{Part, Took, Came, Broke, Said, plan_after, events_in, said, came_text, parts_text, AreTaken, IsHistory, IsLeftOf, AreFirst}
+use Rattle.journal_texts.specs.Parts.{Mark, Part, Took, Came, Broke, Said, Noted, plan_after, events_in, said, mark_line, marks_text, AreMarks, came_text, parts_text, AreTaken, IsHistory, IsLeftOf, AreFirst}
 use Rattle.journal_texts.specs.Reading.{CutsAreParts}
 use Rattle.journal_texts.proofs.SessionBack.{closed_all, AreShown}
 use Rattle.journal_texts.proofs.PieceLines.{inner_lines, piece_lines, end_lines, sum_one, plain_one}
-use Rattle.journal_texts.proofs.MoreLines.{more_all, more_closed, more_part, closing, body, body_end, broke_part, broken_closed, all_shown, of_body}
+use Rattle.journal_texts.proofs.MoreLines.{more_all, more_closed, more_part, closing, body, body_end, broke_part, broken_closed, all_shown, of_body, note_part, mark_plain, marks_closed}
 use Rattle.journal_texts.proofs.SamePlans.{alike_self}
 use Rattle.journal_texts.proofs.Parts.{base_text, parts_same, base_lines, AreNamed, named_parts, names_stay}
 use Rattle.journal_texts.proofs.Beginnings.{Ends, some_lines, no_feed, piece_closed, shown_one, both_one, steps_one, end_one, map_take, take_two, end_taken}
@@ -95,6 +95,9 @@ text_closed plan p (Broke j session many ∷ parts) =
     (λ i. own i ++ text_closed plan p parts i) ∙ sym (closed-append (broke_part p j session many) (base_lines plan p parts))
 text_closed plan p (Said words ∷ parts) =
     append_assoc (said words) (codes "\n") (base_text plan p parts) ∙ ap (λ l. said words ++ 10 ∷ l) (text_closed plan p parts)
+text_closed plan p (Noted marks ended ∷ parts) =
+    let own = begun_closed (marks_text marks) (map mark_line marks) ended (marks_closed marks ∙ same_closed (map mark_line marks)) in
+    (λ i. own i ++ text_closed plan p parts i) ∙ sym (closed-append (note_part marks ended) (base_lines plan p parts))
 
 all_one : (lines : List (List ℕ)) → AreShown lines → AllByRecursion IsOneLine lines
 all_one [] all = tt
@@ -103,6 +106,10 @@ all_one (line ∷ lines) all = (shown_one line all.0, all_one lines all.1)
 closing_one : (lines : List ℕ) (ended : Bool) → AllByRecursion IsOneLine (closing lines ended)
 closing_one lines true = (sum_one lines, tt)
 closing_one lines false = tt
+
+marks_one : (marks : List Mark) → AreMarks marks → AllByRecursion IsOneLine (map mark_line marks)
+marks_one [] all = tt
+marks_one (m ∷ marks) all = (plain_one (mark_line m) (mark_plain m all.0), marks_one marks all.1)
 
 each_one : (plan p : LabPlan) (parts : List Part) → IsPlan plan → IsPlan p → AreTaken p parts → AreNamed plan parts → AllByRecursion IsOneLine (base_lines plan p parts)
 each_one plan p [] first is taken named = tt
@@ -129,6 +136,10 @@ each_one plan p (Broke j session many ∷ parts) first is taken named =
     (refl, of_body IsOneLine p j session many (all_one (more_all p j session) (all_shown p j session is taken.0 may)))
     (each_one plan p parts first is taken.2 named)
 each_one plan p (Said words ∷ parts) first is taken named = (plain_one (said words) taken.0, each_one plan p parts first is taken.1 named)
+each_one plan p (Noted marks ended ∷ parts) first is taken named =
+    both_one (note_part marks ended) (base_lines plan p parts)
+    (refl, both_one (map mark_line marks) (closing (marks_text marks) ended) (marks_one marks taken.0) (closing_one (marks_text marks) ended))
+    (each_one plan p parts first is taken.1 named)
 
 -- ---- some lines of parts are the first of them
 
@@ -194,6 +205,30 @@ left_more plan p j session ended n =
           is_left = (refl, refl);
         }
 
+mark_take : (n : ℕ) (marks : List Mark) → take n (map mark_line marks) ≡ map mark_line (take n marks)
+mark_take zero marks = refl
+mark_take (suc n) [] = refl
+mark_take (suc n) (m ∷ marks) = ap (λ (l : List (List ℕ)). mark_line m ∷ l) (mark_take n marks)
+
+left_marks : (plan p : LabPlan) (marks : List Mark) (ended : Bool) (n : ℕ)
+    → IsLeft plan p (take n (map mark_line marks ++ closing (marks_text marks) ended)) (Noted marks ended)
+left_marks plan p marks ended n =
+    let own = map mark_line marks in
+    ⊎_elim
+    (λ is. let some = take n marks in record {
+      left = Noted some false;
+      lines_are = ap (λ (z : List (List ℕ)). codes "#steps" ∷ z) (is ∙ (mark_take n marks ∙ sym (append-nil (map mark_line some))))
+          ∙ sym (append-nil (note_part some false));
+      is_left = (n, refl);
+    })
+    (λ more. let end = end_taken more.0 ended (sum_line (marks_text marks)) in record {
+      left = Noted marks end.0;
+      lines_are = ap (λ (z : List (List ℕ)). codes "#steps" ∷ z) (more.1 ∙ ap (λ (z : List (List ℕ)). own ++ z) end.1)
+          ∙ sym (append-nil (note_part marks end.0));
+      is_left = (length marks, sym (take_all (length marks) marks (omega arith)));
+    })
+    (take_two n own (closing (marks_text marks) ended))
+
 take_take : (n m : ℕ) (l : List (List ℕ)) → (k : ℕ) × (take n (take m l) ≡ take k l)
 take_take zero m l = (0, refl)
 take_take (suc n) zero l = (0, refl)
@@ -256,6 +291,18 @@ first_parts plan p (Said words ∷ parts) (suc n) =
       lines_are = ap (λ (z : List (List ℕ)). said words ∷ z) later.lines_are;
       are_first = inl (refl, later.are_first);
     }
+first_parts plan p (Noted marks ended ∷ parts) (suc n) =
+    let rest = base_lines plan p parts in
+    let own = map mark_line marks ++ closing (marks_text marks) ended in
+    ⊎_elim
+    (λ is. only plan p (take n own) (codes "#steps" ∷ take n (own ++ rest)) (Noted marks ended) parts
+    (ap (λ (z : List (List ℕ)). codes "#steps" ∷ z) is) (left_marks plan p marks ended n))
+    (λ more. let later = first_parts plan p parts more.0 in record {
+      first = Noted marks ended ∷ later.first;
+      lines_are = ap (λ (z : List (List ℕ)). codes "#steps" ∷ z) (more.1 ∙ ap (λ (z : List (List ℕ)). own ++ z) later.lines_are);
+      are_first = inl (refl, later.are_first);
+    })
+    (take_two n own rest)
 
 -- ---- histories
 
@@ -265,6 +312,12 @@ taken_of plan s (Took piece ∷ parts) h = taken_of plan (after_all plan s piece
 taken_of plan s (Came j session ended ∷ parts) h = (h.0, h.1, taken_of (with_one_more plan j session) s parts h.3)
 taken_of plan s (Broke j session many ∷ parts) h = (h.0, h.1, taken_of plan s parts h.2)
 taken_of plan s (Said words ∷ parts) h = (h.0, taken_of plan s parts h.1)
+taken_of plan s (Noted marks ended ∷ parts) h = (h.0, taken_of plan s parts h.1)
+
+take_marks : (n : ℕ) (marks : List Mark) → AreMarks marks → AreMarks (take n marks)
+take_marks zero marks all = tt
+take_marks (suc n) [] all = tt
+take_marks (suc n) (m ∷ marks) all = (all.0, take_marks n marks all.1)
 
 one_left : (plan : LabPlan) (s : State) (part all : Part) (parts : List Part) → IsLeftOf part all → IsHistory plan s (all ∷ parts) → IsHistory plan s (part ∷ [])
 one_left plan s (Took a) (Took b) parts is h = (subst (IsLegalFrom plan s) (sym is.1) (legal_take plan s b.events is.0 h.0), tt)
@@ -282,6 +335,15 @@ one_left plan s (Broke j session many) (Took b) parts is h = absurd is
 one_left plan s (Took a) (Said words) parts is h = absurd is
 one_left plan s (Came j session ended) (Said words) parts is h = absurd is
 one_left plan s (Broke j session many) (Said words) parts is h = absurd is
+one_left plan s (Noted a ended) (Noted b whole) parts is h =
+    (subst AreMarks (sym is.1) (take_marks is.0 b h.0), tt)
+one_left plan s (Took a) (Noted marks ended) parts is h = absurd is
+one_left plan s (Came j session ended) (Noted marks whole) parts is h = absurd is
+one_left plan s (Broke j session many) (Noted marks ended) parts is h = absurd is
+one_left plan s (Noted marks ended) (Took b) parts is h = absurd is
+one_left plan s (Noted marks ended) (Came k other whole) parts is h = absurd is
+one_left plan s (Noted marks ended) (Broke k other more) parts is h = absurd is
+one_left plan s (Noted marks ended) (Said words) parts is h = absurd is
 one_left plan s (Said words) all parts is h = absurd is
 
 pub first_history : (plan : LabPlan) (s : State) (first parts : List Part) → AreFirst first parts → IsHistory plan s parts → IsHistory plan s first
@@ -294,6 +356,8 @@ first_history plan s (x ∷ first) (Came j session ended ∷ parts) (inl both) h
 first_history plan s (x ∷ first) (Broke j session many ∷ parts) (inl both) h =
     subst (λ (z : Part). IsHistory plan s (z ∷ first)) (sym both.0) (h.0, h.1, first_history plan s first parts both.1 h.2)
 first_history plan s (x ∷ first) (Said words ∷ parts) (inl both) h =
+    subst (λ (z : Part). IsHistory plan s (z ∷ first)) (sym both.0) (h.0, first_history plan s first parts both.1 h.1)
+first_history plan s (x ∷ first) (Noted marks ended ∷ parts) (inl both) h =
     subst (λ (z : Part). IsHistory plan s (z ∷ first)) (sym both.0) (h.0, first_history plan s first parts both.1 h.1)
 first_history plan s (x ∷ first) (y ∷ parts) (inr both) h =
     subst (λ (l : List Part). IsHistory plan s (x ∷ l)) (sym both.0) (one_left plan s x y parts both.1 h)
@@ -314,6 +378,14 @@ left_fewer (Broke j session many) (Took b) parts is = absurd is
 left_fewer (Took a) (Said words) parts is = absurd is
 left_fewer (Came j session ended) (Said words) parts is = absurd is
 left_fewer (Broke j session many) (Said words) parts is = absurd is
+left_fewer (Noted a ended) (Noted b whole) parts is = omega arith
+left_fewer (Took a) (Noted marks ended) parts is = absurd is
+left_fewer (Came j session ended) (Noted marks whole) parts is = absurd is
+left_fewer (Broke j session many) (Noted marks ended) parts is = absurd is
+left_fewer (Noted marks ended) (Took b) parts is = absurd is
+left_fewer (Noted marks ended) (Came k other whole) parts is = absurd is
+left_fewer (Noted marks ended) (Broke k other more) parts is = absurd is
+left_fewer (Noted marks ended) (Said words) parts is = absurd is
 left_fewer (Said words) all parts is = absurd is
 
 with_same : (part : Part) (first parts : List Part) → length (events_in first) ≤ length (events_in parts)
@@ -322,6 +394,7 @@ with_same (Took piece) first parts h = omega (arith, h, length-append piece.even
 with_same (Came j session ended) first parts h = h
 with_same (Broke j session many) first parts h = h
 with_same (Said words) first parts h = h
+with_same (Noted marks ended) first parts h = h
 
 pub first_fewer : (first parts : List Part) → AreFirst first parts → length (events_in first) ≤ length (events_in parts)
 first_fewer [] parts f = omega arith
@@ -338,6 +411,7 @@ state_after plan s (Took piece ∷ parts) = state_after plan (after_all plan s p
 state_after plan s (Came j session ended ∷ parts) = state_after (with_one_more plan j session) s parts
 state_after plan s (Broke j session many ∷ parts) = state_after plan s parts
 state_after plan s (Said words ∷ parts) = state_after plan s parts
+state_after plan s (Noted marks ended ∷ parts) = state_after plan s parts
 
 pub legal_both : (plan : LabPlan) (s : State) (a b : List Event) → IsLegalFrom plan s a → IsLegalFrom plan (after_all plan s a) b → IsLegalFrom plan s (a ++ b)
 legal_both plan s [] b l m = m
@@ -365,6 +439,7 @@ runs_by_last p o s before (Came j session ended ∷ parts) fit run h =
     runs_by_last q o s before parts (still_fits p q j longer o fit) (stays_legal p q j longer o s before fit run h.2) h.3
 runs_by_last p o s before (Broke j session many ∷ parts) fit run h = runs_by_last p o s before parts fit run h.2
 runs_by_last p o s before (Said words ∷ parts) fit run h = runs_by_last p o s before parts fit run h.1
+runs_by_last p o s before (Noted marks ended ∷ parts) fit run h = runs_by_last p o s before parts fit run h.1
 
 pub history_runs : (plan : LabPlan) (parts : List Part) → IsHistory plan (the_opening plan) parts
     → Runs (plan_after plan parts) (the_opening plan) (events_in parts) (state_after plan (the_opening plan) parts)
@@ -380,6 +455,7 @@ opening_stays p (Came j session ended ∷ parts) taken =
     opening_stays q parts taken.2 ∙ opens_the_same p q j (taken_is_longer p j session taken.0 taken.1)
 opening_stays p (Broke j session many ∷ parts) taken = opening_stays p parts taken.2
 opening_stays p (Said words ∷ parts) taken = opening_stays p parts taken.1
+opening_stays p (Noted marks ended ∷ parts) taken = opening_stays p parts taken.1
 
 pub history_legal : (plan : LabPlan) (parts : List Part) → IsHistory plan (the_opening plan) parts
     → IsLegalFrom (plan_after plan parts) (the_opening (plan_after plan parts)) (events_in parts)
@@ -420,6 +496,7 @@ plan_both plan (Took piece ∷ parts) more = plan_both plan parts more
 plan_both plan (Came j session ended ∷ parts) more = plan_both (with_one_more plan j session) parts more
 plan_both plan (Broke j session many ∷ parts) more = plan_both plan parts more
 plan_both plan (Said words ∷ parts) more = plan_both plan parts more
+plan_both plan (Noted marks ended ∷ parts) more = plan_both plan parts more
 
 pub events_both : (parts more : List Part) → events_in (parts ++ more) ≡ events_in parts ++ events_in more
 events_both [] more = refl
@@ -428,6 +505,7 @@ events_both (Took piece ∷ parts) more =
 events_both (Came j session ended ∷ parts) more = events_both parts more
 events_both (Broke j session many ∷ parts) more = events_both parts more
 events_both (Said words ∷ parts) more = events_both parts more
+events_both (Noted marks ended ∷ parts) more = events_both parts more
 
 pub text_both : (plan : LabPlan) (parts more : List Part) → parts_text plan (parts ++ more) ≡ parts_text plan parts ++ parts_text (plan_after plan parts) more
 text_both plan [] more = refl
@@ -444,6 +522,9 @@ text_both plan (Broke j session many ∷ parts) more =
 text_both plan (Said words ∷ parts) more =
     let own = said words ++ codes "\n" in
     ap (λ (l : List ℕ). own ++ l) (text_both plan parts more) ∙ sym (append_assoc own (parts_text plan parts) (parts_text (plan_after plan parts) more))
+text_both plan (Noted marks ended ∷ parts) more =
+    let own = begun (marks_text marks) ended in
+    ap (λ (l : List ℕ). own ++ l) (text_both plan parts more) ∙ sym (append_assoc own (parts_text plan parts) (parts_text (plan_after plan parts) more))
 
 pub history_both : (plan : LabPlan) (s : State) (parts more : List Part) → IsHistory plan s parts
     → IsHistory (plan_after plan parts) (state_after plan s parts) more → IsHistory plan s (parts ++ more)
@@ -452,3 +533,4 @@ history_both plan s (Took piece ∷ parts) more h next = (h.0, history_both plan
 history_both plan s (Came j session ended ∷ parts) more h next = (h.0, h.1, h.2, history_both (with_one_more plan j session) s parts more h.3 next)
 history_both plan s (Broke j session many ∷ parts) more h next = (h.0, h.1, history_both plan s parts more h.2 next)
 history_both plan s (Said words ∷ parts) more h next = (h.0, history_both plan s parts more h.1 next)
+history_both plan s (Noted marks ended ∷ parts) more h next = (h.0, history_both plan s parts more h.1 next)

@@ -19,10 +19,10 @@ use Rattle.script_reader.proofs.UpgradeForms.{name_parts, shown_behind}
 use Rattle.journal_texts.specs.Texts.{sum_line}
 use Rattle.journal_texts.specs.Sums.{is_begin, is_sum, wrong_from}
 use Rattle.journal_texts.specs.More.{more_command, more_lines, begun, first_lines, broken}
-use Rattle.journal_texts.specs.Parts.{said}
+use Rattle.journal_texts.specs.Parts.{Mark, Own, End, said, ArePlain, mark_line, mark_words, marks_text, AreMarks}
 use Rattle.journal_texts.specs.Additions.{Addition, is_more, is_inner, session_in, addition_of, additions_from}
 use Rattle.journal_texts.proofs.SessionBack.{begin_line, command_line, session_lines, closed_all, session_closed, CanSay, can_say, AreShown, session_shown, lines_closed, closed_both}
-use Rattle.journal_texts.proofs.PieceLines.{sum_then}
+use Rattle.journal_texts.proofs.PieceLines.{sum_then, plain_then}
 use Rattle.journal_texts.proofs.Read.{sum_skipped, sum_isnt_more, not_wrong, end_right}
 
 -- a line of the session, as the journal has it
@@ -428,3 +428,80 @@ pub said_right : (n : ℕ) (text words : List ℕ) (lines : List (List ℕ)) →
     → wrong_from n text (said words ∷ lines) ≡ None
 said_right n text words lines more =
     line_added n text (said words) lines refl (and_no (nat_le 5 (length (said words)))) ∙ more (n + 1) (text ++ said words ++ codes "\n")
+
+-- ---- lines of whoever keeps the lab
+
+abbrev pub note_part : List Mark → Bool → List (List ℕ)
+note_part marks ended = codes "#steps" ∷ (map mark_line marks ++ closing (marks_text marks) ended)
+
+pub mark_plain : (m : Mark) → ArePlain (mark_words m) → ArePlain (mark_line m)
+mark_plain (Own words) plain = plain
+mark_plain (End words) plain = plain
+
+pub marks_closed : (marks : List Mark) → marks_text marks ≡ closed_all (map mark_line marks)
+marks_closed [] = refl
+marks_closed (m ∷ marks) =
+    append_assoc (mark_line m) (codes "\n") (marks_text marks) ∙ ap (λ (l : List ℕ). mark_line m ++ 10 ∷ l) (marks_closed marks)
+
+marks_then : (marks : List Mark) (rest : List ℕ) → AreMarks marks → text_lines (marks_text marks ++ rest) ≡ map mark_line marks ++ text_lines rest
+marks_then [] rest all = refl
+marks_then (m ∷ marks) rest all =
+    ap text_lines (append_assoc (mark_line m ++ codes "\n") (marks_text marks) rest)
+    ∙ plain_then (mark_line m) (marks_text marks ++ rest) (mark_plain m all.0)
+    ∙ ap (λ (l : List (List ℕ)). mark_line m ∷ l) (marks_then marks rest all.1)
+
+pub noted_then : (marks : List Mark) (ended : Bool) (rest : List ℕ) → AreMarks marks
+    → text_lines (begun (marks_text marks) ended ++ rest) ≡ note_part marks ended ++ text_lines rest
+noted_then marks ended rest all =
+    let lines = marks_text marks in
+    let end : List ℕ = if ended then sum_line lines ++ codes "\n" else [] in
+    ap text_lines (append_assoc (codes "#steps\n" ++ lines) end rest ∙ append_assoc (codes "#steps\n") lines (end ++ rest))
+    ∙ one_more_line (codes "#steps") (lines ++ (end ++ rest)) refl
+    ∙ ap (λ (l : List (List ℕ)). codes "#steps" ∷ l) (marks_then marks (end ++ rest) all
+    ∙ ap (λ (l : List (List ℕ)). map mark_line marks ++ l) (closing_then lines ended rest)
+    ∙ sym (append_assoc (map mark_line marks) (closing lines ended) (text_lines rest)))
+
+mark_skipped : (plan : LabPlan) (m : Mark) → step_in plan (mark_line m) ≡ None
+mark_skipped plan (Own words) = hash_skipped plan (codes "own") words refl
+mark_skipped plan (End words) = hash_skipped plan (codes "end") words refl
+
+marks_skipped : (plan : LabPlan) (marks : List Mark) (end : List (List ℕ)) → AreSkipped plan end → AreSkipped plan (map mark_line marks ++ end)
+marks_skipped plan [] end all = all
+marks_skipped plan (m ∷ marks) end all = (mark_skipped plan m, marks_skipped plan marks end all)
+
+pub noted_skipped : (plan : LabPlan) (marks : List Mark) (ended : Bool) → AreSkipped plan (note_part marks ended)
+noted_skipped plan marks ended =
+    (word_skipped plan (codes "steps") refl, marks_skipped plan marks (closing (marks_text marks) ended) (closing_skipped plan (marks_text marks) ended))
+
+mark_no_more : (m : Mark) → is_more (mark_line m) ≡ false
+mark_no_more (Own words) = and_no (nat_le 6 (length (mark_line (Own words))))
+mark_no_more (End words) = and_no (nat_le 6 (length (mark_line (End words))))
+
+marks_no_more : (marks : List Mark) (end : List (List ℕ)) → AllByRecursion (λ (line : List ℕ). is_more line ≡ false) end
+    → AllByRecursion (λ (line : List ℕ). is_more line ≡ false) (map mark_line marks ++ end)
+marks_no_more [] end none = none
+marks_no_more (m ∷ marks) end none = (mark_no_more m, marks_no_more marks end none)
+
+pub noted_added : (n : ℕ) (marks : List Mark) (ended : Bool) (rest : List (List ℕ))
+    → additions_from n (note_part marks ended ++ rest) ≡ additions_from (n + length (note_part marks ended)) rest
+noted_added n marks ended rest =
+    none_added n (note_part marks ended) rest
+    (refl, marks_no_more marks (closing (marks_text marks) ended) (closing_no_more (marks_text marks) ended))
+
+mark_no_mark : (m : Mark) → (is_begin (mark_line m) ≡ false) × (is_sum (mark_line m) ≡ false)
+mark_no_mark (Own words) = (refl, and_no (nat_le 5 (length (mark_line (Own words)))))
+mark_no_mark (End words) = (refl, and_no (nat_le 5 (length (mark_line (End words)))))
+
+marks_no_marks : (marks : List Mark) → AreNoMarks (map mark_line marks)
+marks_no_marks [] = tt
+marks_no_marks (m ∷ marks) = (mark_no_mark m, marks_no_marks marks)
+
+pub noted_right : (n : ℕ) (text : List ℕ) (marks : List Mark) (ended : Bool) (lines : List (List ℕ))
+    → ((m : ℕ) (t : List ℕ) → wrong_from m t lines ≡ None) → wrong_from n text (note_part marks ended ++ lines) ≡ None
+noted_right n text marks ended lines more =
+    let all = map mark_line marks in
+    let sum = closing (marks_text marks) ended in
+    ap (λ (z : List (List ℕ)). wrong_from (n + 1) [] z) (append_assoc all sum lines)
+    ∙ lines_added (n + 1) [] all (sum ++ lines) (marks_no_marks marks)
+    ∙ ap (λ (t : List ℕ). wrong_from (n + 1 + length all) t (sum ++ lines)) (sym (marks_closed marks))
+    ∙ end_right (n + 1 + length all) (marks_text marks) ended lines more

@@ -30,12 +30,13 @@ use Rattle.journal_texts.specs.Sums.{wrong_sum, wrong_from, wrong_behind}
 use Rattle.journal_texts.specs.More.{more_command, more_lines, begun, broken}
 use Rattle.journal_texts.specs.Additions.{Addition, session_in, additions, additions_from, additions_behind}
 use Rattle.journal_texts.specs.Reading.{TextsStay}
-use Rattle.journal_texts.specs.Parts.{Part, Took, Came, Broke, Said, plan_after, events_in, said, came_text, parts_text, AreTaken}
+use Rattle.journal_texts.specs.Parts.{Part, Took, Came, Broke, Said, Noted, plan_after, events_in, said, marks_text, came_text, parts_text, AreTaken}
 use Rattle.journal_texts.proofs.PieceLines.{piece_lines, piece_then, plain_then}
 use Rattle.journal_texts.proofs.Read.{all_nameable, piece_list, head_passed, head_has_none, steps_there, piece_no_more, piece_right, split_all, map_both}
 use Rattle.journal_texts.proofs.SamePlans.{AreAlike, alike_self, alike_both, alike_more, text_same, all_back}
 use Rattle.journal_texts.proofs.MoreLines.{more_part, part_then, all_skipped, none_listed, none_added, part_added, addition_at, more_right}
 use Rattle.journal_texts.proofs.MoreLines.{broke_part, broken_then, broken_skipped, broken_added, broken_right, said_skipped, said_none, said_added, said_right}
+use Rattle.journal_texts.proofs.MoreLines.{note_part, noted_then, noted_skipped, noted_added, noted_right}
 
 -- ---- the texts of steps are those by the first plan
 
@@ -46,6 +47,7 @@ base_text plan p (Took piece ∷ parts) = piece_text plan piece ++ base_text pla
 base_text plan p (Came j session ended ∷ parts) = begun (more_lines p j session) ended ++ base_text plan (with_one_more p j session) parts
 base_text plan p (Broke j session many ∷ parts) = broken p j session many ++ base_text plan p parts
 base_text plan p (Said words ∷ parts) = (said words ++ codes "\n") ++ base_text plan p parts
+base_text plan p (Noted marks ended ∷ parts) = begun (marks_text marks) ended ++ base_text plan p parts
 
 line_same : (plan p : LabPlan) → AreAlike plan p → (x : Step) → step_line p x ≡ step_line plan x
 unfolding step_line
@@ -94,6 +96,7 @@ parts_same plan p [] alike taken = refl
 parts_same plan p (Took piece ∷ parts) alike taken = λ i. piece_same plan p alike piece i ++ parts_same plan p parts alike taken i
 parts_same plan p (Broke j session many ∷ parts) alike taken = ap (λ l. broken p j session many ++ l) (parts_same plan p parts alike taken.2)
 parts_same plan p (Said words ∷ parts) alike taken = ap (λ l. (said words ++ codes "\n") ++ l) (parts_same plan p parts alike taken.1)
+parts_same plan p (Noted marks ended ∷ parts) alike taken = ap (λ l. begun (marks_text marks) ended ++ l) (parts_same plan p parts alike taken.1)
 parts_same plan p (Came j session ended ∷ parts) alike taken =
     let q = with_one_more p j session in
     λ i. text_is p j session ended taken.0 (alike_more p j session taken.0 taken.1) i
@@ -107,6 +110,7 @@ base_lines plan p (Took piece ∷ parts) = piece_lines plan piece ++ base_lines 
 base_lines plan p (Came j session ended ∷ parts) = more_part p j session ended ++ base_lines plan (with_one_more p j session) parts
 base_lines plan p (Broke j session many ∷ parts) = broke_part p j session many ++ base_lines plan p parts
 base_lines plan p (Said words ∷ parts) = said words ∷ base_lines plan p parts
+base_lines plan p (Noted marks ended ∷ parts) = note_part marks ended ++ base_lines plan p parts
 
 -- the steps of the parts can be named
 abbrev pub AreNamed : LabPlan → List Part → Type 0
@@ -126,6 +130,7 @@ added_in plan n p (Came j session ended ∷ parts) =
     addition_at n p j session ∷ added_in plan (n + length (more_part p j session ended)) (with_one_more p j session) parts
 added_in plan n p (Broke j session many ∷ parts) = added_in plan (n + length (broke_part p j session many)) p parts
 added_in plan n p (Said words ∷ parts) = added_in plan (n + 1) p parts
+added_in plan n p (Noted marks ended ∷ parts) = added_in plan (n + length (note_part marks ended)) p parts
 
 -- no line of them goes on with a session
 none_goes_on : (plan p : LabPlan) (parts : List Part) → session_in (base_lines plan p parts) ≡ None
@@ -134,6 +139,7 @@ none_goes_on plan p (Took piece ∷ parts) = refl
 none_goes_on plan p (Came j session ended ∷ parts) = refl
 none_goes_on plan p (Broke j session many ∷ parts) = refl
 none_goes_on plan p (Said words ∷ parts) = said_none words (base_lines plan p parts)
+none_goes_on plan p (Noted marks ended ∷ parts) = refl
 
 module _ (plan : LabPlan) (is_plan : IsPlan plan) where
   lines_of : (p : LabPlan) (parts : List Part) → IsPlan p → AreTaken p parts → AreNamed plan parts → text_lines (base_text plan p parts) ≡ base_lines plan p parts
@@ -151,6 +157,8 @@ module _ (plan : LabPlan) (is_plan : IsPlan plan) where
       ∙ ap (λ l. broke_part p j session many ++ l) (lines_of p parts is taken.2 named)
   lines_of p (Said words ∷ parts) is taken named =
       plain_then (said words) (base_text plan p parts) taken.0 ∙ ap (λ l. said words ∷ l) (lines_of p parts is taken.1 named)
+  lines_of p (Noted marks ended ∷ parts) is taken named =
+      noted_then marks ended (base_text plan p parts) taken.0 ∙ ap (λ l. note_part marks ended ++ l) (lines_of p parts is taken.1 named)
 
   -- ---- the steps
 
@@ -160,6 +168,7 @@ module _ (plan : LabPlan) (is_plan : IsPlan plan) where
   steps_in n p (Came j session ended ∷ parts) = steps_in (n + length (more_part p j session ended)) (with_one_more p j session) parts
   steps_in n p (Broke j session many ∷ parts) = steps_in (n + length (broke_part p j session many)) p parts
   steps_in n p (Said words ∷ parts) = steps_in (n + 1) p parts
+  steps_in n p (Noted marks ended ∷ parts) = steps_in (n + length (note_part marks ended)) p parts
 
   list_is : (n : ℕ) (p : LabPlan) (parts : List Part) → IsPlan p → AreTaken p parts → AreNamed plan parts
       → list_of plan n (base_lines plan p parts) ≡ map placed (steps_in n p parts)
@@ -181,6 +190,9 @@ module _ (plan : LabPlan) (is_plan : IsPlan plan) where
       ∙ list_is (n + length (broke_part p j session many)) p parts is taken.2 named
   list_is n p (Said words ∷ parts) is taken named =
       none_listed plan n (said words ∷ []) (base_lines plan p parts) (said_skipped plan words, tt) ∙ list_is (n + 1) p parts is taken.1 named
+  list_is n p (Noted marks ended ∷ parts) is taken named =
+      none_listed plan n (note_part marks ended) (base_lines plan p parts) (noted_skipped plan marks ended)
+      ∙ list_is (n + length (note_part marks ended)) p parts is taken.1 named
 
   abbrev step : StepLine → Step
   step line = line.step
@@ -195,6 +207,7 @@ module _ (plan : LabPlan) (is_plan : IsPlan plan) where
   steps_are n p (Came j session ended ∷ parts) = steps_are (n + length (more_part p j session ended)) (with_one_more p j session) parts
   steps_are n p (Broke j session many ∷ parts) = steps_are (n + length (broke_part p j session many)) p parts
   steps_are n p (Said words ∷ parts) = steps_are (n + 1) p parts
+  steps_are n p (Noted marks ended ∷ parts) = steps_are (n + length (note_part marks ended)) p parts
 
   -- ---- the sums
 
@@ -206,6 +219,7 @@ module _ (plan : LabPlan) (is_plan : IsPlan plan) where
   sums_right p (Broke j session many ∷ parts) n text =
       broken_right n text p j session many (base_lines plan p parts) (λ m t. sums_right p parts m t)
   sums_right p (Said words ∷ parts) n text = said_right n text words (base_lines plan p parts) (λ m t. sums_right p parts m t)
+  sums_right p (Noted marks ended ∷ parts) n text = noted_right n text marks ended (base_lines plan p parts) (λ m t. sums_right p parts m t)
 
   -- ---- the sessions
 
@@ -221,6 +235,8 @@ module _ (plan : LabPlan) (is_plan : IsPlan plan) where
       broken_added n p j session many (base_lines plan p parts) (none_goes_on plan p parts)
       ∙ additions_are (n + length (broke_part p j session many)) p parts
   additions_are n p (Said words ∷ parts) = said_added n words (base_lines plan p parts) ∙ additions_are (n + 1) p parts
+  additions_are n p (Noted marks ended ∷ parts) =
+      noted_added n marks ended (base_lines plan p parts) ∙ additions_are (n + length (note_part marks ended)) p parts
 
 -- ---- all of it
 
@@ -239,6 +255,7 @@ after_alike plan p (Came j session ended ∷ parts) alike taken =
     after_alike plan (with_one_more p j session) parts (next_alike plan p j session alike taken.0 taken.1) taken.2
 after_alike plan p (Broke j session many ∷ parts) alike taken = after_alike plan p parts alike taken.2
 after_alike plan p (Said words ∷ parts) alike taken = after_alike plan p parts alike taken.1
+after_alike plan p (Noted marks ended ∷ parts) alike taken = after_alike plan p parts alike taken.1
 
 -- the steps of legal events can be named by the first plan
 pub names_stay : (plan : LabPlan) (parts : List Part) → AreTaken plan parts

@@ -17,9 +17,9 @@ use Rattle.live_lab.specs.Labs.{LabView}
 use Rattle.live_lab.specs.Adding.{with_all, longer_by, AddsText}
 use Rattle.script_reader.specs.More.{AreGranted, SessionsAreGranted}
 use Rattle.written_steps.specs.StepLists.{script_head}
-use Rattle.journal_texts.specs.Texts.{Piece, piece_text, journal_text}
+use Rattle.journal_texts.specs.Texts.{Piece, piece_text, journal_text, summed}
 use Rattle.journal_texts.specs.More.{more_text}
-use Rattle.journal_texts.specs.Parts.{Part, Took, Came, Said, plan_after, events_in, said, ArePlain, parts_text, IsHistory}
+use Rattle.journal_texts.specs.Parts.{Mark, Part, Took, Came, Said, Noted, plan_after, events_in, said, ArePlain, marks_text, AreMarks, parts_text, IsHistory}
 use Rattle.journal_texts.proofs.Parts.{texts_stay}
 use Rattle.journal_texts.proofs.Cuts.{taken_of, opening_stays, state_after, after_both, history_runs, plan_both, events_both, text_both, history_both}
 use Rattle.lab_journal.specs.Taking.{IsOpenedKept, without_kept}
@@ -188,6 +188,19 @@ commented plan parts w words is plain = (
   text_both plan parts (Said words ∷ []) ∙ ap (λ (l : List ℕ). parts_text plan parts ++ l) (append-nil (said words ++ codes "\n")),
 )
 
+noted : (plan : LabPlan) (parts : List Part) (w : WorldView) (marks : List Mark) → IsWritten plan parts w → AreMarks marks
+    → IsWritten plan (parts ++ Noted marks true ∷ []) w
+    × (parts_text plan (parts ++ Noted marks true ∷ []) ≡ parts_text plan parts ++ summed (marks_text marks))
+noted plan parts w marks is plain = (
+  record {
+    history = history_both plan (the_opening plan) parts (Noted marks true ∷ []) is.history (plain, tt);
+    same_plan = is.same_plan ∙ sym (plan_both plan parts (Noted marks true ∷ []));
+    opening = is.opening;
+    past = is.past ∙ ap (λ (l : List Event). l ++ w.kept.events) (sym (events_both parts (Noted marks true ∷ []) ∙ append-nil (events_in parts)));
+  },
+  text_both plan parts (Noted marks true ∷ []) ∙ ap (λ (l : List ℕ). parts_text plan parts ++ l) (append-nil (summed (marks_text marks))),
+)
+
 took : (plan : LabPlan) (parts : List Part) (x : LabView) → IsWritten plan parts x.world → IsReachedBy x.world.plan x.world.opening x.world.past x.world.state x.world.counts
     → (more : List Part) × IsWritten plan more (without_kept x).world
     × (parts_text plan more ≡ parts_text plan parts ++ journal_text x.world.plan x.world.kept.events)
@@ -229,4 +242,4 @@ resumed plan script parts text cut n x is =
     }
 
 pub stays_written : SessionsAreGranted → StaysWritten
-stays_written grant = record { opened = opened; done = done; added = added; added_text = added_text grant; commented = commented; took = took; resumed = resumed }
+stays_written grant = record { opened = opened; done = done; added = added; added_text = added_text grant; commented = commented; noted = noted; took = took; resumed = resumed }

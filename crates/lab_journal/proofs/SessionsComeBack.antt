@@ -17,9 +17,9 @@ use Rattle.written_steps.proofs.NamesBack.{job_back}
 use Rattle.journal_texts.specs.Lines.{AreWholeLines}
 use Rattle.journal_texts.specs.Texts.{sum_line, piece_text}
 use Rattle.journal_texts.specs.More.{more_command, more_lines, begun, broken}
-use Rattle.journal_texts.specs.Parts.{Part, Took, Came, Broke, Said, plan_after, events_in, said, came_text, parts_text, AreTaken}
+use Rattle.journal_texts.specs.Parts.{Mark, Part, Took, Came, Broke, Said, Noted, plan_after, events_in, said, mark_line, marks_text, came_text, parts_text, AreTaken}
 use Rattle.journal_texts.proofs.PieceLines.{piece_lines}
-use Rattle.journal_texts.proofs.MoreLines.{more_part, broke_part, body, broken_closed, addition_at}
+use Rattle.journal_texts.proofs.MoreLines.{more_part, broke_part, body, broken_closed, addition_at, note_part}
 use Rattle.journal_texts.proofs.Parts.{added_in, ReadsParts, parts_read}
 use Rattle.journal_texts.proofs.Cuts.{taken_of, first_fewer, history_legal, cuts_are_parts}
 use Rattle.journal_texts.proofs.SessionBack.{closed_all, session_back}
@@ -35,6 +35,7 @@ all_added plan p n [] is taken = refl
 all_added plan p n (Took piece ∷ parts) is taken = all_added plan p (n + length (piece_lines plan piece)) parts is taken
 all_added plan p n (Broke j session many ∷ parts) is taken = all_added plan p (n + length (broke_part p j session many)) parts is taken.2
 all_added plan p n (Said words ∷ parts) is taken = all_added plan p (n + 1) parts is taken.1
+all_added plan p n (Noted marks ended ∷ parts) is taken = all_added plan p (n + length (note_part marks ended)) parts is taken.1
 all_added plan p n (Came j session ended ∷ parts) is taken =
     let q = with_one_more p j session in
     let a = addition_at n p j session in
@@ -67,6 +68,10 @@ fed_closed line (next ∷ lines) =
 fed_broken : (plan : LabPlan) (j : ℕ) (session : SessionPlan) (many : ℕ) → Fed (broken plan j session many)
 fed_broken plan j session many = subst Fed (sym (broken_closed plan j session many)) (fed_closed (codes "#steps") (take many (body plan j session)))
 
+keeps_marks : (marks : List Mark) → Keeps (marks_text marks)
+keeps_marks [] = inl refl
+keeps_marks (m ∷ marks) = inr (fed_kept (mark_line m ++ codes "\n") (marks_text marks) (mark_line m, refl) (keeps_marks marks))
+
 keeps_parts : (plan : LabPlan) (parts : List Part) → Keeps (parts_text plan parts)
 keeps_parts plan [] = inl refl
 keeps_parts plan (Took piece ∷ parts) = inr (fed_kept (piece_text plan piece) (parts_text plan parts) (fed_piece plan piece) (keeps_parts plan parts))
@@ -77,6 +82,10 @@ keeps_parts plan (Came j session ended ∷ parts) =
 keeps_parts plan (Broke j session many ∷ parts) =
     inr (fed_kept (broken plan j session many) (parts_text plan parts) (fed_broken plan j session many) (keeps_parts plan parts))
 keeps_parts plan (Said words ∷ parts) = inr (fed_kept (said words ++ codes "\n") (parts_text plan parts) (said words, refl) (keeps_parts plan parts))
+keeps_parts plan (Noted marks ended ∷ parts) =
+    inr (fed_kept (begun (marks_text marks) ended) (parts_text plan parts)
+    (fed_kept (codes "#steps\n" ++ marks_text marks) (if ended then sum_line (marks_text marks) ++ codes "\n" else [])
+    (fed_kept (codes "#steps\n") (marks_text marks) (codes "#steps", refl) (keeps_marks marks)) (keeps_sum (marks_text marks) ended)) (keeps_parts plan parts))
 
 fed_parts : (plan : LabPlan) (script : List ℕ) (parts : List Part) → Fed (script_head script ++ parts_text plan parts)
 fed_parts plan script parts = fed_kept (script_head script) (parts_text plan parts) (fed_head script) (keeps_parts plan parts)

@@ -10,9 +10,9 @@ use Rattle.interleaving.specs.Adding.{WorldAdds}
 use Rattle.live_lab.specs.Labs.{LabView}
 use Rattle.live_lab.specs.Adding.{AddsText}
 use Rattle.written_steps.specs.StepLists.{script_head}
-use Rattle.journal_texts.specs.Texts.{journal_text}
+use Rattle.journal_texts.specs.Texts.{journal_text, summed}
 use Rattle.journal_texts.specs.More.{more_text}
-use Rattle.journal_texts.specs.Parts.{Part, Came, Said, plan_after, events_in, said, ArePlain, parts_text, IsHistory}
+use Rattle.journal_texts.specs.Parts.{Mark, Part, Came, Said, Noted, plan_after, events_in, said, ArePlain, marks_text, AreMarks, parts_text, IsHistory}
 use Rattle.lab_journal.specs.Taking.{IsOpenedKept, without_kept}
 use Rattle.lab_journal.specs.Laws.{ComesBackCut}
 use Rattle.lab_journal.specs.Resumed.{IsResumed}
@@ -61,6 +61,10 @@ pub record StaysWritten : Type 0 where
   pub commented : (plan : LabPlan) (parts : List Part) (w : WorldView) (words : List ℕ) → IsWritten plan parts w → ArePlain words
       → IsWritten plan (parts ++ Said words ∷ []) w
       × (parts_text plan (parts ++ Said words ∷ []) ≡ parts_text plan parts ++ (said words ++ codes "\n"))
+  -- so are lines of whoever keeps the lab, in a text of their own
+  pub noted : (plan : LabPlan) (parts : List Part) (w : WorldView) (marks : List Mark) → IsWritten plan parts w → AreMarks marks
+      → IsWritten plan (parts ++ Noted marks true ∷ []) w
+      × (parts_text plan (parts ++ Noted marks true ∷ []) ≡ parts_text plan parts ++ summed (marks_text marks))
   -- what is taken is one part more, with the text of `lab_journal`, if anything is
   pub took : (plan : LabPlan) (parts : List Part) (x : LabView) → IsWritten plan parts x.world → IsThere x.world
       → (more : List Part) × IsWritten plan more (without_kept x).world
