@@ -1,10 +1,9 @@
 -- One edge of a job that is due.
-use Rattle.std.proofs.Common.{◌≡◌, ◌≢◌, ℕ, ◌<◌, ◌≤◌, Bool, true, false, List, [], ◌∷◌, length, slice_index_or, slice_set, length-set, refl, sym, ap, ◌∙◌, subst, inl, inr, arith}
+use Rattle.std.proofs.Common.{◌≡◌, ◌≢◌, ℕ, ◌<◌, ◌≤◌, Bool, true, false, List, ◌∷◌, length, slice_index_or, slice_set, length-set, sym, ap, ◌∙◌, subst, inl, inr, arith}
 use Rattle.std.proofs.lemmas.Bool.{false≢true, cases_eq}
 use Rattle.lab_plan.specs.LabPlan.{LabPlan}
 use Rattle.legal_steps.specs.declared.end.End.{End}
 use Rattle.legal_steps.specs.declared.edge_state.EdgeState.{EdgeState}
-use Rattle.legal_steps.specs.declared.event.Event.{Event}
 use Rattle.legal_steps.specs.declared.event.Event.TheVariants.{Look}
 use Rattle.legal_steps.specs.State.{State, Seat, IsOwn, edge, seat, dining, end_of, bottles_at}
 use Rattle.legal_steps.specs.Legal.{after, fork_mark_seen}
@@ -19,14 +18,11 @@ use Rattle.settling.specs.Attending.{AttendsEdge, with_note, woken_at}
 use Rattle.settling.proofs.Deeds.{alone_visit}
 use Rattle.settling.proofs.DueThere.{edge_there, seat_there}
 use Rattle.settling.proofs.CalmAfter.{nothing_after}
+use Rattle.settling.proofs.Unfelt.{AreUnfelt, alike_nothing, unfelt_alike}
 use Rattle.turns.proofs.Frame.{own_seat, as_many_seats}
 use Rattle.settling.proofs.Local.{IsNear, near_all, visit_at, marked_by_look, looked_by_look}
-use Rattle.settling.proofs.Still.{still_at, seat_still_at, still_nothing}
+use Rattle.settling.proofs.Still.{still_at, seat_still_at, nothing_with, still_nothing}
 use Rattle.settling.proofs.Marks.{added, noted_still, noted_now, note_fits, note_jobs, note_only, woken_fits, woken_out, woken_due, woken_notes, woken_only, woken_stays, woken_kept, same_job}
-
-nil_of : (l : List Event) → length l ≡ 0 → l ≡ []
-nil_of [] h = refl
-nil_of (x ∷ l) h = absurd (omega (arith, h))
 
 module _ (old new : WorldView) (due : DueView) (j e n : ℕ) (fit : Fits old.plan old.state) (own : IsOwn old.plan j e)
     (marked : AreMarked old.plan old.state due) (is : is_due due j ≡ true) (v : VisitsEdge old j e n new) where
@@ -123,43 +119,38 @@ module _ (old new : WorldView) (due : DueView) (j e n : ℕ) (fit : Fits old.pla
     stays = λ none. absurd (omega (arith, some, none));
   }
 
-  -- ---- nothing was
+  -- ---- nothing was that the neighbour could wait for
 
-  module _ (none : n ≡ 0) where
-    no_events : events_of v.moves j e ≡ []
-    no_events = nil_of (events_of v.moves j e) (sym v.many ∙ none)
+  module _ (unfelt : AreUnfelt v.moves) where
+    -- the job at the other end has as little to do there as before
+    across : (k : ℕ) → k ≢ j → IsOwn plan k e → HasNothingAt plan s k e → HasNothingAt plan t k e
+    across k apart other h = alike_nothing plan s t k e (near.seats k apart)
+        (unfelt_alike plan u j k e v.moves (edge_there plan s j e fit own) inside_after own other apart v.due unfelt) h
 
-    only_looked : t ≡ u
-    only_looked = ap (after_all plan u) no_events
+    anywhere : (k f : ℕ) → IsOwn plan k f → HasNothingAt plan s k f → HasNothingAt plan t k f
+    anywhere k f mine h = elim (cases_eq f e) [
+      | inr other ↦ elsewhere k f other h
+      | inl same ↦ elim (cases_eq k j) [
+        | inl me ↦ subst (λ (z : ℕ × ℕ). HasNothingAt plan t z.0 z.1) (λ i. (sym me i, sym same i)) nothing_here
+        | inr apart ↦ subst (HasNothingAt plan t k) (sym same) (across k apart (subst (IsOwn plan k) same mine) (subst (HasNothingAt plan s k) same h))
+      ]
+    ]
 
-    edge_stays : (f : ℕ) → edge t f ≡ edge s f
-    edge_stays f = ap (λ (z : State). edge z f) only_looked
-
-    pub edge_calm : AttendsEdge old due j e n new (with_note due here e true)
-    edge_calm = record {
+    pub edge_unfelt : AttendsEdge old due j e n new (with_note due here e true)
+    edge_unfelt = record {
       alone = alone_visit old new j e n v;
       marked = marked_new (with_note due here e true) (record {
         of_plan = note_fits plan due here e true marked.of_plan;
         others = λ k job out.
             let before : is_due due k ≡ false = sym (ap (λ (l : List Bool). slice_index_or l k true) (note_jobs due here e true)) ∙ out in
             let apart : k ≢ j = λ z. false≢true (sym before ∙ (ap (is_due due) z ∙ is)) in
-            still_nothing plan s t k (near.seats k apart) (λ f mine. edge_stays f) (marked.others k job before);
-        only = λ k f x mine is other. let before = marked.only k f x mine (sym (note_only due here e true k) ∙ is) other in elim (cases_eq f e) [
-          | inr apart ↦ elsewhere k f apart before
-          | inl same ↦ elim (cases_eq k j) [
-            | inl me ↦ subst (λ (z : ℕ × ℕ). HasNothingAt plan t z.0 z.1) (λ i. (sym me i, sym same i)) nothing_here
-            | inr apart ↦ seat_still_at plan s t k (near.seats k apart) f (edge_stays f) before
-          ]
-        ];
-        noted = λ k f mine noted. elim (cases_eq f e) [
-          | inr other ↦ elim (added due here (end_of plan k f) e f noted) [ inl z ↦ absurd (other z.1) | inr before ↦ elsewhere k f other (marked.noted k f mine before) ]
-          | inl same ↦ elim (cases_eq k j) [
-            | inl me ↦ subst (λ (z : ℕ × ℕ). HasNothingAt plan t z.0 z.1) (λ i. (sym me i, sym same i)) nothing_here
-            | inr apart ↦ elim (added due here (end_of plan k f) e f noted) [
-              | inl z ↦ absurd (apart (same_job plan j k e own (subst (IsOwn plan k) same mine) (ap (end_of plan k) (sym same) ∙ z.0)))
-              | inr before ↦ seat_still_at plan s t k (near.seats k apart) f (edge_stays f) (marked.noted k f mine before)
-            ]
-          ]
+            let h = marked.others k job before in
+            nothing_with plan s t k (near.seats k apart) (λ f mine. anywhere k f mine (h.edges f mine)) h;
+        only = λ k f x mine is other. anywhere k f mine (marked.only k f x mine (sym (note_only due here e true k) ∙ is) other);
+        noted = λ k f mine noted. elim (added due here (end_of plan k f) e f noted) [
+          | inr before ↦ anywhere k f mine (marked.noted k f mine before)
+          | inl z ↦ subst (λ (z : ℕ × ℕ). HasNothingAt plan t z.0 z.1)
+              (λ i. (sym (same_job plan j k e own (subst (IsOwn plan k) z.1 mine) (ap (end_of plan k) (sym z.1) ∙ z.0)) i, sym z.1 i)) nothing_here
         ];
       });
       still_due = ap (λ (l : List Bool). slice_index_or l j true) (note_jobs due here e true) ∙ is;

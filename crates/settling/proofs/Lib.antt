@@ -11,6 +11,8 @@ pub mod Waking
 pub mod Deeds
 pub mod Seen
 pub mod CalmAfter
+pub mod Unfelt
+pub mod Drunk
 pub mod Attended
 pub mod Rested
 pub mod MarkedOn

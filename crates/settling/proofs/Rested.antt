@@ -26,6 +26,8 @@ use Rattle.reasons.proofs.Looks.{alike_looked, marked_looked}
 use Rattle.settling.specs.Doing.{IsOwnAct, ActsAlone}
 use Rattle.settling.specs.Left.{DueView, AreMarked, HasNothingToDo, KeepsMarks, IsBySelf, NobodyIsDue, is_due, is_noted, only_at}
 use Rattle.settling.specs.Resting.{DoesAlone, Rests}
+use Rattle.settling.specs.Visiting.{DrinksAlone}
+use Rattle.settling.proofs.Drunk.{seated, marked_drunk}
 use Rattle.settling.specs.Attending.{AttendsEdge, AttendsEdges, Attends, not_due}
 use Rattle.settling.proofs.Worlds.{reached_sound}
 use Rattle.settling.proofs.Deeds.{alone_none, alone_both, alone_act, act_is, none_legal, few_alone}
@@ -120,6 +122,16 @@ module _ (old mid : WorldView) (d0 d1 : DueView) (j n : ℕ) (job : IsJob old.pl
   job_acted new d2 acts keeps = record {
     alone = alone_both old mid new n 1 a.alone (alone_act mid new j acts.0 acts.1 acts.2);
     marked = marked_on mid new (acts.0 ∷ []) (IsBySelf j) d1 d2 acts.2 ((act_is mid.plan mid.state j acts.0 acts.1).self, tt) keeps a.marked;
+    unmarked = λ h. absurd (omega (arith, h));
+    stays = λ h. absurd (omega (arith, h));
+  }
+
+  -- it drank
+  pub job_drank : (new : WorldView) → DrinksAlone mid j true new → Attends (λ i. i ≡ j) old d0 (n + 1) new d1
+  job_drank new drinks = record {
+    alone = alone_both old mid new n 1 a.alone (alone_act mid new j (Drink j) (inl ((drinks.0, tt), refl)) drinks.1);
+    marked = subst (λ (z : LabPlan × State). AreMarked z.0 z.1 d1) (λ i. (sym drinks.1.same_plan i, sym drinks.1.run.leads i))
+        (marked_drunk mid.plan mid.state j (seated mid.state j drinks.0.1) d1 a.still_due a.marked);
     unmarked = λ h. absurd (omega (arith, h));
     stays = λ h. absurd (omega (arith, h));
   }

@@ -37,7 +37,7 @@ moved_away here thing h = ap (λ z. is_at here (opposite z)) h ∙ away here whe
   away Higher = refl
 
 -- where the fork isn't there is no mark
-seen_gone : (d : Dining) (here : End) (x : EdgeState) → is_at here x.fork ≡ false → fork_mark_seen d here x ≡ false
+pub seen_gone : (d : Dining) (here : End) (x : EdgeState) → is_at here x.fork ≡ false → fork_mark_seen d here x ≡ false
 unfolding fork_mark_seen
 seen_gone Eating here x h = ap (λ b. b && x.dirty) h
 seen_gone Thinking here x h = ap (λ b. b && (not x.dirty || not (is_at here x.token))) h
@@ -52,7 +52,7 @@ seen_soiled : (d : Dining) (here : End) (x : EdgeState) → d ≡ Eating → is_
 seen_soiled d here x eats h dirty = ap (λ z. fork_mark_seen z here x) eats ∙ eating_seen here x h dirty
 
 -- only the fork, whether it is dirty, and its token count
-seen_alike : (d : Dining) (here : End) (x y : EdgeState) → y.fork ≡ x.fork → y.dirty ≡ x.dirty → y.token ≡ x.token → fork_mark_seen d here x ≡ fork_mark_seen d here y
+pub seen_alike : (d : Dining) (here : End) (x y : EdgeState) → y.fork ≡ x.fork → y.dirty ≡ x.dirty → y.token ≡ x.token → fork_mark_seen d here x ≡ fork_mark_seen d here y
 unfolding fork_mark_seen
 seen_alike Eating here x y f t k = λ i. is_at here (sym f i) && sym t i
 seen_alike Thinking here x y f t k = λ i. is_at here (sym f i) && (not (sym t i) || not (is_at here (sym k i)))

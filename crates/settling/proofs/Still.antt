@@ -28,9 +28,10 @@ module _ (plan : LabPlan) (s t : State) (k : ℕ) (same : seat t k ≡ seat s k)
   seat_still_at e is h = still_at plan s t k e is (ap (λ (x : Seat). x.phase) same) (ap (λ (x : Seat). slice_index_or x.fork_marks e false) same)
       (ap (λ (x : Seat). slice_index_or x.bottle_marks e 0) same) h
 
-  pub still_nothing : ((e : ℕ) → IsOwn plan k e → edge t e ≡ edge s e) → HasNothingToDo plan s k → HasNothingToDo plan t k
-  still_nothing edges_same h = record {
-    edges = λ e own. seat_still_at e (edges_same e own) (h.edges e own);
+  -- its own acts are legal just as they were
+  pub nothing_with : ((e : ℕ) → IsOwn plan k e → HasNothingAt plan t k e) → HasNothingToDo plan s k → HasNothingToDo plan t k
+  nothing_with edges h = record {
+    edges = edges;
     no_drink = λ may. h.no_drink (
       may.0,
       sym (ap (λ (x : Seat). x.phase.drinking) same) ∙ may.1,
@@ -42,3 +43,6 @@ module _ (plan : LabPlan) (s t : State) (k : ℕ) (same : seat t k ≡ seat s k)
         ((e : ℕ) → IsOwn plan k e → slice_index_or x.fork_marks e false ≡ true)) same may);
     no_hunger = λ may. h.no_hunger (subst (λ (x : Seat). IsJob plan k × (x.phase.dining ≡ Thinking) × (x.phase.drinking ≡ Thirsty)) same may);
   }
+
+  pub still_nothing : ((e : ℕ) → IsOwn plan k e → edge t e ≡ edge s e) → HasNothingToDo plan s k → HasNothingToDo plan t k
+  still_nothing edges_same h = nothing_with (λ e own. seat_still_at e (edges_same e own) (h.edges e own)) h

@@ -1,5 +1,5 @@
 //! Visits of edges: a look, and then what is due there.
-ghost use Rattle.std.specs.Prelude.{◌≡◌, ◌≤◌, ◌∷◌, [], true, length};
+ghost use Rattle.std.specs.Prelude.{◌≡◌, ◌≤◌, ◌∷◌, [], ℕ, true, length};
 ghost use Rattle.lab_plan.specs.LabPlan.{edges_of};
 ghost use Rattle.legal_steps.specs.declared.event.Event.TheVariants.{Look};
 ghost use Rattle.legal_steps.specs.State.{IsOwn, edge as edge_at, end_of};
@@ -9,6 +9,7 @@ ghost use Rattle.interleaving.specs.World.{LeadsTo};
 ghost use Rattle.edge_word.specs.Moves.{events_of, on};
 ghost use Rattle.dining_layer.specs.Turned.{turned};
 ghost use Rattle.settling.specs.Doing.{VisitsEdge, VisitsEdges};
+ghost use Rattle.settling.specs.Visiting.{Moves};
 
 use crate::moves::moves_by;
 use dining_layer::seen_from;
@@ -52,12 +53,22 @@ fn step_if<A: Allocator>(world: &mut World<A>, wanted: bool, event: Event)
     }
 }
 
-/// Does the moves, which are legal one after another. Answers how many there are.
-fn move_at<A: Allocator>(world: &mut World<A>, job: JobNo, edge: EdgeNo, moves: EdgeMoves) -> u32
-    requires { IsLegalFrom world.old.plan world.old.state (events_of moves job edge) }
-    ensures leads { LeadsTo world.old (events_of moves job edge) world.new }
-    ensures many { result ≡ length (events_of moves job edge) }
+/// How many moves there are.
+pub(crate) fn number_of(moves: EdgeMoves) -> u32
+    ensures many { (j e : ℕ) → result ≡ length (events_of moves j e) }
     ensures few { result ≤ 5 }
+{
+    u32::from(moves.give_fork)
+        + u32::from(moves.give_bottles != 0)
+        + u32::from(moves.ask_fork)
+        + u32::from(moves.ask_bottles != 0)
+        + u32::from(moves.soil)
+}
+
+/// Does the moves, which are legal one after another.
+fn move_at<A: Allocator>(world: &mut World<A>, job: JobNo, edge: EdgeNo, moves: EdgeMoves)
+    requires { IsLegalFrom world.old.plan world.old.state (events_of moves job edge) }
+    ensures { LeadsTo world.old (events_of moves job edge) world.new }
 {
     let gives = moves.give_bottles != 0;
     let asks = moves.ask_bottles != 0;
@@ -70,18 +81,12 @@ fn move_at<A: Allocator>(world: &mut World<A>, job: JobNo, edge: EdgeNo, moves: 
     step_if(world, moves.ask_fork, Event::AskFork(job, edge));
     step_if(world, asks, Event::AskBottles(job, edge, moves.ask_bottles));
     step_if(world, moves.soil, Event::Soil(job, edge));
-    u32::from(moves.give_fork)
-        + u32::from(gives)
-        + u32::from(moves.ask_fork)
-        + u32::from(asks)
-        + u32::from(moves.soil)
 }
 
-/// Looks at the edge, and does all moves that are due there. Answers how many there were.
-pub fn visit<A: Allocator>(world: &mut World<A>, job: JobNo, edge: EdgeNo) -> u32
+/// Looks at the edge, and does all moves that are due there. Answers which.
+pub(crate) fn moved_at<A: Allocator>(world: &mut World<A>, job: JobNo, edge: EdgeNo) -> EdgeMoves
     requires { IsOwn world.old.plan job edge }
-    ensures visits { VisitsEdge world.old job edge result world.new }
-    ensures few { result ≤ 5 }
+    ensures { Moves world.old job edge result world.new }
 {
     let plan = world.plan();
     let seen = world.edge(edge);
@@ -90,9 +95,20 @@ pub fn visit<A: Allocator>(world: &mut World<A>, job: JobNo, edge: EdgeNo) -> u3
     let moves = moves_by(plan, job, phase, edge, mine);
     look(world, job, edge, seen, mine);
     if moves.is_empty() {
-        return 0;
+        return moves;
     }
-    move_at(world, job, edge, moves)
+    move_at(world, job, edge, moves);
+    moves
+}
+
+/// Looks at the edge, and does all moves that are due there. Answers how many there were.
+pub fn visit<A: Allocator>(world: &mut World<A>, job: JobNo, edge: EdgeNo) -> u32
+    requires { IsOwn world.old.plan job edge }
+    ensures visits { VisitsEdge world.old job edge result world.new }
+    ensures few { result ≤ 5 }
+{
+    let moves = moved_at(world, job, edge);
+    number_of(moves)
 }
 
 /// Visits each edge of the job, in the order of the plan. Answers at how many something was done.

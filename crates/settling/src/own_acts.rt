@@ -5,6 +5,7 @@ ghost use Rattle.legal_steps.specs.declared.event.Event.TheVariants.{Sit, Leave,
 ghost use Rattle.legal_steps.specs.State.{IsOwn, fork_mark as fork_mark_at};
 ghost use Rattle.legal_steps.specs.Legal.{IsJob, May, HasNeeded, HasNeededAt, IsMarkedAll};
 ghost use Rattle.settling.specs.Doing.{IsOwnAct, ActsAlone, act_of};
+ghost use Rattle.settling.specs.Visiting.{DrinksAlone};
 
 use crate::due::Due;
 use crate::guesses::{bare_at, dry_at, is_bare, is_dry};
@@ -142,16 +143,29 @@ fn may_sit<A: Allocator>(world: &World<A>, due: &mut Due<A>, job: JobNo) -> bool
     world.job(job).dining == Dining::Hungry && is_marked_all(world, due, job)
 }
 
-/// The job's first act that needs no word from its owner and is legal.
+/// Drinks, if that is legal. Answers whether it was.
+pub(crate) fn drink_alone<A: Allocator>(world: &mut World<A>, due: &mut Due<A>, job: JobNo) -> bool
+    requires { IsJob world.old.plan job }
+    ensures drinks { DrinksAlone world.old job result world.new }
+    ensures same { due.new ≡ due.old }
+{
+    if !may_drink(world, due, job) {
+        return false;
+    }
+    if world.step(Event::Drink(job)).is_err() {
+        unreachable!()
+    }
+    true
+}
+
+/// The first act of a job that may not drink that needs no word from its owner and is legal.
 fn own_act<A: Allocator>(world: &World<A>, due: &mut Due<A>, job: JobNo) -> Option<Event>
-    requires { IsJob world.now.plan job }
+    requires job { IsJob world.now.plan job }
+    requires no_drink { ¬ May world.now.plan world.now.state (Drink job) }
     ensures first { IsOwnAct world.now.plan world.now.state job (act_of result) }
     ensures may { IfSome result (λ event. May world.now.plan world.now.state event) }
     ensures same { due.new ≡ due.old }
 {
-    if may_drink(world, due, job) {
-        return Some(Event::Drink(job));
-    }
     if may_leave(world, due, job) {
         return Some(Event::Leave(job));
     }
@@ -166,7 +180,8 @@ fn own_act<A: Allocator>(world: &World<A>, due: &mut Due<A>, job: JobNo) -> Opti
 
 /// Does it. Answers whether there was one.
 pub(crate) fn act_alone<A: Allocator>(world: &mut World<A>, due: &mut Due<A>, job: JobNo) -> bool
-    requires { IsJob world.old.plan job }
+    requires job { IsJob world.old.plan job }
+    requires no_drink { ¬ May world.old.plan world.old.state (Drink job) }
     ensures acts { ActsAlone world.old job result world.new }
     ensures same { due.new ≡ due.old }
 {

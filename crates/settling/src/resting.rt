@@ -1,18 +1,27 @@
 //! Doing all that is left to do of itself.
-ghost use Rattle.std.specs.Prelude.{◌≡◌, ◌+◌, ◌↔◌, ◌≤◌, true, false, IfSome, IsTrue};
+ghost use Rattle.std.specs.Prelude.{◌≡◌, ◌+◌, ◌≤◌, true, IfSome};
 ghost use Rattle.legal_steps.specs.State.{IsOwn};
 ghost use Rattle.legal_steps.specs.Legal.{IsJob};
 ghost use Rattle.settling.specs.Left.{AreMarked, IsDueOf, NobodyIsDue, is_due as is_due_now, only_at as only_at_of};
 ghost use Rattle.settling.specs.Resting.{Rests};
 ghost use Rattle.settling.specs.Attending.{AttendsEdge, AttendsEdges, Attends};
+ghost use Rattle.settling.specs.Visiting.{are_unfelt as are_unfelt_ones};
 
 use crate::due::{Due, clear, is_due, is_noted, note, only_at, wake_at, wake_self};
-use crate::edge_visits::visit;
-use crate::own_acts::{act_alone, is_own};
+use crate::edge_visits::{moved_at, number_of};
+use crate::own_acts::{act_alone, drink_alone, is_own};
+use edge_word::EdgeMoves;
 use interleaving::World;
 use lab_plan::{EdgeNo, JobNo};
 use legal_steps::End;
 use std::alloc::Allocator;
+
+/// Whether the moves are none, or the fork is soiled: nothing that the neighbour could wait for.
+fn are_unfelt(moves: EdgeMoves) -> bool
+    ensures { result ≡ are_unfelt_ones moves }
+{
+    !moves.give_fork && moves.give_bottles == 0 && !moves.ask_fork && moves.ask_bottles == 0
+}
 
 /// Visits the edge, unless it is noted that the job has nothing to do there; once it was visited, that is noted. Answers how many moves
 /// were done.
@@ -32,14 +41,14 @@ fn attend_edge<A: Allocator>(
     if is_noted(due, here, edge) {
         return 0;
     }
-    let moved = visit(world, job, edge);
-    if moved == 0 {
+    let moves = moved_at(world, job, edge);
+    if are_unfelt(moves) {
         note(due, here, edge);
-        return 0;
+        return number_of(moves);
     }
     wake_at(world.plan(), due, edge);
     note(due, here, edge);
-    moved
+    number_of(moves)
 }
 
 /// The edge at which alone the job may have something to do, if it is known.
@@ -102,6 +111,9 @@ fn attend<A: Allocator>(world: &mut World<A>, due: &mut Due<A>, job: JobNo) -> u
     ensures few { result ≤ 2481 }
 {
     let done = attend_edges(world, due, job);
+    if drink_alone(world, due, job) {
+        return done + 1;
+    }
     if act_alone(world, due, job) {
         wake_self(world.plan(), due, job);
         return done + 1;

@@ -7,8 +7,8 @@ use Rattle.edge_word.specs.Moves.{on}
 use Rattle.settling.proofs.Worlds.{leads_then}
 use Rattle.settling.proofs.edge_visits.move_at.Goals as goal
 
-pub returns-clause-leads : goal.returns-clause-leads
-returns-clause-leads g c =
+pub returns : goal.returns
+returns g c =
     let m : EdgeMoves = c.args.moves in
     let j = c.args.job in
     let e = c.args.edge in

@@ -1,4 +1,4 @@
-use Rattle.std.proofs.Common.{List, [], ◌∷◌, length, sym, ap, ◌∙◌, subst}
+use Rattle.std.proofs.Common.{List, [], ◌∷◌, sym, ap, ◌∙◌, subst}
 use Rattle.lab_plan.specs.LabPlan.{LabPlan}
 use Rattle.legal_steps.specs.declared.event.Event.{Event}
 use Rattle.legal_steps.specs.declared.event.Event.TheVariants.{Look}
@@ -9,7 +9,7 @@ use Rattle.turns.proofs.Idle.{no_events}
 use Rattle.dining_layer.specs.Turned.{turned}
 use Rattle.settling.proofs.Worlds.{leads_both}
 use Rattle.settling.proofs.Looked.{due_in, legal_in}
-use Rattle.settling.proofs.edge_visits.visit.Goals as goal
+use Rattle.settling.proofs.edge_visits.moved_at.Goals as goal
 
 pub look-requires-clause-mine : goal.look-requires-clause-mine
 look-requires-clause-mine g c =
@@ -30,8 +30,8 @@ move_at-requires g c =
     (due_in w j e c.plan-plan.result.now c.job-phase.result c.seen_from-mine.result c.moves_by-moves.result reached c.requires p c.moves_by-moves.ensures
     c.job-phase.ensures.phase mine)
 
-pub returns-then-is_empty-clause-visits : goal.returns-then-is_empty-clause-visits
-returns-then-is_empty-clause-visits g c =
+pub returns-then-is_empty : goal.returns-then-is_empty
+returns-then-is_empty g c =
     let w : WorldView = c.args.world.now in
     let j = c.args.job in
     let e = c.args.edge in
@@ -40,15 +40,13 @@ returns-then-is_empty-clause-visits g c =
     let mine = c.seen_from-mine.ensures ∙ (λ i. turned (p i) e (here i) (c.edge-seen.ensures i)) in
     let none = no_events c.moves_by-moves.result j e (sym c.is_empty.ensures ∙ c.if-is_empty.true) in
     record {
-      moves = c.moves_by-moves.result;
       due = due_in w j e c.plan-plan.result.now c.job-phase.result c.seen_from-mine.result c.moves_by-moves.result c.plan-plan.ensures.reached c.requires p
           c.moves_by-moves.ensures c.job-phase.ensures.phase mine;
-      many = sym (ap (λ (l : List Event). length l) none);
       leads = subst (λ (l : List Event). LeadsTo w (Look j e (edge w.state e) ∷ l) c.look.new.world) (sym none) c.look.ensures;
     }
 
-pub returns-clause-visits : goal.returns-clause-visits
-returns-clause-visits g c =
+pub returns : goal.returns
+returns g c =
     let w : WorldView = c.args.world.now in
     let j = c.args.job in
     let e = c.args.edge in
@@ -56,10 +54,8 @@ returns-clause-visits g c =
     let here = c.of.ensures.end ∙ ap (λ (q : LabPlan). end_of q j e) p in
     let mine = c.seen_from-mine.ensures ∙ (λ i. turned (p i) e (here i) (c.edge-seen.ensures i)) in
     record {
-      moves = c.moves_by-moves.result;
       due = due_in w j e c.plan-plan.result.now c.job-phase.result c.seen_from-mine.result c.moves_by-moves.result c.plan-plan.ensures.reached c.requires p
           c.moves_by-moves.ensures c.job-phase.ensures.phase mine;
-      many = c.move_at.ensures.many;
       leads = leads_both w c.look.new.world c.move_at.new.world (Look j e (edge w.state e) ∷ []) (events_of c.moves_by-moves.result j e) c.look.ensures
-          c.move_at.ensures.leads;
+          c.move_at.ensures;
     }
