@@ -24,6 +24,10 @@ nobody jobs = record { places = replicate jobs None; calls = 0; most = 0 }
 abbrev pub IsOutside : List (Option Asker) → ℕ → Type 0
 IsOutside places j = (a : Asker) × (place places j ≡ Some a)
 
+-- none of them is
+abbrev pub NobodyIsThere : List (Option Asker) → Type 0
+NobodyIsThere places = (j : ℕ) → j < length places → place places j ≡ None
+
 abbrev pub since_of : Option Asker → ℕ
 since_of (Some a) = a.since
 since_of None = 0

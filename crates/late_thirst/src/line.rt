@@ -1,12 +1,24 @@
 //! The line outside.
-ghost use Rattle.std.specs.Prelude.{◌≡◌, ◌<◌, ◌≤◌, ◌+◌, min, length, IfOk};
-ghost use Rattle.late_thirst.specs.Outside.{nobody, place};
+ghost use Rattle.std.specs.Prelude.{◌≡◌, ◌<◌, ◌≤◌, ◌+◌, min, length, IfOk, IsTrue};
+ghost use Rattle.late_thirst.specs.Outside.{nobody, place, NobodyIsThere};
 ghost use Rattle.late_thirst.specs.Lines.{with_most, counted, with_place, asking, LineLetsIn};
 
 use crate::asker::Asker;
 use crate::entries::let_in;
 use std::alloc::{AllocError, Global};
 use std::marker::Model;
+
+/// Whether nobody is outside.
+fn is_empty(places: &[Option<Asker>]) -> bool
+    ensures { IsTrue result → NobodyIsThere places.now }
+{
+    for place in places {
+        if place.is_some() {
+            return false;
+        }
+    }
+    true
+}
 
 /// Who waits outside.
 #[derive(Drop)]
@@ -87,6 +99,9 @@ impl Line {
     pub fn let_in(&mut self, ready: u32, used: u64) -> u32
         ensures { LineLetsIn ready used self.old result self.new }
     {
+        if is_empty(&self.places) {
+            return 0;
+        }
         let_in(&mut self.places, self.most, ready, used)
     }
 }
