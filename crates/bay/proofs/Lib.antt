@@ -7,3 +7,5 @@ pub mod Ends
 pub mod Placed
 pub mod Own
 pub mod Sets
+pub mod BelowNext
+pub mod LinedOn

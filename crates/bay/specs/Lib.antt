@@ -5,3 +5,5 @@ pub mod Laws
 pub mod Crashes
 pub mod Own
 pub mod Frees
+pub mod Lined
+pub mod LinedLaws

@@ -1,10 +1,11 @@
 //! The bay, and its calls.
-ghost use Rattle.std.specs.Prelude.{◌≡◌, IsTrue, IfOk, OnOk, OnErr};
+ghost use Rattle.std.specs.Prelude.{◌≡◌, ◌<◌, length, IsTrue, IfOk, OnOk, OnErr};
 ghost use Rattle.legal_steps.specs.State.{IsDrinking, phase};
 ghost use Rattle.legal_steps.specs.Legal.{IsJob};
 ghost use Rattle.live_lab.specs.Ends.{EndsHeld};
 ghost use Rattle.session_layer.specs.declared.turning.Turned.{Turned};
 ghost use Rattle.journal_texts.specs.Texts.{journal_text};
+ghost use Rattle.seat_book.specs.Seats.{seat_at};
 ghost use Rattle.seat_book.specs.Books.{reaching, TellsNext};
 ghost use Rattle.bay.specs.Following.{IsReached};
 ghost use Rattle.bay.specs.Frees.{AreFree, AreUsed};
@@ -17,7 +18,7 @@ use lab_journal::{NotTaken, take_journal};
 use lab_plan::{InstrumentNo, Verb};
 use legal_steps::Drinking;
 use live_lab::{AddRefusal, Lab, Release};
-use seat_book::{Book, End, Outcome, Stage};
+use seat_book::{Book, End, Outcome, Seat, Stage};
 use std::alloc::{AllocError, Global};
 use std::marker::Model;
 
@@ -217,6 +218,21 @@ impl Bay {
         ensures same { self.new ≡ with_book self.old self.new.book }
     {
         self.book.tell()
+    }
+
+    /// How many seats there are.
+    pub fn seats(&self) -> usize
+        ensures { result ≡ length self.now.book.seats }
+    {
+        self.book.len()
+    }
+
+    /// A seat, and who has it.
+    pub fn seat(&self, place: usize) -> Seat
+        requires { place < length self.now.book.seats }
+        ensures { result ≡ seat_at self.now.book.seats place }
+    {
+        self.book.seat(place)
     }
 
     /// The seats that are free: nobody has them, and their last sessions are over.

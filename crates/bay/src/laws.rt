@@ -2,6 +2,7 @@
 ghost use Rattle.bay.specs.Laws.{HasOneOwner, ToldHoldsOn, AnswersInTime};
 ghost use Rattle.bay.specs.Crashes.{CallsKeepHolds, OpenedIsKept, ToldOutlivesCrash, PlacesStay};
 ghost use Rattle.bay.specs.Own.{HoldsItsOwn, OpenedIsAtLast};
+ghost use Rattle.bay.specs.LinedLaws.{LinedToldHoldsOn, LinedCallsAreWaited};
 
 use crate::bay::Bay;
 use legal_steps::laws::one_holder;
@@ -49,4 +50,14 @@ pub fn places_stay()
 pub fn holds_its_own()
     ensures always { HoldsItsOwn }
     ensures at_first { OpenedIsAtLast }
+{}
+
+/// In a bay with a line, too, whoever was told that it holds goes on to hold, whoever is let in.
+pub fn lined_told_holds_on()
+    ensures { LinedToldHoldsOn }
+{}
+
+/// Each call of a bay with a line is a time of waiting for whoever is in line behind it: so the line's law bounds by how many it is passed.
+pub fn lined_calls_are_waited()
+    ensures { LinedCallsAreWaited }
 {}

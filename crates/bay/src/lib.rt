@@ -9,6 +9,8 @@ mod bay;
 mod following;
 mod free;
 pub mod laws;
+mod lined;
 mod noting;
 
 pub use bay::{Bay, NotAsked, NotHeld};
+pub use lined::LinedBay;

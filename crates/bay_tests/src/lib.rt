@@ -4,4 +4,6 @@
 #[cfg(test)]
 mod days;
 #[cfg(test)]
+mod lined;
+#[cfg(test)]
 mod rows;
