@@ -1,5 +1,5 @@
 -- What is written of a lab stays its parts.
-use Rattle.std.proofs.Common.{◌≡◌, ◌≢◌, ℕ, ◌+◌, ◌-◌, ◌<◌, true, List, [], ◌∷◌, ◌++◌, length, refl, sym, ap, ◌∙◌, subst, arith, append_assoc, append-nil, length-append, length-set, get_or-set_same}
+use Rattle.std.proofs.Common.{◌≡◌, ◌≢◌, ℕ, ◌+◌, ◌-◌, ◌<◌, true, List, [], ◌∷◌, ◌++◌, length, refl, sym, ap, ◌∙◌, subst, inl, inr, arith, append_assoc, append-nil, length-append, length-set, get_or-set_same}
 use Rattle.std.specs.Prelude.{codes, None, Ok}
 use Rattle.lab_plan.specs.LabPlan.{LabPlan, SessionPlan, JobPlan, no_job, job_at, sessions}
 use Rattle.lab_plan.specs.Longer.{with_session, with_one_more, more_refusal}
@@ -23,6 +23,7 @@ use Rattle.journal_texts.specs.Parts.{Mark, Part, Took, Came, Said, Noted, plan_
 use Rattle.journal_texts.proofs.Parts.{texts_stay}
 use Rattle.journal_texts.proofs.Cuts.{taken_of, opening_stays, state_after, after_both, history_runs, plan_both, events_both, text_both, history_both}
 use Rattle.lab_journal.specs.Taking.{IsOpenedKept, without_kept}
+use Rattle.lab_journal.specs.Room.{HasMoreRoom}
 use Rattle.lab_journal.specs.Resumed.{IsResumed}
 use Rattle.lab_journal.specs.Laws.{ComesBackCut}
 use Rattle.lab_journal.specs.Writing.{all_came, more_texts, IsWritten, StaysWritten}
@@ -241,5 +242,15 @@ resumed plan script parts text cut n x is =
       past = there.past ∙ ap (λ (l : List Event). events_in cut.first ++ l) (sym there.kept);
     }
 
+roomier : (plan : LabPlan) (parts : List Part) (x y : LabView) → IsWritten plan parts x.world → HasMoreRoom x y → IsWritten plan parts y.world
+roomier plan parts x y is (inl same) = subst (λ (z : LabView). IsWritten plan parts z.world) (sym same) is
+roomier plan parts x y is (inr more) =
+    subst (λ (z : LabView). IsWritten plan parts z.world) (sym more.5) (record {
+      history = is.history;
+      same_plan = is.same_plan;
+      opening = is.opening;
+      past = is.past ∙ ap (λ (l : List Event). events_in parts ++ l) more.3;
+    })
+
 pub stays_written : SessionsAreGranted → StaysWritten
-stays_written grant = record { opened = opened; done = done; added = added; added_text = added_text grant; commented = commented; noted = noted; took = took; resumed = resumed }
+stays_written grant = record { opened = opened; done = done; roomier = roomier; added = added; added_text = added_text grant; commented = commented; noted = noted; took = took; resumed = resumed }

@@ -14,6 +14,7 @@ use Rattle.journal_texts.specs.Texts.{journal_text, summed}
 use Rattle.journal_texts.specs.More.{more_text}
 use Rattle.journal_texts.specs.Parts.{Mark, Part, Came, Said, Noted, plan_after, events_in, said, ArePlain, marks_text, AreMarks, parts_text, IsHistory}
 use Rattle.lab_journal.specs.Taking.{IsOpenedKept, without_kept}
+use Rattle.lab_journal.specs.Room.{HasMoreRoom}
 use Rattle.lab_journal.specs.Laws.{ComesBackCut}
 use Rattle.lab_journal.specs.Resumed.{IsResumed}
 
@@ -46,6 +47,8 @@ pub record StaysWritten : Type 0 where
   -- events that a call does change none, unless one is left out for want of room
   pub done : (plan : LabPlan) (parts : List Part) (v w : WorldView) (events : List Event) → IsWritten plan parts v → LeadsTo v events w → w.kept.whole ≡ true
       → IsWritten plan parts w
+  -- nor does room that is made for more
+  pub roomier : (plan : LabPlan) (parts : List Part) (x y : LabView) → IsWritten plan parts x.world → HasMoreRoom x y → IsWritten plan parts y.world
   -- a session that is added is one part more, with the text of `lab_more`
   pub added : (plan : LabPlan) (parts : List Part) (v w : WorldView) (j : ℕ) (session : SessionPlan) → IsWritten plan parts v → IsThere v
       → j < length v.plan.jobs → WorldAdds v j session (Ok tt) w
