@@ -9,3 +9,4 @@ pub mod Own
 pub mod Sets
 pub mod BelowNext
 pub mod LinedOn
+pub mod Apart

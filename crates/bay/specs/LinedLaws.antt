@@ -3,6 +3,11 @@ use Rattle.std.specs.Prelude.{◌≡◌, ◌≢◌, ◌⊎◌, ℕ, List, [], �
 use Rattle.bay_line.specs.declared.wish.Wish.{Wish}
 use Rattle.bay_line.specs.Lines.{LineView, Below, TakesLate, leaving}
 use Rattle.bay_line.specs.Bounds.{Waits}
+use Rattle.legal_steps.specs.declared.phase.Drinking.TheVariants.{Thirsty}
+use Rattle.legal_steps.specs.State.{drinking}
+use Rattle.legal_steps.specs.Legal.{IsJob, Needs}
+use Rattle.interleaving.specs.World.{WorldView}
+use Rattle.live_lab.specs.Rests.{IsAtRest}
 use Rattle.seat_book.specs.Seats.{stage_at}
 use Rattle.bay.specs.Bays.{BayView, AreHeld, LetsGo, Times}
 use Rattle.bay.specs.Laws.{WasTold, HoldsOn}
@@ -43,3 +48,12 @@ abbrev pub LinedCallsAreWaited : Type 0
 LinedCallsAreWaited =
     (ask : ℕ) (old new : LinedView) → Below old.next old.line.wishes → IsLinedCall old new → IsInLine ask new.line.wishes
     → (n : ℕ) × Waits ask n old.line new.line
+
+-- no two jobs in a session need one instrument
+abbrev pub AreApart : WorldView → Type 0
+AreApart w = (j k i : ℕ) → Needs w.plan w.state j i → Needs w.plan w.state k i → j ≡ k
+
+-- Where sessions need nothing in common, nobody is thirsty once the lab is at rest: each that is let in holds at once, since nobody is whose instruments aren't
+-- free
+abbrev pub ApartNobodyIsThirsty : Type 0
+ApartNobodyIsThirsty = (w : WorldView) → IsAtRest w → AreApart w → (j : ℕ) → IsJob w.plan j → drinking w.state j ≢ Thirsty

@@ -2,7 +2,7 @@
 ghost use Rattle.bay.specs.Laws.{HasOneOwner, ToldHoldsOn, AnswersInTime};
 ghost use Rattle.bay.specs.Crashes.{CallsKeepHolds, OpenedIsKept, ToldOutlivesCrash, PlacesStay};
 ghost use Rattle.bay.specs.Own.{HoldsItsOwn, OpenedIsAtLast};
-ghost use Rattle.bay.specs.LinedLaws.{LinedToldHoldsOn, LinedCallsAreWaited};
+ghost use Rattle.bay.specs.LinedLaws.{LinedToldHoldsOn, LinedCallsAreWaited, ApartNobodyIsThirsty};
 
 use crate::bay::Bay;
 use legal_steps::laws::one_holder;
@@ -60,4 +60,9 @@ pub fn lined_told_holds_on()
 /// Each call of a bay with a line is a time of waiting for whoever is in line behind it: so the line's law bounds by how many it is passed.
 pub fn lined_calls_are_waited()
     ensures { LinedCallsAreWaited }
+{}
+
+/// Where sessions need nothing in common, nobody is thirsty once the lab is at rest.
+pub fn apart_nobody_is_thirsty()
+    ensures { ApartNobodyIsThirsty }
 {}
