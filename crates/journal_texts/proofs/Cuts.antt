@@ -31,7 +31,7 @@ use Rattle.journal_texts.proofs.SessionBack.{closed_all, AreShown}
 use Rattle.journal_texts.proofs.PieceLines.{inner_lines, piece_lines, end_lines, sum_one, plain_one}
 use Rattle.journal_texts.proofs.MoreLines.{more_all, more_closed, more_part, closing, body, body_end, broke_part, broken_closed, all_shown, of_body, note_part, mark_plain, marks_closed}
 use Rattle.journal_texts.proofs.SamePlans.{alike_self}
-use Rattle.journal_texts.proofs.Parts.{base_text, parts_same, base_lines, AreNamed, named_parts, names_stay}
+use Rattle.journal_texts.proofs.Parts.{base_text, parts_same, base_lines, AreNamed, named_parts, names_stay, after_alike}
 use Rattle.journal_texts.proofs.Beginnings.{Ends, some_lines, no_feed, piece_closed, shown_one, both_one, steps_one, end_one, map_take, take_two, end_taken}
 
 -- ---- a text: its whole lines, and a rest
@@ -534,3 +534,71 @@ history_both plan s (Came j session ended ∷ parts) more h next = (h.0, h.1, h.
 history_both plan s (Broke j session many ∷ parts) more h next = (h.0, h.1, history_both plan s parts more h.2 next)
 history_both plan s (Said words ∷ parts) more h next = (h.0, history_both plan s parts more h.1 next)
 history_both plan s (Noted marks ended ∷ parts) more h next = (h.0, history_both plan s parts more h.1 next)
+
+-- ---- a cut behind some parts
+
+pub first_behind : (safe left later : List Part) → AreFirst left later → AreFirst (safe ++ left) (safe ++ later)
+first_behind [] left later f = f
+first_behind (part ∷ safe) left later f = inl (refl, first_behind safe left later f)
+
+pub taken_both : (plan : LabPlan) (safe later : List Part) → AreTaken plan (safe ++ later) → AreTaken plan safe × AreTaken (plan_after plan safe) later
+taken_both plan [] later t = (tt, t)
+taken_both plan (Took piece ∷ safe) later t = taken_both plan safe later t
+taken_both plan (Came j session ended ∷ safe) later t =
+    let more = taken_both (with_one_more plan j session) safe later t.2 in ((t.0, t.1, more.0), more.1)
+taken_both plan (Broke j session many ∷ safe) later t = let more = taken_both plan safe later t.2 in ((t.0, t.1, more.0), more.1)
+taken_both plan (Said words ∷ safe) later t = let more = taken_both plan safe later t.1 in ((t.0, more.0), more.1)
+taken_both plan (Noted marks ended ∷ safe) later t = let more = taken_both plan safe later t.1 in ((t.0, more.0), more.1)
+
+pub plan_behind : (plan : LabPlan) (safe : List Part) → IsPlan plan → AreTaken plan safe → IsPlan (plan_after plan safe)
+plan_behind plan [] is t = is
+plan_behind plan (Took piece ∷ safe) is t = plan_behind plan safe is t
+plan_behind plan (Came j session ended ∷ safe) is t =
+    plan_behind (with_one_more plan j session) safe (plan_more plan j session t.0 (granted plan j session t.1) is) t.2
+plan_behind plan (Broke j session many ∷ safe) is t = plan_behind plan safe is t.2
+plan_behind plan (Said words ∷ safe) is t = plan_behind plan safe is t.1
+plan_behind plan (Noted marks ended ∷ safe) is t = plan_behind plan safe is t.1
+
+named_behind : (plan : LabPlan) (safe later : List Part) → AreNamed plan (safe ++ later) → AreNamed plan later
+named_behind plan [] later n = n
+named_behind plan (Took piece ∷ safe) later n = named_behind plan safe later (named_parts plan piece (safe ++ later) n).1
+named_behind plan (Came j session ended ∷ safe) later n = named_behind plan safe later n
+named_behind plan (Broke j session many ∷ safe) later n = named_behind plan safe later n
+named_behind plan (Said words ∷ safe) later n = named_behind plan safe later n
+named_behind plan (Noted marks ended ∷ safe) later n = named_behind plan safe later n
+
+-- what is left of the later ones
+pub record IsCutBehind (plan : LabPlan) (safe later : List Part) (tail : List ℕ) : Type 0 where
+  pub left : List Part
+  pub are_first : AreFirst left later
+  pub history : IsHistory plan (the_opening plan) (safe ++ left)
+  pub rest : List ℕ
+  pub text : tail ≡ parts_text (plan_after plan safe) left ++ rest
+  pub no_line : (k : ℕ) → k < length rest → get_or rest k 0 ≢ 10
+
+pub cut_behind : (plan : LabPlan) (safe later : List Part) (tail back : List ℕ) → IsPlan plan → IsHistory plan (the_opening plan) (safe ++ later)
+    → tail ++ back ≡ parts_text (plan_after plan safe) later → IsCutBehind plan safe later tail
+cut_behind plan safe later tail back is h same =
+    let o = the_opening plan in
+    let p = plan_after plan safe in
+    let taken = taken_of plan o (safe ++ later) h in
+    let both = taken_both plan safe later taken in
+    let named = named_behind plan safe later (names_stay plan (safe ++ later) taken (history_legal plan (safe ++ later) h)) in
+    let alike = after_alike plan plan safe (alike_self plan) both.0 in
+    let s = split tail in
+    let text : s.whole ++ (s.rest ++ back) ≡ closed (base_lines plan p later) =
+    sym (append_assoc s.whole s.rest back) ∙ (ap (λ (l : List ℕ). l ++ back) (sym s.same)
+    ∙ (same ∙ (parts_same plan p later alike both.1 ∙ text_closed plan p later))) in
+    let some = some_lines (base_lines plan p later) s.whole (s.rest ++ back) (each_one plan p later is (plan_behind plan safe is both.0) both.1 named) text s.ends in
+    let left = first_parts plan p later some.0 in
+    let history = first_history plan o (safe ++ left.first) (safe ++ later) (first_behind safe left.first later left.are_first) h in
+    let mine = taken_both plan safe left.first (taken_of plan o (safe ++ left.first) history) in
+    let whole : s.whole ≡ parts_text p left.first =
+    some.1 ∙ (ap closed left.lines_are ∙ (sym (text_closed plan p left.first) ∙ sym (parts_same plan p left.first alike mine.1))) in record {
+      left = left.first;
+      are_first = left.are_first;
+      history = history;
+      rest = s.rest;
+      text = s.same ∙ ap (λ (l : List ℕ). l ++ s.rest) whole;
+      no_line = λ k below. none_inside s.rest k s.one below;
+    }

@@ -142,7 +142,7 @@ none_goes_on plan p (Said words ∷ parts) = said_none words (base_lines plan p 
 none_goes_on plan p (Noted marks ended ∷ parts) = refl
 
 module _ (plan : LabPlan) (is_plan : IsPlan plan) where
-  lines_of : (p : LabPlan) (parts : List Part) → IsPlan p → AreTaken p parts → AreNamed plan parts → text_lines (base_text plan p parts) ≡ base_lines plan p parts
+  pub lines_of : (p : LabPlan) (parts : List Part) → IsPlan p → AreTaken p parts → AreNamed plan parts → text_lines (base_text plan p parts) ≡ base_lines plan p parts
   lines_of p [] is taken named = no_text
   lines_of p (Took piece ∷ parts) is taken named =
       let both = named_parts plan piece parts named in
@@ -248,7 +248,7 @@ pub record ReadsParts (plan : LabPlan) (file : List ℕ) (parts : List Part) : T
   pub first : ℕ
   pub additions_are : additions file ≡ added_in plan first plan parts
 
-after_alike : (plan p : LabPlan) (parts : List Part) → AreAlike plan p → AreTaken p parts → AreAlike plan (plan_after p parts)
+pub after_alike : (plan p : LabPlan) (parts : List Part) → AreAlike plan p → AreTaken p parts → AreAlike plan (plan_after p parts)
 after_alike plan p [] alike taken = alike
 after_alike plan p (Took piece ∷ parts) alike taken = after_alike plan p parts alike taken
 after_alike plan p (Came j session ended ∷ parts) alike taken =

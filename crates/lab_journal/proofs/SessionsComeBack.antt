@@ -1,5 +1,5 @@
 -- A lab that is resumed from a journal has the sessions that came.
-use Rattle.std.proofs.Common.{◌≡◌, ℕ, ◌+◌, Bool, true, false, if◌then◌else◌, List, [], ◌∷◌, ◌++◌, length, take, refl, sym, ap, ◌∙◌, subst, inl, inr, arith, append_assoc}
+use Rattle.std.proofs.Common.{◌≡◌, ℕ, ◌+◌, ◌≤◌, Bool, true, false, if◌then◌else◌, List, [], ◌∷◌, ◌++◌, length, take, refl, sym, ap, ◌∙◌, subst, inl, inr, arith, append_assoc}
 use Rattle.std.specs.Prelude.{codes, Ok}
 use Rattle.std.specs.List.{flat_map}
 use Rattle.std.proofs.lemmas.List.{take_at}
@@ -11,6 +11,7 @@ use Rattle.lab_plan.specs.Upgrade.{session_line}
 use Rattle.lab_plan.proofs.OneMore.{granted, plan_more}
 use Rattle.legal_steps.specs.Opening.{the_opening}
 use Rattle.round_trace.specs.StepsOf.{StepsGiveEvents}
+use Rattle.script_reader.specs.Script.{ScriptMeans}
 use Rattle.script_reader.specs.Laws.{HasOneList, HasListOrFault}
 use Rattle.written_steps.specs.StepLists.{script_head}
 use Rattle.written_steps.proofs.NamesBack.{job_back}
@@ -21,10 +22,11 @@ use Rattle.journal_texts.specs.Parts.{Mark, Part, Took, Came, Broke, Said, Noted
 use Rattle.journal_texts.proofs.PieceLines.{piece_lines}
 use Rattle.journal_texts.proofs.MoreLines.{more_part, broke_part, body, broken_closed, addition_at, note_part}
 use Rattle.journal_texts.proofs.Parts.{added_in, ReadsParts, parts_read}
-use Rattle.journal_texts.proofs.Cuts.{taken_of, first_fewer, history_legal, cuts_are_parts}
+use Rattle.journal_texts.proofs.Cuts.{taken_of, first_fewer, history_legal, cuts_are_parts, text_both, first_behind, cut_behind}
+use Rattle.journal_texts.specs.Reading.{HasParts}
 use Rattle.journal_texts.proofs.SessionBack.{closed_all, session_back}
 use Rattle.lab_journal.specs.Meaning.{with_read, with_its, and_then, with_addition, with_additions}
-use Rattle.lab_journal.specs.Laws.{IsReadAs, SessionsComeBack, CutsComeBack}
+use Rattle.lab_journal.specs.Laws.{IsReadAs, SessionsComeBack, ComesBackCut, CutsComeBack, CutsBehindComeBack}
 use Rattle.lab_journal.proofs.OnlyMemory.{only_memory}
 use Rattle.lab_journal.proofs.ComesBack.{Fed, Keeps, fed_behind, fed_kept, fed_piece, fed_head, whole_lines, comes_as, stands_by}
 
@@ -109,9 +111,9 @@ sessions_come_back give one plan script parts s counts is means taken by few =
     let read = read_as plan script parts is taken (parts_read give plan script parts is means taken by.run.legal few) in
     (read, λ none. stands_by one read.means.script longer file read.steps (events_in parts) s counts (fed_parts plan script parts) read.means.means read.means.came read.events_are by none)
 
-pub cuts_come_back : StepsGiveEvents → HasOneList → HasListOrFault → CutsComeBack
-cuts_come_back give one either plan script parts front back is means history few same =
-    let c = cuts_are_parts plan parts front back is history same in
+comes_back_with : StepsGiveEvents → HasOneList → HasListOrFault → (plan : LabPlan) (script : List ℕ) (parts : List Part) (front : List ℕ) → IsPlan plan
+    → ScriptMeans script plan → length (events_in parts) ≤ 1000000 → HasParts plan parts front → ComesBackCut plan script parts front
+comes_back_with give one either plan script parts front is means few c =
     let head = script_head script in
     let longer = plan_after plan c.first in
     let whole = head ++ parts_text plan c.first in
@@ -132,4 +134,28 @@ cuts_come_back give one either plan script parts front back is means history few
       read = read;
       resumed = comes_as one read.means.script longer (head ++ front) whole read.steps (events_in c.first) lines here read.means.means read.means.came read.events_are;
       refused = only_memory one either longer (head ++ front) whole (events_in c.first) lines here read (history_legal plan c.first c.history);
+    }
+
+pub cuts_come_back : StepsGiveEvents → HasOneList → HasListOrFault → CutsComeBack
+cuts_come_back give one either plan script parts front back is means history few same =
+    comes_back_with give one either plan script parts front is means few (cuts_are_parts plan parts front back is history same)
+
+pub cuts_behind : StepsGiveEvents → HasOneList → HasListOrFault → CutsBehindComeBack
+unfolding comes_back_with
+cuts_behind give one either plan script safe later tail back is means history few same =
+    let b = cut_behind plan safe later tail back is history same in
+    let c : HasParts plan (safe ++ later) (parts_text plan safe ++ tail) = record {
+      first = safe ++ b.left;
+      are_first = first_behind safe b.left later b.are_first;
+      history = b.history;
+      rest = b.rest;
+      text = ap (λ (l : List ℕ). parts_text plan safe ++ l) b.text
+          ∙ (sym (append_assoc (parts_text plan safe) (parts_text (plan_after plan safe) b.left) b.rest)
+          ∙ ap (λ (l : List ℕ). l ++ b.rest) (sym (text_both plan safe b.left)));
+      no_line = b.no_line;
+    } in record {
+      left = b.left;
+      are_first = b.are_first;
+      cut = comes_back_with give one either plan script (safe ++ later) (parts_text plan safe ++ tail) is means few c;
+      is = refl;
     }

@@ -122,6 +122,19 @@ pub record ComesBackCut (plan : LabPlan) (script : List ℕ) (parts : List Part)
   pub resumed : ComesBackAs (script_head script ++ text) (length (script_head script ++ parts_text plan first)) (plan_after plan first) (events_in first)
   pub refused : (fault : RunFault) → IsNotResumed (script_head script ++ text) fault → IsForMemory fault
 
+-- So does a file that was cut behind the parts that are safe, at any byte of the later ones: all that is safe is there, and what is left of the later ones
+pub record ComesBackBehind (plan : LabPlan) (script : List ℕ) (safe later : List Part) (tail : List ℕ) : Type 0 where
+  pub left : List Part
+  pub are_first : AreFirst left later
+  pub cut : ComesBackCut plan script (safe ++ later) (parts_text plan safe ++ tail)
+  pub is : cut.first ≡ safe ++ left
+
+abbrev pub CutsBehindComeBack : Type 0
+CutsBehindComeBack =
+    (plan : LabPlan) (script : List ℕ) (safe later : List Part) (tail back : List ℕ) → IsPlan plan → ScriptMeans script plan
+    → IsHistory plan (the_opening plan) (safe ++ later) → length (events_in (safe ++ later)) ≤ 1000000
+    → tail ++ back ≡ parts_text (plan_after plan safe) later → ComesBackBehind plan script safe later tail
+
 -- So does a file of a script and a lab's parts that was cut at any byte behind its line `steps`
 abbrev pub CutsComeBack : Type 0
 CutsComeBack =

@@ -1,5 +1,5 @@
 //! What holds of journals. Each law is the contract of a function that does nothing.
-ghost use Rattle.lab_journal.specs.Laws.{JournalsFollow, JournalComesBack, BeginningsComeBack, SessionsComeBack, CutsComeBack};
+ghost use Rattle.lab_journal.specs.Laws.{JournalsFollow, JournalComesBack, BeginningsComeBack, SessionsComeBack, CutsComeBack, CutsBehindComeBack};
 ghost use Rattle.lab_journal.specs.Writing.{StaysWritten};
 
 use journal_texts::laws::{beginnings_are_read, files_are_read};
@@ -43,6 +43,14 @@ pub fn sessions_come_back()
 /// commands that were in hand then, and nothing else.
 pub fn cuts_come_back()
     ensures { CutsComeBack }
+{
+    steps_give_events();
+    one_meaning_with_steps();
+}
+
+/// So does one that was cut behind some of its parts: these are all there, and what is left of the others.
+pub fn cuts_behind_come_back()
+    ensures { CutsBehindComeBack }
 {
     steps_give_events();
     one_meaning_with_steps();

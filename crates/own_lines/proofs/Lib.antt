@@ -1,1 +1,3 @@
 pub mod Back
+pub mod Reading
+pub mod Fronts

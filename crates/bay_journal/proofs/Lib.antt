@@ -1,0 +1,4 @@
+pub mod Found
+pub mod Changed
+pub mod Writes
+pub mod Back

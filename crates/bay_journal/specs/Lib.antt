@@ -1,0 +1,4 @@
+pub mod Reading
+pub mod Changed
+pub mod Writes
+pub mod Laws
