@@ -5,7 +5,7 @@ use Rattle.std.specs.Str.{bytes_eq}
 use Rattle.script_reader.specs.Script.{text_lines}
 use Rattle.own_lines.specs.declared.own.OwnLine.{OwnLine}
 use Rattle.own_lines.specs.Lines.{own_of}
-use Rattle.own_lines.specs.Owners.{is_own, owns_from, owns_behind, both_read, all_read}
+use Rattle.own_lines.specs.Owners.{is_own, owns_from, owns_behind, both_read, all_read, or_else}
 use Rattle.bay_journal.specs.Reading.{if_read, read_lines, read_behind, OwnersAreFound}
 
 abbrev behind : List OwnLine → Option (List OwnLine) → Option (List OwnLine)
@@ -47,3 +47,13 @@ found_behind (line ∷ lines) = by (bytes_eq line (codes "steps")) (found_behind
 
 pub owners_found : OwnersAreFound
 owners_found text = found_behind (text_lines text)
+
+-- ---- whose a session is, line by line
+
+pub one_found : (later : Option OwnLine) (o : OwnLine) (found : Option OwnLine) → or_else (or_else later (Some o)) found ≡ or_else later (Some o)
+one_found (Some l) o found = refl
+one_found None o found = refl
+
+pub one_passed : (later found : Option OwnLine) → or_else (or_else later None) found ≡ or_else later found
+one_passed (Some l) found = refl
+one_passed None found = refl

@@ -1,4 +1,4 @@
 pub mod Found
 pub mod Changed
 pub mod Writes
-pub mod Back
+pub mod Owners

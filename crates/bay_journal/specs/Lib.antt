@@ -1,4 +1,5 @@
 pub mod Reading
 pub mod Changed
 pub mod Writes
+pub mod Backs
 pub mod Laws

@@ -2,7 +2,9 @@
 //! that was told that it holds, with its owner.
 #![tactic(auto)]
 
+mod back;
 pub mod laws;
 mod read;
 
+pub use back::{NotBack, resume, whose};
 pub use read::read_owners;

@@ -21,7 +21,8 @@ fn read_from<A: Allocator>(alloc: A, text: &[u8]) -> Result<Option<Vec<OwnLine, 
     ensures { IfOk result (λ found. option_map (λ all. all.items) found ≡ read_lines [] (text_lines text.now)) }
 {
     let mut all = Vec::new(alloc);
-    for line in text.lines() {
+    let mut lines = text.lines();
+    while let Some(line) = lines.next() {
         if is_own(line) {
             let Some(own) = read_own(&line[5..]) else {
                 return Ok(None);

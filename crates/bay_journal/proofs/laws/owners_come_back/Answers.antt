@@ -1,4 +1,4 @@
-use Rattle.bay_journal.proofs.Back.{owners_back}
+use Rattle.bay_journal.proofs.Owners.{owners_back}
 use Rattle.bay_journal.proofs.laws.owners_come_back.Goals as goal
 
 pub returns : goal.returns
