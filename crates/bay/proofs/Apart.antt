@@ -1,8 +1,11 @@
 -- Where sessions need nothing in common, nobody waits.
-use Rattle.std.proofs.Common.{◌≡◌, ℕ, List, [], ◌∷◌, sym, ap, ◌∙◌}
-use Rattle.legal_steps.specs.State.{end_of}
+use Rattle.std.proofs.Common.{◌≡◌, ◌≢◌, ℕ, List, [], ◌∷◌, sym, ap, ◌∙◌}
+use Rattle.legal_steps.specs.declared.phase.Drinking.TheVariants.{Thirsty}
+use Rattle.legal_steps.specs.State.{drinking, end_of}
+use Rattle.legal_steps.specs.Legal.{IsJob, Needs}
 use Rattle.interleaving.specs.World.{WorldView}
 use Rattle.reasons.specs.Reasons.{WaitsOn, LeadsToHolder}
+use Rattle.live_lab.specs.Rests.{IsAtRest}
 use Rattle.bay.specs.LinedLaws.{AreApart, ApartNobodyIsThirsty}
 
 nobody_on : (w : WorldView) → AreApart w → (j k : ℕ) → WaitsOn w.plan w.state j k → ⊥

@@ -1,22 +1,21 @@
 -- Asks in line have numbers below the next one.
-use Rattle.std.proofs.Common.{ℕ, zero, suc, ◌+◌, ◌<◌, ◌≤◌, not, nat_eq, List, [], ◌∷◌, ◌++◌, Option, Some, None, sym, subst, arith}
+use Rattle.std.proofs.Common.{◌≡◌, ℕ, zero, suc, ◌+◌, ◌<◌, ◌≤◌, Bool, true, false, not, nat_eq, if◌then◌else◌, List, [], ◌∷◌, ◌++◌, Option, Some, None, refl, sym, ap, subst, arith}
 use Rattle.bay_line.specs.declared.wish.Wish.{Wish}
-use Rattle.bay_line.specs.Wishes.{wish_at}
-use Rattle.bay_line.specs.Turns.{others, pass_first}
-use Rattle.bay_line.specs.Lines.{LineView, Below, wishes_of, asking, TakesLate}
+use Rattle.bay_line.specs.Wishes.{wish_at, passed_by}
+use Rattle.bay_line.specs.Turns.{others, pass_all}
+use Rattle.bay_line.specs.Lines.{LineView, Below, wishes_of, asking, leaving, TakesLate}
 use Rattle.bay_line.proofs.Standing.{either, same_ask}
 use Rattle.bay.specs.Bays.{BayView}
-use Rattle.bay.specs.Lined.{AllIn}
+use Rattle.bay.specs.Lined.{AllIn, OneIn}
 
 pub below_others : (n ask : ℕ) (ws : List Wish) → Below n ws → Below n (others ask ws)
 below_others n ask [] h = tt
 below_others n ask (w ∷ ws) h =
     either (Below n) (not (nat_eq w.ask ask)) (w ∷ others ask ws) (others ask ws) (h.0, below_others n ask ws h.1) (below_others n ask ws h.1)
 
-below_passed : (n free needs k : ℕ) (ws : List Wish) → Below n ws → Below n (pass_first free needs k ws)
-below_passed n free needs zero ws h = h
-below_passed n free needs (suc k) [] h = tt
-below_passed n free needs (suc k) (w ∷ ws) h = (subst (λ m. m < n) (sym (same_ask free needs w)) h.0, below_passed n free needs k ws h.1)
+below_passed : (n most free needs : ℕ) (ws : List Wish) → Below n ws → Below n (pass_all most free needs ws)
+below_passed n most free needs [] h = tt
+below_passed n most free needs (w ∷ ws) h = (subst (λ m. m < n) (sym (same_ask most free needs w)) h.0, below_passed n most free needs ws h.1)
 
 below_higher : (m n : ℕ) (ws : List Wish) → m ≤ n → Below m ws → Below n ws
 below_higher m n [] le h = tt
@@ -39,9 +38,9 @@ pub below_all : (n next : ℕ) (old : BayView) (line : LineView) (new : BayView)
 below_all zero next old line new line' (same, is) h = subst (λ (v : LineView). Below next v.wishes) (sym is) h
 below_all (suc n) next old line new line' (mid, there, before, one) h =
     let b = below_all n next old line mid there before h in
-    let w = wish_at there.wishes one.place in
+    let s = one.it in
     subst (λ (v : LineView). Below next v.wishes) (sym one.then)
-    (below_others next w.ask (pass_first one.free w.needs one.place there.wishes) (below_passed next one.free w.needs one.place there.wishes b))
+    (below_others next s.ask (pass_all there.most one.free s.needs there.wishes) (below_passed next there.most one.free s.needs there.wishes b))
 
 pub below_late : (now next : ℕ) (old : LineView) (o : Option ℕ) (new : LineView) → TakesLate now old o new → Below next old.wishes → Below next new.wishes
 below_late now next old (Some ask) new (late, is) h = subst (λ (v : LineView). Below next v.wishes) (sym is) (below_others next ask old.wishes h)

@@ -1,5 +1,5 @@
 -- What follows for an ask that was told, and for one whose time is over.
-use Rattle.std.proofs.Common.{◌≡◌, ℕ, zero, suc, true, length, replicate, refl, sym, ap, ◌∙◌, subst, arith}
+use Rattle.std.proofs.Common.{◌≡◌, ℕ, zero, suc, ◌+◌, ◌≤◌, Bool, true, List, length, replicate, slice_index_or, refl, sym, ap, ◌∙◌, subst, arith}
 use Rattle.seat_book.specs.declared.seats.Seat.{Seat}
 use Rattle.seat_book.specs.declared.stage.Stage.{Stage}
 use Rattle.seat_book.specs.declared.stage.Stage.TheVariants.{Free, Waits, Comes, Holds, Ends}
@@ -11,9 +11,9 @@ use Rattle.seat_book.proofs.Going.{noted_open}
 use Rattle.live_lab.specs.Labs.{LabView}
 use Rattle.bay.specs.Noting.{seat_holds, position_of}
 use Rattle.bay.specs.Following.{Rounds}
-use Rattle.bay.specs.Bays.{BayView}
+use Rattle.bay.specs.Bays.{BayView, IsOpened, Times}
 use Rattle.bay.specs.Laws.{WasTold, AnswersInTime}
-use Rattle.bay.specs.Crashes.{IsSince, AreKept, OpenedIsKept, ToldOutlivesCrash}
+use Rattle.bay.specs.Crashes.{IsSince, AreKept, HoldsFrom, OpenedIsKept, ToldOutlivesCrash}
 
 -- ---- nobody holds at first
 

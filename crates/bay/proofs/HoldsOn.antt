@@ -1,14 +1,18 @@
 -- Whoever was told that it holds goes on to hold.
-use Rattle.std.proofs.Common.{◌≡◌, ◌≢◌, ℕ, zero, suc, ◌<◌, nat_lt, Bool, true, false, ◌&&◌, length, set, length-set, Option, Some, None, refl, sym, ap, ◌∙◌, subst, inl, inr, arith}
-use Rattle.std.proofs.lemmas.Bool.{eq-eqb}
+use Rattle.std.proofs.Common.{◌≡◌, ◌≢◌, ◌⊎◌, ℕ, zero, suc, ◌<◌, nat_lt, ◌==◌, Bool, true, false, ◌&&◌, List, length, set, length-set, Option, Some, None, refl, sym, ap, ◌∙◌, subst, inl, inr, arith}
+use Rattle.std.proofs.lemmas.Bool.{cases_eq, eq-eqb}
 use Rattle.std.proofs.lemmas.Bool.Decides.{nat_tests}
 use Rattle.std.specs.Int.{bit_at}
 use Rattle.lab_plan.specs.LabPlan.{LabPlan}
 use Rattle.lab_plan.specs.InstrumentSets.{holds}
-use Rattle.legal_steps.specs.State.{State, Has, phase, session}
+use Rattle.legal_steps.specs.declared.phase.JobState.{JobState}
+use Rattle.legal_steps.specs.State.{State, Has, IsDrinking, phase, session}
 use Rattle.legal_steps.specs.Legal.{IsJob}
 use Rattle.interleaving.specs.World.{WorldView}
+use Rattle.session_layer.specs.declared.turning.Turned.{Turned}
+use Rattle.live_lab.specs.declared.end.Release.{Release}
 use Rattle.live_lab.specs.Labs.{LabView}
+use Rattle.live_lab.specs.Sets.{AreJobs}
 use Rattle.live_lab.specs.Calls.{AtJob, TakesTurn, Withdraws}
 use Rattle.live_lab.specs.Ends.{EndsSession}
 use Rattle.seat_book.specs.declared.seats.Seat.{Seat}
@@ -16,12 +20,12 @@ use Rattle.seat_book.specs.declared.stage.Stage.{Stage}
 use Rattle.seat_book.specs.declared.stage.Stage.TheVariants.{Free, Waits, Comes, Holds, Ends}
 use Rattle.seat_book.specs.Stages.{IsHolding, IsWanted, IsOpen, noted, lapsed, is_past}
 use Rattle.seat_book.specs.Seats.{seat_at, stage_at, at_stage}
-use Rattle.seat_book.specs.Books.{BookView, asking}
-use Rattle.seat_book.proofs.Places.{other_seat}
-use Rattle.bay.specs.Noting.{seat_holds, drinks, position_of}
+use Rattle.seat_book.specs.Books.{BookView, asking, ending}
+use Rattle.seat_book.proofs.Places.{same_seat, other_seat}
+use Rattle.bay.specs.Noting.{seat_holds, drinks, position_of, NotesAll}
 use Rattle.bay.specs.Following.{Clears, SweepsTo, Rounds, Follows}
-use Rattle.bay.specs.Bays.{BayView, AreHeld}
-use Rattle.bay.specs.Laws.{WasTold, HoldsOn, ToldHoldsOn}
+use Rattle.bay.specs.Bays.{BayView, AreHeld, Asks, LetsGo, Leaves, TakesAway, Times}
+use Rattle.bay.specs.Laws.{WasTold, IsCallOfOthers, HoldsOn, ToldHoldsOn}
 use Rattle.bay.proofs.Noted.{are_held}
 use Rattle.bay.proofs.Staying.{Carries, carries_both, Stays, stays_same, StaysIn, in_same, in_both, settle_stays, ended_stays, end_stays, withdraw_stays, turn_stays}
 

@@ -1,9 +1,9 @@
 -- Each ask that holds does so from its position on, after each call.
-use Rattle.std.proofs.Common.{◌≡◌, ◌≢◌, ◌⊎◌, ℕ, ◌+◌, ◌<◌, ◌^◌, Bool, true, false, ltb, if◌then◌else◌, List, [], ◌∷◌, ◌++◌, length, set, length-set, length-append, append-nil, append_assoc, refl, sym, ap, ◌∙◌, subst, inl, inr, arith}
+use Rattle.std.proofs.Common.{◌≡◌, ◌≢◌, ◌⊎◌, ℕ, zero, suc, ◌+◌, ◌<◌, ◌≤◌, ◌^◌, min, Bool, true, false, ltb, if◌then◌else◌, List, [], ◌∷◌, ◌++◌, length, set, length-set, length-append, append-nil, append_assoc, refl, sym, ap, ◌∙◌, subst, inl, inr, arith}
 use Rattle.std.proofs.lemmas.Bool.{cases_eq, false≢true}
 use Rattle.lab_plan.specs.LabPlan.{LabPlan}
 use Rattle.legal_steps.specs.declared.event.Event.{Event}
-use Rattle.legal_steps.specs.State.{phase}
+use Rattle.legal_steps.specs.State.{State, phase}
 use Rattle.legal_steps.specs.Legal.{IsJob}
 use Rattle.interleaving.specs.Kept.{TapeView, after_kept}
 use Rattle.interleaving.specs.World.{WorldView, GoesOn}
@@ -18,10 +18,10 @@ use Rattle.seat_book.specs.Books.{BookView, asking, Tells}
 use Rattle.seat_book.proofs.Places.{same_seat, other_seat}
 use Rattle.bay.specs.Noting.{seat_holds, drinks, position_of}
 use Rattle.bay.specs.Following.{IsReached, Rounds, Follows}
-use Rattle.bay.specs.Bays.{BayView, AreHeld}
-use Rattle.bay.specs.Crashes.{HoldsFrom, IsSince, AreKept, IsPlaced, CallsKeepHolds}
+use Rattle.bay.specs.Bays.{BayView, AreHeld, Asks, LetsGo}
+use Rattle.bay.specs.Crashes.{HoldsFrom, IsSince, AreKept, IsPlaced, AnyCall, CallsKeepHolds}
 use Rattle.bay.proofs.Noted.{are_held}
-use Rattle.bay.proofs.Staying.{stays_same, Carries, carries_same, carries_both, ended_stays}
+use Rattle.bay.proofs.Staying.{Stays, stays_same, Carries, carries_same, carries_both, ended_stays}
 use Rattle.bay.proofs.HoldsOn.{rounds_on, rounds_carry}
 use Rattle.bay.proofs.Outliving.{carried, held_from}
 
@@ -108,6 +108,10 @@ record IsThere (j at : ℕ) (x : LabView) : Type 0 where
   job : IsJob x.world.plan j
   held : drinks x.world j
   from : HoldsFrom j at x.world
+
+-- each that holds by the book does so from its position on in the lab
+AreThere : LabView → BookView → Type 0
+AreThere x book = (j at : ℕ) → IsSince (stage_at book.seats j) at → IsThere j at x
 
 -- each that holds by the book has done so from its position on in an earlier lab, from which it was carried here
 record WasThere (j at : ℕ) (x y : LabView) : Type 0 where

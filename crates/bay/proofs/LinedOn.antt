@@ -1,18 +1,18 @@
 -- What holds of a bay with a line, since each that is let in is one more call of the bay.
-use Rattle.std.proofs.Common.{◌≡◌, ◌≢◌, ◌⊎◌, ℕ, zero, suc, not, if◌then◌else◌, List, [], ◌∷◌, Option, Some, None, refl, sym, ap, ◌∙◌, subst, inl, inr}
+use Rattle.std.proofs.Common.{◌≡◌, ◌≢◌, ◌⊎◌, ℕ, zero, suc, ◌+◌, ◌<◌, ◌≤◌, Bool, true, false, not, nat_eq, if◌then◌else◌, List, [], ◌∷◌, ◌++◌, length, Option, Some, None, refl, sym, ap, ◌∙◌, subst, inl, inr, arith}
 use Rattle.std.proofs.lemmas.Bool.{cases_eq, ne_eqb, eq-eqb}
 use Rattle.bay_line.specs.declared.wish.Wish.{Wish}
-use Rattle.bay_line.specs.Wishes.{wish_at}
-use Rattle.bay_line.specs.Turns.{others, pass_first, after}
-use Rattle.bay_line.specs.Lines.{LineView, TakesLate, leaving, asking, with_wishes}
+use Rattle.bay_line.specs.Wishes.{wish_at, passed_by}
+use Rattle.bay_line.specs.Turns.{others, pass_all, after}
+use Rattle.bay_line.specs.Lines.{LineView, Below, TakesLate, leaving, asking, with_wishes, GoesIn}
 use Rattle.bay_line.specs.Bounds.{Waits, WaitsOnce}
 use Rattle.bay_line.proofs.Standing.{same_ask}
 use Rattle.seat_book.specs.declared.seats.Seat.{Seat}
-use Rattle.seat_book.specs.Seats.{stage_at}
-use Rattle.bay.specs.Bays.{BayView, AreHeld}
+use Rattle.seat_book.specs.Seats.{seat_at, stage_at}
+use Rattle.bay.specs.Bays.{BayView, AreHeld, LetsGo, Times}
 use Rattle.bay.specs.Laws.{WasTold, HoldsOn}
-use Rattle.bay.specs.Lined.{LinedView, AllIn, OneIn, GoesOn}
-use Rattle.bay.specs.LinedLaws.{LinedToldHoldsOn, IsInLine, LinedCallsAreWaited}
+use Rattle.bay.specs.Lined.{LinedView, AllIn, OneIn, AsksLine, GoesOn}
+use Rattle.bay.specs.LinedLaws.{LinedToldHoldsOn, IsLinedCallOfOthers, IsInLine, IsLinedCall, LinedCallsAreWaited}
 use Rattle.bay.proofs.HoldsOn.{told_holds_on}
 
 -- ---- whoever was told goes on to hold
@@ -65,30 +65,31 @@ in_others ask a (w ∷ ws) h = elim (cases_eq w.ask a) [
       ]
 ]
 
-in_passed : (ask free needs k : ℕ) (ws : List Wish) → IsInLine ask (pass_first free needs k ws) → IsInLine ask ws
-in_passed ask free needs zero ws h = h
-in_passed ask free needs (suc k) [] h = h
-in_passed ask free needs (suc k) (w ∷ ws) (inl is) = inl (sym (same_ask free needs w) ∙ is)
-in_passed ask free needs (suc k) (w ∷ ws) (inr later) = inr (in_passed ask free needs k ws later)
+in_passed : (ask most free needs : ℕ) (ws : List Wish) → IsInLine ask (pass_all most free needs ws) → IsInLine ask ws
+in_passed ask most free needs [] h = h
+in_passed ask most free needs (w ∷ ws) (inl is) = inl (sym (same_ask most free needs w) ∙ is)
+in_passed ask most free needs (w ∷ ws) (inr later) = inr (in_passed ask most free needs ws later)
 
 one_waited : (ask : ℕ) (mid : BayView) (there : LineView) (new : BayView) (line' : LineView) → OneIn mid there new line' → IsInLine ask line'.wishes
     → WaitsOnce ask there line' × IsInLine ask there.wishes
 one_waited ask mid there new line' one h =
-    let w = wish_at there.wishes one.place in
-    let at : IsInLine ask (after one.free one.place there.wishes) = subst (λ (v : LineView). IsInLine ask v.wishes) one.then h in
-    let x = in_others ask w.ask (pass_first one.free w.needs one.place there.wishes) at in
-    let wishes : line'.wishes ≡ after one.free one.place there.wishes = ap (λ (v : LineView). v.wishes) one.then in (
+    let s = one.it in let most = there.most in let free = one.free in
+    let at : IsInLine ask (others s.ask (pass_all most free s.needs there.wishes)) = subst (λ (v : LineView). IsInLine ask v.wishes) one.then h in
+    let x = in_others ask s.ask (pass_all most free s.needs there.wishes) at in
+    let wishes : line'.wishes ≡ others s.ask (pass_all most free s.needs there.wishes) = ap (λ (v : LineView). v.wishes) one.then in
+    let behind : line'.wishes ≡ after most free one.place there.wishes =
+    wishes ∙ ap (λ (z : ℕ × ℕ). others z.0 (pass_all most free z.1 there.wishes)) (λ i. (one.next.ask i, one.next.needs i)) in (
       inl (
         one.used,
-        one.free,
-        one.it,
+        free,
+        s,
         record {
-          goes = record { place = one.place; next = one.next; then = wishes };
+          goes = record { place = one.place; next = one.next; then = behind };
           same = one.then ∙ ap (with_wishes there) (sym wishes);
         },
-        (λ e. x.0 (sym one.next.ask ∙ e)),
+        x.0,
       ),
-      in_passed ask one.free w.needs one.place there.wishes x.1,
+      in_passed ask most free s.needs there.wishes x.1,
     )
 
 all_waited : (n ask : ℕ) (old : BayView) (line : LineView) (new : BayView) (line' : LineView) → AllIn n old line new line' → IsInLine ask line'.wishes

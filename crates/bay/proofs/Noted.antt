@@ -1,11 +1,11 @@
 -- The book notes who holds, seat by seat.
-use Rattle.std.proofs.Common.{◌≡◌, ◌≢◌, ◌⊎◌, ℕ, zero, suc, ◌+◌, ◌<◌, ◌≤◌, nat_lt, ◌==◌, Bool, true, false, ◌&&◌, length, set, length-set, refl, sym, ◌∙◌, subst, inl, inr, arith}
+use Rattle.std.proofs.Common.{◌≡◌, ◌≢◌, ◌⊎◌, ℕ, zero, suc, ◌+◌, ◌<◌, ◌≤◌, nat_lt, ◌==◌, Bool, true, false, ◌&&◌, List, length, set, length-set, refl, sym, ap, ◌∙◌, subst, inl, inr, arith}
 use Rattle.std.proofs.lemmas.Bool.{cases_eq, false≢true}
 use Rattle.std.proofs.lemmas.Bool.Decides.{nat_tests}
 use Rattle.std.specs.Int.{bit_at}
 use Rattle.lab_plan.specs.LabPlan.{LabPlan}
 use Rattle.lab_plan.specs.InstrumentSets.{holds}
-use Rattle.legal_steps.specs.State.{Has}
+use Rattle.legal_steps.specs.State.{Has, IsDrinking, phase}
 use Rattle.legal_steps.specs.Legal.{IsJob}
 use Rattle.interleaving.specs.World.{WorldView}
 use Rattle.live_lab.specs.Sets.{AreJobs}

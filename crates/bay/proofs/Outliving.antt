@@ -1,6 +1,6 @@
 -- What a job did stays done, in each beginning of a longer past.
-use Rattle.std.proofs.Common.{◌≡◌, ◌⊎◌, ℕ, zero, suc, ◌+◌, ◌-◌, ◌<◌, ◌≤◌, List, [], ◌∷◌, ◌++◌, length, take, refl, sym, ap, ◌∙◌, subst, inl, inr, arith}
-use Rattle.std.proofs.lemmas.Bool.{cases_eq, eq-eqb}
+use Rattle.std.proofs.Common.{◌≡◌, ◌≢◌, ◌⊎◌, ℕ, zero, suc, ◌+◌, ◌-◌, ◌<◌, ◌≤◌, Bool, true, false, cond, List, [], ◌∷◌, ◌++◌, length, take, refl, sym, ap, ◌∙◌, subst, inl, inr, arith, length-append}
+use Rattle.std.proofs.lemmas.Bool.{cases_eq, false≢true, eq-eqb}
 use Rattle.std.proofs.lemmas.List.{get_or_past, take-append-le}
 use Rattle.std.proofs.lemmas.List.Sums.{sum_by-append}
 use Rattle.std.proofs.Math.Seq.{take-length, take-append-add}
@@ -12,7 +12,7 @@ use Rattle.legal_steps.specs.declared.phase.JobState.{JobState}
 use Rattle.legal_steps.specs.declared.phase.Drinking.TheVariants.{Tranquil, Thirsty, Drinking as Drinks, Reaching, Retired}
 use Rattle.legal_steps.specs.declared.counts.Counts.{Counts}
 use Rattle.legal_steps.specs.State.{State, Seat, no_seat, seat, phase, session, IsDrinking}
-use Rattle.legal_steps.specs.Legal.{after}
+use Rattle.legal_steps.specs.Legal.{May, after}
 use Rattle.legal_steps.specs.Run.{IsLegalFrom, after_all, actor, is_quit, sessions_done_of}
 use Rattle.legal_steps.proofs.RunLemmas.{legal_take}
 use Rattle.interleaving.specs.World.{WorldView, GoesOn}
@@ -22,7 +22,7 @@ use Rattle.turns.proofs.Runs.{after_all-append}
 use Rattle.bay.specs.Noting.{drinks}
 use Rattle.bay.specs.Following.{IsReached}
 use Rattle.bay.specs.Crashes.{state_then, HoldsFrom}
-use Rattle.bay.proofs.Staying.{EndsOther, AllEndOther, stays_all, Carries, done_at, number, done_cons}
+use Rattle.bay.proofs.Staying.{Stays, EndsOther, AllEndOther, stays_all, Carries, done_at, number, done_cons}
 
 -- ---- a job's phase doesn't depend on the plan
 

@@ -1,5 +1,5 @@
 -- Whatever session a wanted seat's job is in, it is its last.
-use Rattle.std.proofs.Common.{◌≡◌, ◌≢◌, ◌⊎◌, ℕ, zero, suc, ◌+◌, ◌<◌, ◌≤◌, Bool, true, false, List, [], ◌∷◌, ◌++◌, length, length-append, set, get_or-set_same, get_or-set_other, refl, sym, ap, ◌∙◌, subst, inl, inr, arith}
+use Rattle.std.proofs.Common.{◌≡◌, ◌≢◌, ◌⊎◌, ℕ, zero, suc, ◌+◌, ◌<◌, ◌≤◌, Bool, true, false, List, [], ◌∷◌, ◌++◌, length, length-append, set, get_or-set_same, get_or-set_other, Option, refl, sym, ap, ◌∙◌, subst, inl, inr, arith}
 use Rattle.std.proofs.lemmas.Bool.{cases_eq}
 use Rattle.std.proofs.lemmas.List.{get_or_past}
 use Rattle.lab_plan.specs.LabPlan.{LabPlan, JobPlan, SessionPlan, sessions, job_at}
@@ -7,9 +7,10 @@ use Rattle.lab_plan.specs.Longer.{with_one_more, with_session}
 use Rattle.legal_steps.specs.declared.event.Event.{Event}
 use Rattle.legal_steps.specs.declared.event.Event.TheVariants.{Look, AskFork, GiveFork, Soil, AskBottles, GiveBottles, Thirst, Hunger, Sit, Leave, Drink, Reach, Act, Quit, Retire, Glance, Withdraw}
 use Rattle.legal_steps.specs.declared.phase.JobState.{JobState}
-use Rattle.legal_steps.specs.declared.phase.Drinking.TheVariants.{Tranquil, Retired}
+use Rattle.legal_steps.specs.declared.phase.Drinking.{Drinking}
+use Rattle.legal_steps.specs.declared.phase.Drinking.TheVariants.{Tranquil, Thirsty, Drinking as Drinks, Reaching, Retired}
 use Rattle.legal_steps.specs.State.{State, Seat, no_seat, seat, phase, drinking, session, IsInSession}
-use Rattle.legal_steps.specs.Legal.{May, after}
+use Rattle.legal_steps.specs.Legal.{May, after, IsJob}
 use Rattle.legal_steps.specs.Run.{IsLegalFrom, after_all, actor}
 use Rattle.interleaving.specs.World.{WorldView, LeadsTo}
 use Rattle.turns.specs.Changes.{seat_after}
@@ -18,7 +19,7 @@ use Rattle.session_layer.specs.declared.turning.Turned.{Turned}
 use Rattle.live_lab.specs.declared.end.Release.{Release}
 use Rattle.live_lab.specs.declared.end.Release.TheVariants.{NotHeld, LetGo}
 use Rattle.live_lab.specs.Labs.{LabView}
-use Rattle.live_lab.specs.Calls.{TakesTurn, Withdraws}
+use Rattle.live_lab.specs.Calls.{AtJob, TakesTurn, Withdraws}
 use Rattle.live_lab.specs.Ends.{EndsHeld, EndsSession, rest_of_session}
 use Rattle.seat_book.specs.declared.seats.Seat.{Seat as BookSeat}
 use Rattle.seat_book.specs.declared.stage.Outcome.{Outcome}
@@ -30,7 +31,8 @@ use Rattle.seat_book.specs.Books.{BookView, asking, Tells}
 use Rattle.seat_book.proofs.Places.{same_seat, other_seat as other_place}
 use Rattle.bay.specs.Noting.{seat_holds, position_of}
 use Rattle.bay.specs.Following.{Clears, SweepsTo, Rounds, Follows}
-use Rattle.bay.specs.Bays.{IsThroughAll}
+use Rattle.bay.specs.Bays.{BayView, IsThroughAll}
+use Rattle.bay.specs.Crashes.{AnyCall}
 use Rattle.bay.specs.Own.{IsAtLast, AreAtLast, HoldsItsOwn, OpenedIsAtLast}
 use Rattle.bay.proofs.Ends.{all_free}
 use Rattle.bay.proofs.HoldsOn.{at_job}

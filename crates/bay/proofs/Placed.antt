@@ -1,16 +1,17 @@
 -- The past grows by the events of each call, and positions count them.
-use Rattle.std.proofs.Common.{◌≡◌, ◌⊎◌, ℕ, zero, suc, ◌+◌, ◌<◌, ◌^◌, Bool, true, false, length, length-append, refl, sym, ap, ◌∙◌, subst, inl, inr, arith}
+use Rattle.std.proofs.Common.{◌≡◌, ◌⊎◌, ℕ, zero, suc, ◌+◌, ◌<◌, ◌^◌, min, Bool, true, false, List, [], length, length-append, Option, refl, sym, ap, ◌∙◌, subst, inl, inr, arith}
 use Rattle.interleaving.specs.Kept.{TapeView}
-use Rattle.interleaving.specs.World.{GoesOn}
+use Rattle.interleaving.specs.World.{WorldView, GoesOn}
 use Rattle.interleaving.proofs.GoingOn.{on_still, on_same, on_both}
 use Rattle.session_layer.specs.declared.turning.Turned.{Turned}
 use Rattle.live_lab.specs.declared.end.Release.{Release}
 use Rattle.live_lab.specs.declared.end.Release.TheVariants.{NotHeld, LetGo}
 use Rattle.live_lab.specs.Labs.{LabView}
-use Rattle.live_lab.specs.Calls.{TakesTurn, Withdraws}
+use Rattle.live_lab.specs.Calls.{AtJob, TakesTurn, Withdraws}
 use Rattle.live_lab.specs.Ends.{EndsHeld, EndsSession}
 use Rattle.seat_book.specs.Books.{BookView}
 use Rattle.bay.specs.Following.{Clears, SweepsTo, Rounds, Follows}
+use Rattle.bay.specs.Noting.{position_of}
 use Rattle.bay.specs.Bays.{BayView, gave}
 use Rattle.bay.specs.Crashes.{IsPlaced, AnyCall, PlacesStay}
 use Rattle.bay.proofs.HoldsOn.{at_job}

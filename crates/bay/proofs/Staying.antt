@@ -1,5 +1,5 @@
 -- Who holds goes on to hold, in the same session, unless it is its own session that ends.
-use Rattle.std.proofs.Common.{◌≡◌, ◌≢◌, ◌⊎◌, ℕ, zero, suc, ◌+◌, ◌<◌, ◌≤◌, Bool, true, false, cond, if◌then◌else◌, List, [], ◌∷◌, ◌++◌, length, refl, sym, ap, ◌∙◌, subst, inl, inr, arith}
+use Rattle.std.proofs.Common.{◌≡◌, ◌≢◌, ◌⊎◌, ℕ, zero, suc, ◌+◌, ◌<◌, ◌≤◌, Bool, true, false, cond, if◌then◌else◌, List, [], ◌∷◌, ◌++◌, length, Option, Some, None, refl, sym, ap, ◌∙◌, subst, inl, inr, arith}
 use Rattle.std.proofs.lemmas.Bool.{cases_eq, ne_eqb}
 use Rattle.std.proofs.lemmas.List.Sums.{sum_by-cons}
 use Rattle.std.proofs.lemmas.List.{get_or_past}
@@ -32,8 +32,8 @@ use Rattle.live_lab.specs.declared.end.Release.{Release}
 use Rattle.live_lab.specs.declared.end.Release.TheVariants.{NotHeld, LetGo}
 use Rattle.live_lab.specs.Labs.{LabView}
 use Rattle.live_lab.specs.Sets.{events_below}
-use Rattle.live_lab.specs.Rests.{DoAndRest}
-use Rattle.live_lab.specs.Calls.{TakesTurn, Withdraws}
+use Rattle.live_lab.specs.Rests.{ComesToRest, DoAndRest}
+use Rattle.live_lab.specs.Calls.{AtJob, TakesTurn, Withdraws}
 use Rattle.live_lab.specs.Ends.{in_hand, commands_by, rest_of_session, EndsHeld, EndsSession}
 use Rattle.live_lab.specs.Admitting.{Admits}
 use Rattle.live_lab.specs.Settles.{Settles}

@@ -2,13 +2,13 @@
 use Rattle.std.specs.Prelude.{◌≡◌, ◌≢◌, ℕ, zero, suc, ◌+◌, ◌<◌, ◌≤◌, Bool, true, List, length, Option, Some, None}
 use Rattle.lab_plan.specs.declared.verb.Verb.{Verb}
 use Rattle.bay_line.specs.declared.going_in.Seated.{Seated}
-use Rattle.bay_line.specs.Turns.{HasReason, after}
-use Rattle.bay_line.specs.Lines.{LineView, nobody, IsNext, with_wishes, asking}
+use Rattle.bay_line.specs.Turns.{HasReason}
+use Rattle.bay_line.specs.Lines.{LineView, nobody, IsNext, gone, asking}
 use Rattle.live_lab.specs.Labs.{LabView}
 use Rattle.seat_book.specs.declared.stage.Stage.TheVariants.{Free}
 use Rattle.seat_book.specs.Seats.{seat_at, stage_at}
 use Rattle.seat_book.specs.Books.{BookView}
-use Rattle.bay.specs.Bays.{BayView, IsOpened, Asks}
+use Rattle.bay.specs.Bays.{BayView, IsOpened, Asks, LetsGo}
 use Rattle.bay.specs.Frees.{AreFree, AreUsed}
 
 -- a call of the bay, by which the ask gets its seat
@@ -17,7 +17,7 @@ pub record SeatsOne (s : Seated) (old new : BayView) : Type 0 where
   pub number : ℕ
   pub asks : Asks s.seat s.ask s.deadline commands number old new
 
--- The next in line was let in: nobody in a session that isn't over needs one of its instruments, nor anybody before it for whom they are kept, and its seat is
+-- The next in line was let in: nobody in a session that isn't over needs one of its instruments, nor are they kept for one that goes before it, and its seat is
 -- free
 pub record OneIn (old : BayView) (line : LineView) (new : BayView) (line' : LineView) : Type 0 where
   pub used : ℕ
@@ -28,7 +28,7 @@ pub record OneIn (old : BayView) (line : LineView) (new : BayView) (line' : Line
   pub it : Seated
   pub next : IsNext line.most used free line.wishes place it
   pub seats : SeatsOne it old new
-  pub then : line' ≡ with_wishes line (after free place line.wishes)
+  pub then : line' ≡ gone line it free
 
 -- so many, one after another
 abbrev pub AllIn : ℕ → BayView → LineView → BayView → LineView → Type 0
@@ -36,7 +36,7 @@ AllIn zero old line new line' = (new ≡ old) × (line' ≡ line)
 AllIn (suc n) old line new line' = (mid : BayView) × (there : LineView) × AllIn n old line mid there × OneIn mid there new line'
 
 -- Nobody waits for nothing: each wish in line has a reason. No seat is free for it; or a session that isn't over needs one of its instruments; or one is kept
--- for a wish before it
+-- for one that goes before it
 pub record NobodyWaits (x : BayView) (line : LineView) : Type 0 where
   pub used : ℕ
   pub free : ℕ
@@ -81,3 +81,8 @@ abbrev pub IsNumberOf : BookView → ℕ → Option ℕ → Type 0
 IsNumberOf book ask (Some number) =
     (j : ℕ) × (j < length book.seats) × ((seat_at book.seats j).owner ≡ ask) × (stage_at book.seats j ≢ Free) × ((seat_at book.seats j).ask ≡ number)
 IsNumberOf book ask None = (j : ℕ) → j < length book.seats → (seat_at book.seats j).owner ≡ ask → stage_at book.seats j ≡ Free
+
+-- the ask's seat let go, and the bay goes on
+abbrev pub LetsGoLined : ℕ → LinedView → LinedView → Type 0
+LetsGoLined ask old new =
+    (number : ℕ) × (mid : BayView) × IsNumberOf old.bay.book ask (Some number) × LetsGo number old.bay mid × GoesOn mid old.line old.next new

@@ -1,8 +1,8 @@
 //! A bay with one line before its seats.
-ghost use Rattle.std.specs.Prelude.{◌≡◌, ℕ, ◌≤◌, false, IsTrue, IfOk, OnOk, OnErr, Some};
+ghost use Rattle.std.specs.Prelude.{◌≡◌, ℕ, ◌≤◌, false, IsTrue, IfOk, OnOk, OnErr};
 ghost use Rattle.bay_line.specs.Lines.{LineView, leaving, TakesLate};
-ghost use Rattle.bay.specs.Bays.{BayView, LetsGo, Times};
-ghost use Rattle.bay.specs.Lined.{AllIn, NobodyWaits, SeatsOne, IsAskOf, IsNumberOf, IsLinedOpen, AsksLine, GoesOn};
+ghost use Rattle.bay.specs.Bays.{BayView, Times};
+ghost use Rattle.bay.specs.Lined.{AllIn, NobodyWaits, SeatsOne, IsAskOf, IsNumberOf, LetsGoLined, IsLinedOpen, AsksLine, GoesOn};
 
 use crate::bay::{Bay, NotHeld};
 use bay_line::{Line, NotInLine, Seated};
@@ -52,7 +52,8 @@ fn seat_all(bay: &mut Bay, line: &mut Line) -> bool
         if !seat_one(bay, seated) {
             return false;
         }
-        line.go(place, seated.ask, free);
+        let _ = place;
+        line.go(seated, free);
     }
 }
 
@@ -154,8 +155,7 @@ impl LinedBay {
 
     /// An ask that holds lets go; and those are let in who may be by that.
     pub fn let_go(&mut self, ask: u64) -> Result<(), NotHeld>
-        ensures goes { OnOk result ((number : ℕ) × (mid : BayView) × IsNumberOf self.old.bay.book ask (Some number) × LetsGo number self.old.bay mid
-            × GoesOn mid self.old.line self.old.next self.new) }
+        ensures goes { OnOk result (LetsGoLined ask self.old self.new) }
         ensures refused { OnErr result (self.new ≡ self.old) }
     {
         let Some(number) = number_of(&self.bay, ask) else {

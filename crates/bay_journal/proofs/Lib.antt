@@ -1,4 +1,5 @@
 pub mod Found
 pub mod Changed
 pub mod Writes
+pub mod Owning
 pub mod Owners

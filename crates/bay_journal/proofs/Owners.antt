@@ -34,6 +34,8 @@ use Rattle.own_lines.specs.Owners.{owns, all_read, owns_in, or_else, owner_in}
 use Rattle.bay_journal.specs.Laws.{seat_of, IsByLine, OwnersComeBack}
 use Rattle.own_lines.proofs.Reading.{owners_read}
 use Rattle.own_lines.proofs.Fronts.{first_owned, first_done, owns_both, lines_front, each_of, each_take, each_both, each_split, read_again, given_or, owner_both, found}
+use Rattle.seat_book.specs.Stages.{IsHolding}
+use Rattle.bay_journal.proofs.Owning.{lines_stay_right}
 
 -- ---- what the lab does on the way back ends nobody's session
 
@@ -50,6 +52,13 @@ since Waits at h = h
 since (Comes n) at h = absurd h
 since (Holds n) at h = h
 since (Ends how n) at h = h
+
+told_holding : (s : Stage) (at : ℕ) → WasToldAt s at → IsHolding s
+told_holding Free at h = h
+told_holding Waits at h = h
+told_holding (Comes n) at h = tt
+told_holding (Holds n) at h = tt
+told_holding (Ends how n) at h = h
 
 -- whether a job holds
 decide : (d : Drinking) → ((d ≡ Drinks) ⊎ (d ≡ Reaching)) ⊎ ((d ≡ Drinks) ⊎ (d ≡ Reaching) → ⊥)
@@ -148,7 +157,7 @@ by_line lines y j held free = λ taken. which taken (decide (phase y.lab.world.s
 -- ---- the law
 
 pub owners_back : CutsBehindComeBack → OwnLinesAreRead → OwnersComeBack
-owners_back cuts again plan script safe later tail back own more x y n is means written reached kept few has has_more owned same b =
+owners_back cuts again plan script safe later tail back own more x y n is means written reached held kept last right few has has_more owned same b =
     let o = the_opening plan in
     let c = cuts plan script safe later tail back is means written.history few same in
     let first = safe ++ c.left in
@@ -180,7 +189,7 @@ owners_back cuts again plan script safe later tail back own more x y n is means 
           let w = owned j at told in
           let h = holds_there x.lab.world y.lab.world plan yplan (events_in safe) (events_in c.left) (e.0 ++ x.lab.world.kept.events) j at has_done written.opening
           opens past w.there (kept j at (since (stage_at x.book.seats j) at told)) in record {
-            seat = b.held j h.0 ∙ seat_again x y own more b.lines k j lines w.line (each_of _ (own ++ more) w.same) h.1;
+            seat = b.held j h.0 ∙ seat_again x y own more b.lines k j lines w.line (lines_stay_right.named x (own ++ more) j last held (told_holding (stage_at x.book.seats j) at told) right) h.1;
             held = h.0;
             same_session = h.1;
           },

@@ -22,9 +22,9 @@ use Rattle.bay.proofs.Kept.{all_kept}
 use Rattle.bay_journal.specs.Writes.{IsPlainCall, BayStaysWritten}
 
 -- the past went on, by the same plan
-record Goes (old new : WorldView) : Type 0 where
-  on : GoesOn old new
-  plan : new.plan ≡ old.plan
+pub record Goes (old new : WorldView) : Type 0 where
+  pub on : GoesOn old new
+  pub plan : new.plan ≡ old.plan
 
 still : (old : WorldView) → Goes old old
 still old = record { on = on_still old; plan = refl }
@@ -35,7 +35,7 @@ same_lab old new is = subst (λ (x : LabView). Goes old.world x.world) (sym is) 
 both : (old mid new : WorldView) → Goes old mid → Goes mid new → Goes old new
 both old mid new a b = record { on = on_both old mid new a.on b.on; plan = b.plan ∙ a.plan }
 
-held_goes : (k : ℕ) (old : LabView) (r : Turned) (new : LabView) → EndsHeld k old r new → Goes old.world new.world
+pub held_goes : (k : ℕ) (old : LabView) (r : Turned) (new : LabView) → EndsHeld k old r new → Goes old.world new.world
 held_goes k old r new e =
     both old.world e.mid new.world (record { on = e.ends.goes_on; plan = e.ends.same_plan })
     (record { on = e.rests.leads.goes_on; plan = e.rests.leads.same_plan })
@@ -70,7 +70,7 @@ round_goes given lab book lab' book' r =
     both lab.world r.swept.world lab'.world (sweeps_go book (length lab.world.plan.jobs) lab r.swept r.sweeps)
     (record { on = r.settles.leads.goes_on; plan = r.settles.leads.same_plan })
 
-follow_goes : (given : ℕ) (lab : LabView) (book : BookView) (lab' : LabView) (book' : BookView) → Follows given lab book lab' book' → Goes lab.world lab'.world
+pub follow_goes : (given : ℕ) (lab : LabView) (book : BookView) (lab' : LabView) (book' : BookView) → Follows given lab book lab' book' → Goes lab.world lab'.world
 follow_goes given lab book lab' book' f =
     both lab.world f.mid.world lab'.world (round_goes given lab book f.mid f.noted f.first) (round_goes given f.mid f.noted lab' book' f.second)
 

@@ -13,13 +13,15 @@ use Rattle.seat_book.specs.declared.seats.Seat.{Seat}
 use Rattle.seat_book.specs.declared.stage.Stage.TheVariants.{Free, Holds}
 use Rattle.seat_book.specs.Seats.{no_seat, seat_at, stage_at}
 use Rattle.seat_book.specs.Runs.{WasToldAt}
-use Rattle.bay.specs.Bays.{BayView}
+use Rattle.bay.specs.Bays.{BayView, AreHeld}
 use Rattle.bay.specs.Following.{IsReached}
 use Rattle.bay.specs.Crashes.{AreKept}
+use Rattle.bay.specs.Own.{AreAtLast}
 use Rattle.own_lines.specs.declared.own.OwnLine.{OwnLine}
 use Rattle.own_lines.specs.Lines.{own_words}
 use Rattle.own_lines.specs.Laws.{FitsOwn}
 use Rattle.own_lines.specs.Owners.{owns, all_read, owns_in, owner_in}
+use Rattle.bay_journal.specs.Owning.{AreRight}
 
 -- ---- a bay that comes back
 
@@ -28,8 +30,8 @@ abbrev pub seat_of : ℕ → Option OwnLine → Seat
 seat_of at (Some o) = record { ask = o.ask; owner = o.owner; deadline = None; stage = Holds at }
 seat_of at None = no_seat
 
--- The lab is resumed from the file's first n bytes. Each seat whose job holds there is the ask's that the last line of its session names; if none does, it is
--- nobody's. Nobody else holds or waits
+-- The lab is resumed from the file's first n bytes. Each seat whose job holds there is the ask's that the last line of its session names; if none does,
+-- it is nobody's. Nobody else holds or waits
 pub record IsBack (file : List ℕ) (n : ℕ) (y : BayView) : Type 0 where
   pub lab : IsResumed file n y.lab
   pub lines : List OwnLine
@@ -46,13 +48,10 @@ pub record HasLines (parts : List Part) (lines : List OwnLine) : Type 0 where
   pub are : owns_in parts ≡ map own_words lines
   pub fit : All FitsOwn lines
 
--- whoever was told that it holds, as the journal says from this position on: the position is within what is safe, and so is a line of its session; and that
--- session has no other line, not even in what came later
-pub record IsOwned (x : BayView) (safe : List Part) (own : List OwnLine) (all : List OwnLine) (j at : ℕ) : Type 0 where
+-- whoever was told that it holds, as the journal says from this position on: the position is within what is safe, and so is a line of its session
+pub record IsOwned (x : BayView) (safe : List Part) (own : List OwnLine) (j at : ℕ) : Type 0 where
   pub there : at ≤ length (events_in safe)
   pub line : owner_in own j (session x.lab.world.state j) ≢ None
-  pub same : All (λ (o : OwnLine). (o.job ≡ j) → (o.session ≡ session x.lab.world.state j)
-      → (o.ask ≡ (seat_at x.book.seats j).ask) × (o.owner ≡ (seat_at x.book.seats j).owner)) all
 
 -- ---- the law
 
@@ -73,9 +72,10 @@ IsByLine lines y j =
 abbrev pub OwnersComeBack : Type 0
 OwnersComeBack =
     (plan : LabPlan) (script : List ℕ) (safe later : List Part) (tail back : List ℕ) (own more : List OwnLine) (x y : BayView) (n : ℕ)
-    → IsPlan plan → ScriptMeans script plan → IsWritten plan (safe ++ later) x.lab.world → IsReached x.lab.world → AreKept x
+    → IsPlan plan → ScriptMeans script plan → IsWritten plan (safe ++ later) x.lab.world → IsReached x.lab.world → AreHeld x.lab.world x.book
+    → AreKept x → AreAtLast x → AreRight x (own ++ more)
     → length (events_in (safe ++ later)) ≤ 1000000 → HasLines safe own → HasLines later more
-    → ((j at : ℕ) → WasToldAt (stage_at x.book.seats j) at → IsOwned x safe own (own ++ more) j at)
+    → ((j at : ℕ) → WasToldAt (stage_at x.book.seats j) at → IsOwned x safe own j at)
     → tail ++ back ≡ parts_text (plan_after plan safe) later
     → (is : IsBack (script_head script ++ (parts_text plan safe ++ tail)) n y)
     → ((j at : ℕ) → WasToldAt (stage_at x.book.seats j) at → HoldsAgain x y j) × ((j : ℕ) → IsByLine is.lines y j)

@@ -2,4 +2,5 @@ pub mod Reading
 pub mod Changed
 pub mod Writes
 pub mod Backs
+pub mod Owning
 pub mod Laws

@@ -2,6 +2,7 @@
 ghost use Rattle.bay_journal.specs.Reading.{OwnersAreFound};
 ghost use Rattle.bay_journal.specs.Changed.{ChangedLinesAreRefused};
 ghost use Rattle.bay_journal.specs.Writes.{BayStaysWritten};
+ghost use Rattle.bay_journal.specs.Owning.{LinesStayRight};
 ghost use Rattle.bay_journal.specs.Laws.{OwnersComeBack};
 
 use lab_journal::laws::{cuts_behind_come_back, stays_written};
@@ -23,6 +24,11 @@ pub fn bay_stays_written()
 {
     stays_written();
 }
+
+/// Lines of owners go on to name who has a seat, whatever calls there are.
+pub fn lines_stay_right()
+    ensures { LinesStayRight }
+{}
 
 /// Whoever was told that it holds holds again, with its owner, from a file that was cut at any byte behind what was durable; and nobody else does.
 pub fn owners_come_back()

@@ -1,12 +1,12 @@
 -- What is kept from those behind, and why one waits.
-use Rattle.std.proofs.Common.{◌≡◌, ◌≢◌, ◌⊎◌, ℕ, ◌+◌, ◌<◌, Bool, true, false, ◌||◌, ◌&&◌, not, nat_eq, List, refl, sym, ap, ◌∙◌, subst, inl, inr, arith}
+use Rattle.std.proofs.Common.{◌≡◌, ◌≢◌, ◌⊎◌, ℕ, ◌+◌, ◌<◌, Bool, true, false, ◌||◌, ◌&&◌, not, nat_eq, List, length, Option, Some, None, refl, sym, ap, ◌∙◌, subst, inl, inr, arith}
 use Rattle.std.specs.Int.Bits.{bit_and, bit_or}
 use Rattle.std.proofs.lemmas.Bool.{cases_eq, cases_Bool, eq-eqb, ne_eqb, false≢true}
 use Rattle.std.proofs.lemmas.Nat.{and_or_self, and_or_apart, and_assoc, and_comm}
 use Rattle.std.specs.Int.Bits.{and_zero_l}
 use Rattle.bay_line.specs.declared.wish.Wish.{Wish}
 use Rattle.bay_line.specs.Wishes.{wish_at, common, is_kept, is_ready}
-use Rattle.bay_line.specs.Turns.{HasReason, MayGoIn}
+use Rattle.bay_line.specs.Turns.{HasReason, AreKept, IsKeptBelow, KeptHaveReasons, IsFirst, IsFirstKept, IsFirstOther, may_go}
 
 -- ---- sets
 
@@ -46,6 +46,9 @@ common_both x a b = elim (cases_eq (bit_and x b) 0) [
 
 -- ---- wishes looked at one after another
 
+and_false : (a b : Bool) → a ≡ false → (a && b) ≡ false
+and_false a b h = ap (λ c. c && b) h
+
 or_false_first : (a b : Bool) → (a || b) ≡ false → a ≡ false
 or_false_first false b h = refl
 or_false_first true b h = h
@@ -69,75 +72,136 @@ and_true_second false b h = absurd (false≢true h)
 pub and_is : (a b : Bool) → a ≡ true → b ≡ true → (a && b) ≡ true
 and_is a b x y = ap (λ c. c && b) x ∙ y
 
+not_is : (a : Bool) → not a ≡ true → a ≡ false
+not_is true h = sym h
+not_is false h = refl
+
 pub not_true : (a : Bool) → not a ≡ false → a ≡ true
 not_true true h = refl
 not_true false h = sym h
 
--- what is in use, and what the first n keep from those behind them
-pub record KeptSoFar (most in_use free : ℕ) (wishes : List Wish) (n kept : ℕ) : Type 0 where
-  pub unused : (x : ℕ) → common x kept ≡ false → common x in_use ≡ false
-  pub not_kept : (x : ℕ) → common x kept ≡ false → (i : ℕ) → i < n → is_kept most free (wish_at wishes i) ≡ true → common x (wish_at wishes i).needs ≡ false
-  pub why : (x : ℕ) → common x kept ≡ true → (common x in_use ≡ true)
-      ⊎ ((i : ℕ) × (i < n) × (is_kept most free (wish_at wishes i) ≡ true) × (common x (wish_at wishes i).needs ≡ true))
-  pub reasons : (i : ℕ) → i < n → HasReason most in_use free wishes i
-
-pub none_looked_at : (most in_use free : ℕ) (wishes : List Wish) → KeptSoFar most in_use free wishes 0 in_use
-none_looked_at most in_use free wishes = record {
-  unused = λ x h. h;
-  not_kept = λ x h i below. absurd (omega (arith, below));
-  why = λ x h. inl h;
-  reasons = λ i below. absurd (omega (arith, below));
-}
-
 below_more : (i n : ℕ) → i < n + 1 → (i < n) ⊎ (i ≡ n)
 below_more i n h = elim (cases_eq i n) [ inl same ↦ inr same | inr other ↦ inl (omega (arith, h, other)) ]
 
--- it may be let in, if none of its instruments is in use or kept
-pub may_go_in : (most in_use free : ℕ) (wishes : List Wish) (n kept : ℕ) → KeptSoFar most in_use free wishes n kept → is_ready free (wish_at wishes n) ≡ true
-    → common (wish_at wishes n).needs kept ≡ false → MayGoIn most in_use free wishes n
-may_go_in most in_use free wishes n kept x ready none = record {
-  ready = ready;
-  unused = x.unused (wish_at wishes n).needs none;
-  not_kept = x.not_kept (wish_at wishes n).needs none;
+-- those for which their instruments are kept, looked at one after another
+pub record KeptSoFar (most in_use free : ℕ) (wishes : List Wish) (n kept : ℕ) : Type 0 where
+  pub are : AreKept in_use wishes (IsKeptBelow most free wishes n) kept
+  pub reasons : KeptHaveReasons most in_use free wishes n
+
+pub none_looked_at : (most in_use free : ℕ) (wishes : List Wish) → KeptSoFar most in_use free wishes 0 in_use
+none_looked_at most in_use free wishes = record {
+  are = record { unused = λ x h. h; apart = λ x h i p. absurd (omega (arith, p.0)); why = λ x h. inl h };
+  reasons = λ i p. absurd (omega (arith, p.0));
 }
 
--- if not, it has a reason
-has_reason : (most in_use free : ℕ) (wishes : List Wish) (n kept : ℕ) → KeptSoFar most in_use free wishes n kept
-    → (is_ready free (wish_at wishes n) && not (common (wish_at wishes n).needs kept)) ≡ false → HasReason most in_use free wishes n
-has_reason most in_use free wishes n kept x h = elim (cases_Bool (is_ready free (wish_at wishes n))) [
-  | inl ready ↦
-      let some : common (wish_at wishes n).needs kept ≡ true =
-      not_true (common (wish_at wishes n).needs kept) (ap (λ b. b && not (common (wish_at wishes n).needs kept)) (sym ready) ∙ h) in
-      inr (x.why (wish_at wishes n).needs some)
+-- what a test that failed says
+not_may_go : (kept free : ℕ) (w : Wish) → may_go kept free w ≡ false → (is_ready free w ≡ false) ⊎ (common w.needs kept ≡ true)
+not_may_go kept free w h = elim (cases_Bool (is_ready free w)) [
+  | inl ready ↦ inr (not_true (common w.needs kept) (ap (λ b. b && not (common w.needs kept)) (sym ready) ∙ h))
   | inr not_ready ↦ inl not_ready
 ]
 
-pub one_looked_at : (most in_use free : ℕ) (wishes : List Wish) (n kept more : ℕ) → KeptSoFar most in_use free wishes n kept
+pub one_looked_at : (most in_use free : ℕ) (wishes : List Wish) (n kept more : ℕ) → n < length wishes → KeptSoFar most in_use free wishes n kept
     → ((x : ℕ) → common x more ≡ (common x kept || is_kept most free (wish_at wishes n) && common x (wish_at wishes n).needs))
-    → (is_ready free (wish_at wishes n) && not (common (wish_at wishes n).needs kept)) ≡ false → KeptSoFar most in_use free wishes (n + 1) more
-one_looked_at most in_use free wishes n kept more x says not_in =
+    → (is_kept most free (wish_at wishes n) && may_go kept free (wish_at wishes n)) ≡ false → KeptSoFar most in_use free wishes (n + 1) more
+one_looked_at most in_use free wishes n kept more inside x says not_in =
     let w = wish_at wishes n in let k = is_kept most free w in
     record {
-      unused = λ y h. x.unused y (or_false_first (common y kept) (k && common y w.needs) (sym (says y) ∙ h));
-      not_kept = λ y h i below is. elim (below_more i n below) [
-        | inl less ↦ x.not_kept y (or_false_first (common y kept) (k && common y w.needs) (sym (says y) ∙ h)) i less is
+      are = record {
+        unused = λ y h. x.are.unused y (or_false_first (common y kept) (k && common y w.needs) (sym (says y) ∙ h));
+        apart = λ y h i p. elim (below_more i n p.0) [
+          | inl less ↦ x.are.apart y (or_false_first (common y kept) (k && common y w.needs) (sym (says y) ∙ h)) i (less, p.1)
+          | inr same ↦
+              let it : is_kept most free (wish_at wishes n) ≡ true = subst (λ j. is_kept most free (wish_at wishes j) ≡ true) same p.1 in
+              let none : (k && common y w.needs) ≡ false = or_false_second (common y kept) (k && common y w.needs) (sym (says y) ∙ h) in
+              subst (λ j. common y (wish_at wishes j).needs ≡ false) (sym same) (ap (λ b. b && common y w.needs) (sym it) ∙ none)
+        ];
+        why = λ y h. elim (or_true_cases (common y kept) (k && common y w.needs) (sym (says y) ∙ h)) [
+          | inl before ↦ elim (x.are.why y before) [
+            | inl used ↦ inl used
+            | inr one ↦ inr (one.0, (omega (arith, one.1.0), one.1.1), one.2)
+          ]
+          | inr now ↦ inr (n, (omega arith, and_true_first k (common y w.needs) now), and_true_second k (common y w.needs) now)
+        ];
+      };
+      reasons = λ i p. elim (below_more i n p.0) [
+        | inl less ↦ x.reasons i (less, p.1)
         | inr same ↦
-            let it : is_kept most free (wish_at wishes n) ≡ true = subst (λ j. is_kept most free (wish_at wishes j) ≡ true) same is in
-            let none : (k && common y w.needs) ≡ false = or_false_second (common y kept) (k && common y w.needs) (sym (says y) ∙ h) in
-            subst (λ j. common y (wish_at wishes j).needs ≡ false) (sym same) (ap (λ b. b && common y w.needs) (sym it) ∙ none)
-      ];
-      why = λ y h. elim (or_true_cases (common y kept) (k && common y w.needs) (sym (says y) ∙ h)) [
-        | inl before ↦ elim (x.why y before) [
-          | inl used ↦ inl used
-          | inr one ↦ inr (one.0, omega (arith, one.1), one.2, one.3)
-        ]
-        | inr now ↦ inr (n, omega arith, and_true_first k (common y w.needs) now, and_true_second k (common y w.needs) now)
-      ];
-      reasons = λ i below. elim (below_more i n below) [
-        | inl less ↦ x.reasons i less
-        | inr same ↦ subst (HasReason most in_use free wishes) (sym same) (has_reason most in_use free wishes n kept x not_in)
+            let it : is_kept most free (wish_at wishes n) ≡ true = subst (λ j. is_kept most free (wish_at wishes j) ≡ true) same p.1 in
+            let fails : may_go kept free w ≡ false = ap (λ b. b && may_go kept free w) (sym it) ∙ not_in in
+            subst (HasReason most in_use free wishes) (sym same) (elim (not_may_go kept free w fails) [
+              | inl not_ready ↦ inl not_ready
+              | inr shares ↦ elim (x.are.why w.needs shares) [
+                | inl used ↦ inr (inl used)
+                | inr one ↦ inr (inr (one.0, (omega (arith, one.1.0, inside), one.1.1, inl one.1.0), one.2))
+              ]
+            ])
       ];
     }
+
+pub kept_goes : (most in_use free : ℕ) (wishes : List Wish) (n kept : ℕ) → n < length wishes → KeptSoFar most in_use free wishes n kept
+    → (is_kept most free (wish_at wishes n) && may_go kept free (wish_at wishes n)) ≡ true → IsFirstKept most in_use free wishes (Some n, kept)
+kept_goes most in_use free wishes n kept inside x h =
+    let w = wish_at wishes n in
+    let it = and_true_first (is_kept most free w) (may_go kept free w) h in
+    let go = and_true_second (is_kept most free w) (may_go kept free w) h in
+    let none : common w.needs kept ≡ false = not_is (common w.needs kept) (and_true_second (is_ready free w) (not (common w.needs kept)) go) in (
+      inside,
+      it,
+      record {
+        ready = and_true_first (is_ready free w) (not (common w.needs kept)) go;
+        unused = x.are.unused w.needs none;
+        not_kept = λ i keeps. x.are.apart w.needs none i (elim keeps.2 [
+          | inl less ↦ (less, keeps.1)
+          | inr isnt ↦ absurd (false≢true (sym isnt ∙ it))
+        ]);
+      },
+      x.reasons,
+    )
+
+-- ---- the first of all
+
+other_reason : (most in_use free : ℕ) (wishes : List Wish) (kept : ℕ) → IsFirstKept most in_use free wishes (None, kept) → (i : ℕ) → i < length wishes
+    → may_go kept free (wish_at wishes i) ≡ false → HasReason most in_use free wishes i
+other_reason most in_use free wishes kept x i inside fails = elim (cases_Bool (is_kept most free (wish_at wishes i))) [
+  | inl it ↦ x.1 i (inside, it)
+  | inr isnt ↦ elim (not_may_go kept free (wish_at wishes i) fails) [
+    | inl not_ready ↦ inl not_ready
+    | inr shares ↦ elim (x.0.why (wish_at wishes i).needs shares) [
+      | inl used ↦ inr (inl used)
+      | inr one ↦ inr (inr (one.0, (one.1.0, one.1.1, inr isnt), one.2))
+    ]
+  ]
+]
+
+pub first_is_kept : (most in_use free : ℕ) (wishes : List Wish) (k kept : ℕ) → IsFirstKept most in_use free wishes (Some k, kept)
+    → IsFirst most in_use free wishes (Some k)
+first_is_kept most in_use free wishes k kept x = (
+  x.0,
+  x.2,
+  λ i before. elim before.1 [
+    | inl b ↦ x.3 i (b.0, b.1 x.1)
+    | inr b ↦ absurd (false≢true (sym b.1 ∙ x.1))
+  ],
+)
+
+pub first_is_other : (most in_use free : ℕ) (wishes : List Wish) (kept : ℕ) (o : Option ℕ) → IsFirstKept most in_use free wishes (None, kept)
+    → IsFirstOther kept free wishes o → IsFirst most in_use free wishes o
+first_is_other most in_use free wishes kept (Some k) x y =
+    let w = wish_at wishes k in
+    let none : common w.needs kept ≡ false = not_is (common w.needs kept) (and_true_second (is_ready free w) (not (common w.needs kept)) y.1) in (
+      y.0,
+      record {
+        ready = and_true_first (is_ready free w) (not (common w.needs kept)) y.1;
+        unused = x.0.unused w.needs none;
+        not_kept = λ i keeps. x.0.apart w.needs none i (keeps.0, keeps.1);
+      },
+      λ i before. elim before.1 [
+        | inl b ↦ other_reason most in_use free wishes kept x i before.0 (y.2 i b.0)
+        | inr b ↦ x.1 i (before.0, b.0)
+      ],
+    )
+first_is_other most in_use free wishes kept None x y = λ i inside. other_reason most in_use free wishes kept x i inside (y i inside)
 
 pub or_false_is : (a k b : Bool) → k ≡ false → a ≡ (a || k && b)
 or_false_is a k b h = sym (ap (λ c. a || c && b) h ∙ with_false a)

@@ -3,3 +3,4 @@ pub mod PassedBy
 pub mod Standing
 pub mod Overtaken
 pub mod Waiting
+pub mod Fair

@@ -1,14 +1,14 @@
 -- Who stands in line, and behind whom.
-use Rattle.std.proofs.Common.{◌≡◌, ◌≢◌, ℕ, zero, suc, ◌+◌, ◌<◌, ◌≤◌, Bool, true, false, not, nat_eq, nat_le, if◌then◌else◌, List, [], ◌∷◌, ◌++◌, length, Option, Some, None, ◌-◌, length-append, refl, sym, ap, ◌∙◌, subst, inl, inr, arith, rules}
-use Rattle.std.proofs.lemmas.Bool.{cases_Bool, cases_lt, false≢true}
+use Rattle.std.proofs.Common.{◌≡◌, ℕ, suc, ◌+◌, ◌<◌, ◌≤◌, Bool, true, false, not, nat_eq, nat_lt, if◌then◌else◌, List, [], ◌∷◌, ◌++◌, length, Option, Some, None, ◌-◌, length-append, refl, sym, ap, subst, inl, inr, arith, rules}
+use Rattle.std.proofs.lemmas.Bool.{cases_Bool}
 use Rattle.bay_line.specs.declared.wish.Wish.{Wish}
-use Rattle.bay_line.specs.Wishes.{wish_at, is_ready, common, passes, passed_by}
+use Rattle.bay_line.specs.Wishes.{wish_at, common, passes, counts, passed_by}
 use Rattle.std.proofs.lemmas.List.{length-map}
 use Rattle.std.proofs.lemmas.Nat.{and_comm}
 use Rattle.bay_line.specs.declared.going_in.Seated.{Seated}
-use Rattle.bay_line.proofs.Kept.{and_true_first, and_true_second, and_is}
+use Rattle.bay_line.proofs.Kept.{and_true_second}
 use Rattle.bay_line.proofs.PassedBy.{as_many}
-use Rattle.bay_line.specs.Turns.{MayGoIn, pass_first, others}
+use Rattle.bay_line.specs.Turns.{pass_all, others}
 use Rattle.bay_line.specs.Lines.{Above, Below, Rises, Seldom, IsInOrder, GoIn, wishes_of}
 
 pub either : {A : Type 0} (P : A → Type 0) (b : Bool) (x y : A) → P x → P y → P (if b then x else y)
@@ -18,16 +18,10 @@ either P false x y p q = q
 pub common_comm : (a b : ℕ) → common a b ≡ common b a
 common_comm a b = ap (λ n. not (nat_eq n 0)) (and_comm a b)
 
-leb_is : (a b : ℕ) → a ≤ b → nat_le a b ≡ true
-leb_is a b h = elim (cases_Bool (nat_le a b)) [
-  | inl is ↦ is
-  | inr isnt ↦ search (rules, h, isnt)
-]
-
 -- ---- numbers
 
-pub same_ask : (free needs : ℕ) (w : Wish) → (passed_by free needs w).ask ≡ w.ask
-same_ask free needs w = either (λ (v : Wish). v.ask ≡ w.ask) (passes free needs w) _ w refl refl
+pub same_ask : (most free needs : ℕ) (w : Wish) → (passed_by most free needs w).ask ≡ w.ask
+same_ask most free needs w = either (λ (v : Wish). v.ask ≡ w.ask) (counts most free needs w) _ w refl refl
 
 above_others : (n ask : ℕ) (ws : List Wish) → Above n ws → Above n (others ask ws)
 above_others n ask [] h = tt
@@ -39,16 +33,14 @@ rises_others ask [] h = tt
 rises_others ask (w ∷ ws) h =
     either Rises (not (nat_eq w.ask ask)) (w ∷ others ask ws) (others ask ws) (above_others w.ask ask ws h.0, rises_others ask ws h.1) (rises_others ask ws h.1)
 
-above_passed : (n free needs k : ℕ) (ws : List Wish) → Above n ws → Above n (pass_first free needs k ws)
-above_passed n free needs zero ws h = h
-above_passed n free needs (suc k) [] h = tt
-above_passed n free needs (suc k) (w ∷ ws) h = (subst (λ m. n ≤ m) (sym (same_ask free needs w)) h.0, above_passed n free needs k ws h.1)
+above_passed : (n most free needs : ℕ) (ws : List Wish) → Above n ws → Above n (pass_all most free needs ws)
+above_passed n most free needs [] h = tt
+above_passed n most free needs (w ∷ ws) h = (subst (λ m. n ≤ m) (sym (same_ask most free needs w)) h.0, above_passed n most free needs ws h.1)
 
-pub rises_passed : (free needs k : ℕ) (ws : List Wish) → Rises ws → Rises (pass_first free needs k ws)
-rises_passed free needs zero ws h = h
-rises_passed free needs (suc k) [] h = tt
-rises_passed free needs (suc k) (w ∷ ws) h =
-    (subst (λ m. Above m (pass_first free needs k ws)) (sym (same_ask free needs w)) (above_passed w.ask free needs k ws h.0), rises_passed free needs k ws h.1)
+pub rises_passed : (most free needs : ℕ) (ws : List Wish) → Rises ws → Rises (pass_all most free needs ws)
+rises_passed most free needs [] h = tt
+rises_passed most free needs (w ∷ ws) h =
+    (subst (λ m. Above m (pass_all most free needs ws)) (sym (same_ask most free needs w)) (above_passed w.ask most free needs ws h.0), rises_passed most free needs ws h.1)
 
 above_more : (n : ℕ) (ws vs : List Wish) → Above n ws → Above n vs → Above n (ws ++ vs)
 above_more n [] vs h g = g
@@ -88,25 +80,20 @@ pub seldom_more : (most ask : ℕ) (ws : List Wish) (sets : List ℕ) (seats : �
 seldom_more most ask [] sets seats d h = seldom_wishes most ask sets seats d
 seldom_more most ask (w ∷ ws) sets seats d h = (h.0, seldom_more most ask ws sets seats d h.1)
 
--- the first k of those that would be passed by may be passed by once more
-abbrev pub MayBePassed : ℕ → ℕ → ℕ → ℕ → List Wish → Type 0
-MayBePassed most free needs k ws = (i : ℕ) → i < k → passes free needs (wish_at ws i) ≡ true → (wish_at ws i).passed < most
+pub lt_is : (a b : ℕ) → nat_lt a b ≡ true → a < b
+lt_is a b h = search (rules, h)
 
-passed_seldom : (most free needs : ℕ) (w : Wish) → w.passed ≤ most → (passes free needs w ≡ true → w.passed < most) → (passed_by free needs w).passed ≤ most
-passed_seldom most free needs w le h = elim (cases_Bool (passes free needs w)) [
-  | inl is ↦
-      let less = h is in
-      subst (λ b. (if b then record { ask = w.ask; needs = w.needs; seats = w.seats; deadline = w.deadline; passed = w.passed + 1 } else w).passed ≤ most) (sym is) (omega (arith, less))
-  | inr isnt ↦ subst (λ b. (if b then record { ask = w.ask; needs = w.needs; seats = w.seats; deadline = w.deadline; passed = w.passed + 1 } else w).passed ≤ most) (sym isnt) le
-]
+passed_seldom : (most free needs : ℕ) (w : Wish) → w.passed ≤ most → (passed_by most free needs w).passed ≤ most
+passed_seldom most free needs w le =
+    let P : Bool → Type 0 = λ b. (if b then record { ask = w.ask; needs = w.needs; seats = w.seats; deadline = w.deadline; passed = w.passed + 1 } else w).passed ≤ most in
+    elim (cases_Bool (counts most free needs w)) [
+      | inl is ↦ let less = lt_is w.passed most (and_true_second (passes free needs w) (nat_lt w.passed most) is) in subst P (sym is) (omega (arith, less))
+      | inr isnt ↦ subst P (sym isnt) le
+    ]
 
-pub seldom_passed : (most free needs k : ℕ) (ws : List Wish) → Seldom most ws → MayBePassed most free needs k ws → Seldom most (pass_first free needs k ws)
-seldom_passed most free needs zero ws h may = h
-seldom_passed most free needs (suc k) [] h may = tt
-seldom_passed most free needs (suc k) (w ∷ ws) h may = (
-  passed_seldom most free needs w h.0 (may 0 (omega arith)),
-  seldom_passed most free needs k ws h.1 (λ i below. may (suc i) (omega (arith, below))),
-)
+pub seldom_passed : (most free needs : ℕ) (ws : List Wish) → Seldom most ws → Seldom most (pass_all most free needs ws)
+seldom_passed most free needs [] h = tt
+seldom_passed most free needs (w ∷ ws) h = (passed_seldom most free needs w h.0, seldom_passed most free needs ws h.1)
 
 -- ---- how many
 
@@ -132,31 +119,19 @@ in_order_more limit most ask ws sets seats d x below room =
     let as_many : length (wishes_of ask sets seats d) ≡ length sets = length-map sets _ in
     record { rises = rises_more ask ws sets seats d x.rises below; seldom = seldom_more most ask ws sets seats d x.seldom; few = omega (arith, few, sum, as_many, room) }
 
-pub in_order_after : (limit most free needs k ask : ℕ) (ws : List Wish) → IsInOrder (record { wishes = ws; limit = limit; most = most })
-    → MayBePassed most free needs k ws → IsInOrder (record { wishes = others ask (pass_first free needs k ws); limit = limit; most = most })
-in_order_after limit most free needs k ask ws x may =
-    in_order_others limit most ask (pass_first free needs k ws) (record {
-      rises = rises_passed free needs k ws x.rises;
-      seldom = seldom_passed most free needs k ws x.seldom may;
-      few = subst (λ n. n ≤ limit) (sym (as_many free needs k ws)) x.few;
+pub in_order_after : (limit most free needs ask : ℕ) (ws : List Wish) → IsInOrder (record { wishes = ws; limit = limit; most = most })
+    → IsInOrder (record { wishes = others ask (pass_all most free needs ws); limit = limit; most = most })
+in_order_after limit most free needs ask ws x =
+    in_order_others limit most ask (pass_all most free needs ws) (record {
+      rises = rises_passed most free needs ws x.rises;
+      seldom = seldom_passed most free needs ws x.seldom;
+      few = subst (λ n. n ≤ limit) (sym (as_many most free needs ws)) x.few;
     })
-
-pub may_be_passed : (most in_use free : ℕ) (ws : List Wish) (k : ℕ) → MayGoIn most in_use free ws k → MayBePassed most free (wish_at ws k).needs k ws
-may_be_passed most in_use free ws k m i below p = elim (cases_lt (wish_at ws i).passed most) [
-  | inl less ↦ less
-  | inr not_less ↦
-      let w = wish_at ws i in
-      let ready : is_ready free w ≡ true = and_true_first (is_ready free w) (common w.needs (wish_at ws k).needs) p in
-      let shares : common w.needs (wish_at ws k).needs ≡ true = and_true_second (is_ready free w) (common w.needs (wish_at ws k).needs) p in
-      let enough : most ≤ w.passed = omega (arith, not_less) in
-      let none = m.not_kept i below (and_is (is_ready free w) (nat_le most w.passed) ready (leb_is most w.passed enough)) in
-      absurd (false≢true (sym none ∙ (common_comm (wish_at ws k).needs w.needs ∙ shares)))
-]
 
 pub in_order_goes : (limit most in_use free : ℕ) (old : List Wish) (s : Option Seated) (new : List Wish) → GoIn most in_use free old s new
     → IsInOrder (record { wishes = old; limit = limit; most = most }) → IsInOrder (record { wishes = new; limit = limit; most = most })
 in_order_goes limit most in_use free old (Some s) new g x =
     subst (λ (ws : List Wish). IsInOrder (record { wishes = ws; limit = limit; most = most })) (sym g.then)
-    (in_order_after limit most free (wish_at old g.place).needs g.place (wish_at old g.place).ask old x (may_be_passed most in_use free old g.place g.next.first.1))
+    (in_order_after limit most free (wish_at old g.place).needs (wish_at old g.place).ask old x)
 in_order_goes limit most in_use free old None new g x =
     subst (λ (ws : List Wish). IsInOrder (record { wishes = ws; limit = limit; most = most })) (sym g.1) x

@@ -1,61 +1,109 @@
 -- What a time of waiting does to one that waits.
-use Rattle.std.proofs.Common.{◌≡◌, ◌≢◌, ℕ, zero, suc, ◌+◌, ◌<◌, ◌≤◌, false, ◌&&◌, not, nat_lt, List, [], ◌∷◌, ◌++◌, length, Option, Some, refl, sym, ap, ◌∙◌, subst, inl, inr, arith, append_assoc, bit_and}
-use Rattle.std.proofs.lemmas.Bool.{cases_eq, eq-eqb, ne_eqb, false≢true}
+use Rattle.std.proofs.Common.{◌≡◌, ◌≢◌, ◌⊎◌, ℕ, zero, suc, ◌+◌, ◌<◌, ◌≤◌, Bool, true, false, ◌&&◌, not, nat_lt, List, [], ◌∷◌, ◌++◌, length, Option, Some, refl, sym, ap, ◌∙◌, subst, inl, inr, arith, rules, append_assoc, bit_and, length-append}
+use Rattle.std.proofs.lemmas.Bool.{cases_eq, cases_Bool, cases_lt, eq-eqb, ne_eqb, false≢true}
 use Rattle.std.proofs.lemmas.Nat.{and_assoc}
 use Rattle.std.specs.Int.Bits.{and_zero_r}
 use Rattle.bay_line.specs.declared.wish.Wish.{Wish}
 use Rattle.bay_line.specs.declared.going_in.Seated.{Seated}
-use Rattle.bay_line.specs.Wishes.{wish_at, common, passes}
-use Rattle.bay_line.specs.Turns.{HasReason, MayGoIn, pass_first, others}
-use Rattle.bay_line.specs.Lines.{LineView, Rises, Seldom, Below, IsInOrder, GoesIn, LetsIn, wishes_of, asking, leaving}
-use Rattle.bay_line.specs.Bounds.{Stands, WaitsOnce, Waits, goes_before, overtakes, go_before, overtaken, one_if, HasWaited, WantsNoMore}
-use Rattle.bay_line.proofs.Standing.{in_order_others, in_order_goes, rises_more, seldom_more, fewer_others}
+use Rattle.bay_line.specs.Wishes.{no_wish, wish_at, common, is_ready, is_kept, passes, counts}
+use Rattle.bay_line.specs.Turns.{HasReason, MayGoIn, pass_all, others}
+use Rattle.bay_line.specs.Lines.{LineView, Seldom, Below, IsInOrder, GoesIn, LetsIn, wishes_of, asking, leaving}
+use Rattle.bay_line.specs.Bounds.{Stands, WaitsOnce, Waits, goes_before, go_before, one_if, HasWaited, WantsNoMore}
+use Rattle.bay_line.proofs.Standing.{in_order_others, in_order_goes, rises_more, seldom_more, fewer_others, common_comm}
+use Rattle.std.proofs.Math.Seq.{get_or-append_seam}
+use Rattle.bay_line.proofs.Kept.{and_true_second}
 use Rattle.bay_line.proofs.Overtaken.{Goes, one_goes, others_apart}
 
 -- ---- one letting-in
 
-let_in_once : (free needs ask k : ℕ) (ws : List Wish) (w : Wish) (place : ℕ) → Stands w place ws → (wish_at ws k).ask ≡ ask → k < length ws → w.ask ≢ ask → Rises ws
-    → Goes free needs ask w place (others ask (pass_first free needs k ws))
-let_in_once free needs ask k ws w place st at inside other rises =
-    let P : List Wish → Type 0 = λ vs. (wish_at vs k).ask ≡ ask → k < length vs → Rises vs → Goes free needs ask w (length st.before) (others ask (pass_first free needs k vs)) in
-    subst (λ n. Goes free needs ask w n (others ask (pass_first free needs k ws))) st.place_is
-    (subst P (sym st.is) (λ a i r. one_goes free needs ask k st.before w st.behind a i other r) at inside rises)
+let_in_once : (most free needs ask k : ℕ) (ws : List Wish) (w : Wish) (place : ℕ) → (st : Stands w place ws) → (wish_at ws k).ask ≡ ask → w.ask ≢ ask
+    → (is_kept most free w ≡ true → passes free needs w ≡ true → k < length st.before)
+    → Goes most free needs ask w place (others ask (pass_all most free needs ws))
+let_in_once most free needs ask k ws w place st at other ahead =
+    let P : List Wish → Type 0 = λ vs. (wish_at vs k).ask ≡ ask → Goes most free needs ask w (length st.before) (others ask (pass_all most free needs vs)) in
+    subst (λ n. Goes most free needs ask w n (others ask (pass_all most free needs ws))) st.place_is
+    (subst P (sym st.is) (λ a. one_goes most free needs ask k st.before w st.behind a other ahead) at)
 
-has_gone : (free needs ask : ℕ) (w : Wish) (place : ℕ) (new : LineView) → Goes free needs ask w place new.wishes
-    → HasWaited w place (one_if (passes free needs w)) (one_if (nat_lt w.ask ask && passes free needs w)) new
-has_gone free needs ask w place new g = record {
+at_seam : (xs : List Wish) (w : Wish) (ys : List Wish) → wish_at (xs ++ w ∷ ys) (length xs) ≡ w
+at_seam xs w ys = get_or-append_seam xs w ys no_wish
+
+-- the wish where it stands
+at_its_place : (ws : List Wish) (w : Wish) (place : ℕ) (st : Stands w place ws) → wish_at ws (length st.before) ≡ w
+at_its_place ws w place st = ap (λ (l : List Wish). wish_at l (length st.before)) st.is ∙ at_seam st.before w st.behind
+
+its_place_inside : (ws : List Wish) (w : Wish) (place : ℕ) (st : Stands w place ws) → length st.before < length ws
+its_place_inside ws w place st =
+    let sum = length-append st.before (w ∷ st.behind) in let same : length ws ≡ length (st.before ++ w ∷ st.behind) = ap length st.is in omega (arith, sum, same)
+
+-- whoever goes before one for which its instruments are kept, and needs one of them, stands before it
+stands_ahead : (most in_use free needs k : ℕ) (ws : List Wish) (w : Wish) (place : ℕ) (st : Stands w place ws) → MayGoIn most in_use free ws k
+    → (wish_at ws k).needs ≡ needs → (wish_at ws k).ask ≢ w.ask → is_kept most free w ≡ true → passes free needs w ≡ true → k < length st.before
+stands_ahead most in_use free needs k ws w place st may same other kept p = elim (cases_lt k (length st.before)) [
+  | inl before ↦ before
+  | inr behind ↦
+      let i = length st.before in let is = at_its_place ws w place st in
+      let apart : i ≢ k = λ e. other (ap (λ j. (wish_at ws j).ask) (sym e) ∙ ap (λ (v : Wish). v.ask) is) in
+      let keeps = may.not_kept i (its_place_inside ws w place st, subst (λ (v : Wish). is_kept most free v ≡ true) (sym is) kept, inl (omega (arith, behind, apart))) in
+      let shares : common w.needs needs ≡ true = and_true_second (is_ready free w) (common w.needs needs) p in
+      let none : common needs w.needs ≡ false = subst (λ (z : ℕ × ℕ). common z.0 z.1 ≡ false) (λ j. (same j, (is j).needs)) keeps in
+      absurd (false≢true (sym none ∙ (common_comm needs w.needs ∙ shares)))
+]
+
+no_less : (b : Bool) (p q : ℕ) → p ≡ q + one_if b → q ≤ p
+no_less true p q h = omega (arith, h)
+no_less false p q h = omega (arith, h)
+
+lt_is_true : (a b : ℕ) → a < b → nat_lt a b ≡ true
+lt_is_true a b h = elim (cases_Bool (nat_lt a b)) [
+  | inl is ↦ is
+  | inr isnt ↦ search (rules, h, isnt)
+]
+
+with_true : (a b : Bool) → b ≡ true → (a && b) ≡ a
+with_true true b h = h
+with_true false b h = refl
+
+has_gone : (most free needs ask : ℕ) (w : Wish) (place : ℕ) (new : LineView) → new.most ≡ most → Goes most free needs ask w place new.wishes
+    → HasWaited w place (one_if (passes free needs w)) new
+has_gone most free needs ask w place new same g = record {
   it = g.it;
   now = g.now;
   stands = g.stands;
   ask = g.its_ask;
   needs = g.its_needs;
   seats = g.its_seats;
+  later = one_if (counts most free needs w);
   counted = g.counted;
+  each = λ less.
+      let more = no_less (counts most free needs w) g.it.passed w.passed g.counted in
+      let below : w.passed < most = omega (arith, more, less, same) in
+      sym (ap one_if (with_true (passes free needs w) (nat_lt w.passed most) (lt_is_true w.passed most below)));
   bound = g.bound;
 }
 
 -- ---- one thing that happens while it waits
 
-pub record Goes_on (w : Wish) (place all later : ℕ) (old new : LineView) : Type 0 where
-  pub waited : HasWaited w place all later new
+pub record Goes_on (w : Wish) (place all : ℕ) (old new : LineView) : Type 0 where
+  pub waited : HasWaited w place all new
   pub in_order : IsInOrder new
   pub most : new.most ≡ old.most
 
 goes_in : (in_use free : ℕ) (s : Seated) (old new : LineView) (w : Wish) (place : ℕ) → IsInOrder old → Stands w place old.wishes → s.ask ≢ w.ask
-    → LetsIn in_use free old (Some s) new → Goes_on w place (one_if (passes free s.needs w)) (one_if (nat_lt w.ask s.ask && passes free s.needs w)) old new
+    → LetsIn in_use free old (Some s) new → Goes_on w place (one_if (passes free s.needs w)) old new
 goes_in in_use free s old new w place x st other lets =
     let g : GoesIn old.most in_use free old.wishes s new.wishes = lets.goes in
-    let k = g.place in
-    let then : new.wishes ≡ others s.ask (pass_first free s.needs k old.wishes) =
-    g.then ∙ ap (λ (z : ℕ × ℕ). others z.0 (pass_first free z.1 k old.wishes)) (λ i. (sym g.next.ask i, sym g.next.needs i)) in
-    let one = let_in_once free s.needs s.ask k old.wishes w place st (sym g.next.ask) g.next.first.0 (λ e. other (sym e)) x.rises in
+    let k = g.place in let most = ap (λ (v : LineView). v.most) lets.same in
+    let then : new.wishes ≡ others s.ask (pass_all old.most free s.needs old.wishes) =
+    g.then ∙ ap (λ (z : ℕ × ℕ). others z.0 (pass_all old.most free z.1 old.wishes)) (λ i. (sym g.next.ask i, sym g.next.needs i)) in
+    let ahead = stands_ahead old.most in_use free s.needs k old.wishes w place st g.next.first.1 (sym g.next.needs) (λ e. other (g.next.ask ∙ e)) in
+    let one = let_in_once old.most free s.needs s.ask k old.wishes w place st (sym g.next.ask) (λ e. other (sym e)) ahead in
     record {
-      waited = has_gone free s.needs s.ask w place new (subst (Goes free s.needs s.ask w place) (sym then) one);
+      waited = has_gone old.most free s.needs s.ask w place new most (subst (Goes old.most free s.needs s.ask w place) (sym then) one);
       in_order = subst IsInOrder (sym lets.same) (in_order_goes old.limit old.most in_use free old.wishes (Some s) new.wishes lets.goes x);
-      most = ap (λ (v : LineView). v.most) lets.same;
+      most = most;
     }
 
-nothing_went : (w : Wish) (place now : ℕ) (new : LineView) → Stands w now new.wishes → now ≤ place → HasWaited w place 0 0 new
+nothing_went : (w : Wish) (place now : ℕ) (new : LineView) → Stands w now new.wishes → now ≤ place → HasWaited w place 0 new
 nothing_went w place now new st less = record {
   it = w;
   now = now;
@@ -63,7 +111,9 @@ nothing_went w place now new st less = record {
   ask = refl;
   needs = refl;
   seats = refl;
+  later = 0;
   counted = omega arith;
+  each = λ h. refl;
   bound = omega (arith, less);
 }
 
@@ -76,9 +126,9 @@ stands_on w place ws more st = record {
 }
 
 one_asks : (other : ℕ) (sets : List ℕ) (seats : ℕ) (d : Option ℕ) (old new : LineView) (w : Wish) (place : ℕ) → IsInOrder old → Stands w place old.wishes → Below other old.wishes
-    → new ≡ asking old other sets seats d → length new.wishes ≤ new.limit → Goes_on w place 0 0 old new
+    → new ≡ asking old other sets seats d → length new.wishes ≤ new.limit → Goes_on w place 0 old new
 one_asks other sets seats d old new w place x st below is few =
-    let P : LineView → Type 0 = λ v. length v.wishes ≤ v.limit → Goes_on w place 0 0 old v in
+    let P : LineView → Type 0 = λ v. length v.wishes ≤ v.limit → Goes_on w place 0 old v in
     subst P (sym is) (λ f. record {
       waited = nothing_went w place place (asking old other sets seats d) (stands_on w place old.wishes (wishes_of other sets seats d) st) (omega arith);
       in_order = record { rises = rises_more other old.wishes sets seats d x.rises below; seldom = seldom_more old.most other old.wishes sets seats d x.seldom; few = f };
@@ -99,17 +149,17 @@ stands_apart ask ws w place other st =
     )
 
 one_leaves : (other : ℕ) (old new : LineView) (w : Wish) (place : ℕ) → IsInOrder old → Stands w place old.wishes → other ≢ w.ask → new ≡ leaving old other
-    → Goes_on w place 0 0 old new
+    → Goes_on w place 0 old new
 one_leaves other old new w place x st apart is =
     let a = stands_apart other old.wishes w place (λ e. apart (sym e)) st in
-    subst (Goes_on w place 0 0 old) (sym is) (record {
+    subst (Goes_on w place 0 old) (sym is) (record {
       waited = nothing_went w place a.0 (leaving old other) a.1 a.2;
       in_order = in_order_others old.limit old.most other old.wishes x;
       most = refl;
     })
 
 once : (ask : ℕ) (old new : LineView) (w : Wish) (place : ℕ) → IsInOrder old → w.ask ≡ ask → Stands w place old.wishes → (o : WaitsOnce ask old new)
-    → Goes_on w place (goes_before ask old new o w) (overtakes ask old new o w) old new
+    → Goes_on w place (goes_before ask old new o w) old new
 once ask old new w place x is st (inl (in_use, free, s, lets, other)) = goes_in in_use free s old new w place x st (λ e. other (e ∙ is)) lets
 once ask old new w place x is st (inr (inl (other, sets, seats, d, below, same, few))) = one_asks other sets seats d old new w place x st below same few
 once ask old new w place x is st (inr (inr (other, apart, same))) = one_leaves other old new w place x st (λ e. apart (e ∙ is)) same
@@ -122,15 +172,9 @@ same_go ask old new (inl (in_use, free, s, lets, other)) v w needs seats =
     ap (λ (z : ℕ × ℕ). one_if (common z.0 free && common z.1 s.needs)) (λ i. (seats i, needs i))
 same_go ask old new (inr same) v w needs seats = refl
 
-same_overtake : (ask : ℕ) (old new : LineView) (o : WaitsOnce ask old new) (v w : Wish) → v.ask ≡ w.ask → v.needs ≡ w.needs → v.seats ≡ w.seats
-    → overtakes ask old new o v ≡ overtakes ask old new o w
-same_overtake ask old new (inl (in_use, free, s, lets, other)) v w number needs seats =
-    ap (λ (z : ℕ × ℕ × ℕ). one_if (nat_lt z.0 s.ask && (common z.1 free && common z.2 s.needs))) (λ i. (number i, seats i, needs i))
-same_overtake ask old new (inr same) v w number needs seats = refl
-
-added : (w : Wish) (place a b c d : ℕ) (mid new : LineView) (x : HasWaited w place a b mid) → HasWaited x.it x.now c d new → HasWaited w place (a + c) (b + d) new
-added w place a b c d mid new x y =
-    let p = x.counted in let q = y.counted in let r = x.bound in let s = y.bound in
+added : (w : Wish) (place a c : ℕ) (mid new : LineView) (x : HasWaited w place a mid) → new.most ≡ mid.most → HasWaited x.it x.now c new → HasWaited w place (a + c) new
+added w place a c mid new x same y =
+    let p = x.counted in let q = y.counted in let r = x.bound in let s = y.bound in let e = x.each in let f = y.each in
     record {
       it = y.it;
       now = y.now;
@@ -138,23 +182,24 @@ added w place a b c d mid new x y =
       ask = y.ask ∙ x.ask;
       needs = y.needs ∙ x.needs;
       seats = y.seats ∙ x.seats;
+      later = x.later + y.later;
       counted = omega (arith, p, q);
+      each = λ less. let one = e (omega (arith, less, q, same)) in let two = f less in omega (arith, one, two);
       bound = omega (arith, r, s);
     }
 
 pub meanwhile : (ask n : ℕ) (old new : LineView) (w : Wish) (place : ℕ) → IsInOrder old → w.ask ≡ ask → Stands w place old.wishes → (o : Waits ask n old new)
-    → Goes_on w place (go_before ask n old new o w) (overtaken ask n old new o w) old new
+    → Goes_on w place (go_before ask n old new o w) old new
 meanwhile ask zero old new w place x is st same =
-    subst (Goes_on w place 0 0 old) (sym same) (record { waited = nothing_went w place place old st (omega arith); in_order = x; most = refl })
+    subst (Goes_on w place 0 old) (sym same) (record { waited = nothing_went w place place old st (omega arith); in_order = x; most = refl })
 meanwhile ask (suc n) old new w place x is st (mid, before, o) =
     let m = meanwhile ask n old mid w place x is st before in
     let v = m.waited.it in
     let one = once ask mid new v m.waited.now m.in_order (m.waited.ask ∙ is) m.waited.stands o in
-    let now : HasWaited v m.waited.now (goes_before ask mid new o w) (overtakes ask mid new o w) new =
-    subst (λ (z : ℕ × ℕ). HasWaited v m.waited.now z.0 z.1 new)
-    (λ i. (same_go ask mid new o v w m.waited.needs m.waited.seats i, same_overtake ask mid new o v w m.waited.ask m.waited.needs m.waited.seats i)) one.waited in
+    let now : HasWaited v m.waited.now (goes_before ask mid new o w) new =
+    subst (λ z. HasWaited v m.waited.now z new) (same_go ask mid new o v w m.waited.needs m.waited.seats) one.waited in
     record {
-      waited = added w place (go_before ask n old mid before w) (overtaken ask n old mid before w) (goes_before ask mid new o w) (overtakes ask mid new o w) mid new m.waited now;
+      waited = added w place (go_before ask n old mid before w) (goes_before ask mid new o w) mid new m.waited one.most now;
       in_order = one.in_order;
       most = one.most ∙ m.most;
     }
@@ -163,9 +208,9 @@ seldom_at : (most : ℕ) (xs : List Wish) (w : Wish) (ys : List Wish) → Seldom
 seldom_at most [] w ys h = h.0
 seldom_at most (x ∷ xs) w ys h = seldom_at most xs w ys h.1
 
-pub passed_at_most : (most place all later : ℕ) (w : Wish) (new : LineView) → HasWaited w place all later new → IsInOrder new → new.most ≡ most
-    → (w.passed + later ≤ most) × (all + w.passed ≤ place + most)
-passed_at_most most place all later w new h x same =
+pub passed_at_most : (most place all : ℕ) (w : Wish) (new : LineView) → (h : HasWaited w place all new) → IsInOrder new → new.most ≡ most
+    → (w.passed + h.later ≤ most) × (all + w.passed ≤ place + most)
+passed_at_most most place all w new h x same =
     let st = h.stands in
     let few : h.it.passed ≤ new.most = seldom_at new.most st.before h.it st.behind (subst (Seldom new.most) st.is x.seldom) in
     let p = h.counted in let q = h.bound in (omega (arith, few, p, same), omega (arith, few, p, q, same))
@@ -186,10 +231,17 @@ less_shares a b f less none =
     ap not (eq-eqb (bit_and a f) 0 zero_a)
 
 pub no_reason : (most in_use free : ℕ) (old : List Wish) (i k : ℕ) → i < k → MayGoIn most in_use free old k → WantsNoMore (wish_at old i) (wish_at old k)
-    → HasReason most in_use free old i → ⊥
-no_reason most in_use free old i k below may less (inl not_ready) =
+    → (is_kept most free (wish_at old k) ≡ true → is_kept most free (wish_at old i) ≡ true) → HasReason most in_use free old i → ⊥
+no_reason most in_use free old i k below may less too (inl not_ready) =
     false≢true (sym (less_shares (wish_at old k).seats (wish_at old i).seats free less.seats not_ready) ∙ may.ready)
-no_reason most in_use free old i k below may less (inr (inl used)) =
+no_reason most in_use free old i k below may less too (inr (inl used)) =
     false≢true (sym (less_shares (wish_at old i).needs (wish_at old k).needs in_use less.needs may.unused) ∙ used)
-no_reason most in_use free old i k below may less (inr (inr (h, before, kept, shares))) =
-    false≢true (sym (less_shares (wish_at old i).needs (wish_at old k).needs (wish_at old h).needs less.needs (may.not_kept h (omega (arith, before, below)) kept)) ∙ shares)
+no_reason most in_use free old i k below may less too (inr (inr (h, keeps, shares))) =
+    let from : (h < k) ⊎ (is_kept most free (wish_at old k) ≡ false) = elim keeps.2 [
+      | inl before ↦ inl (omega (arith, before, below))
+      | inr isnt ↦ elim (cases_Bool (is_kept most free (wish_at old k))) [
+        | inl it ↦ absurd (false≢true (sym isnt ∙ too it))
+        | inr none ↦ inr none
+      ]
+    ] in
+    false≢true (sym (less_shares (wish_at old i).needs (wish_at old k).needs (wish_at old h).needs less.needs (may.not_kept h (keeps.0, keeps.1, from))) ∙ shares)

@@ -1,12 +1,12 @@
 -- For readers: by how many somebody is passed while it waits in line.
-use Rattle.std.specs.Prelude.{◌≡◌, ◌≢◌, ◌⊎◌, ℕ, zero, suc, ◌+◌, ◌<◌, ◌≤◌, Bool, ◌&&◌, nat_lt, if◌then◌else◌, List, ◌∷◌, ◌++◌, length, Option, Some, None}
+use Rattle.std.specs.Prelude.{◌≡◌, ◌≢◌, ◌⊎◌, ℕ, zero, suc, ◌+◌, ◌<◌, ◌≤◌, Bool, if◌then◌else◌, true, List, [], ◌∷◌, ◌++◌, length, Option, Some, None}
 use Rattle.std.proofs.Common.{inl, inr}
 use Rattle.std.specs.Int.Bits.{bit_and}
 use Rattle.bay_line.specs.declared.wish.Wish.{Wish}
 use Rattle.bay_line.specs.declared.going_in.Seated.{Seated}
-use Rattle.bay_line.specs.Wishes.{wish_at, passes}
-use Rattle.bay_line.specs.Turns.{MayGoIn}
-use Rattle.bay_line.specs.Lines.{LineView, IsInOrder, Below, GoesIn, GoIn, LetsIn, asking, leaving}
+use Rattle.bay_line.specs.Wishes.{wish_at, is_kept, passes}
+use Rattle.bay_line.specs.Turns.{MayGoIn, others}
+use Rattle.bay_line.specs.Lines.{LineView, IsInOrder, Below, GoesIn, GoIn, LetsIn, wishes_of, asking, leaving}
 
 -- so many wishes stand before this one
 pub record Stands (w : Wish) (place : ℕ) (wishes : List Wish) : Type 0 where
@@ -36,39 +36,31 @@ abbrev pub goes_before : (ask : ℕ) (old new : LineView) → WaitsOnce ask old 
 goes_before ask old new (inl (in_use, free, s, lets, other)) w = one_if (passes free s.needs w)
 goes_before ask old new (inr same) w = 0
 
--- one more, if that one asked later
-abbrev pub overtakes : (ask : ℕ) (old new : LineView) → WaitsOnce ask old new → Wish → ℕ
-overtakes ask old new (inl (in_use, free, s, lets, other)) w = one_if (nat_lt w.ask s.ask && passes free s.needs w)
-overtakes ask old new (inr same) w = 0
-
 -- all that went before it
 abbrev pub go_before : (ask n : ℕ) (old new : LineView) → Waits ask n old new → Wish → ℕ
 go_before ask zero old new same w = 0
 go_before ask (suc n) old new (mid, before, once) w = go_before ask n old mid before w + goes_before ask mid new once w
 
--- all that went before it though they asked later
-abbrev pub overtaken : (ask n : ℕ) (old new : LineView) → Waits ask n old new → Wish → ℕ
-overtaken ask zero old new same w = 0
-overtaken ask (suc n) old new (mid, before, once) w = overtaken ask n old mid before w + overtakes ask mid new once w
-
--- The wish is in line still, and counts as many as overtook it; and all that went before it are no more than these and those that don't stand before it any
--- more
-pub record HasWaited (w : Wish) (place all later : ℕ) (new : LineView) : Type 0 where
+-- The wish is in line still. It counts those that went before it, until it was passed by as often as may be; and all that went before it are no more than it
+-- counted and stand before it no more
+pub record HasWaited (w : Wish) (place all : ℕ) (new : LineView) : Type 0 where
   pub it : Wish
   pub now : ℕ
   pub stands : Stands it now new.wishes
   pub ask : it.ask ≡ w.ask
   pub needs : it.needs ≡ w.needs
   pub seats : it.seats ≡ w.seats
+  pub later : ℕ
   pub counted : it.passed ≡ w.passed + later
+  pub each : it.passed < new.most → all ≡ later
   pub bound : all + now ≤ place + later
 
--- From its asking on, and as long as it waits, each wish is overtaken by at most `most` sessions that need one of its instruments; and at most so many more
--- go before it as stood in line before it when it asked
+-- As long as a wish waits: each session that needs one of its instruments and is let in while a seat is free for it is counted, until it was passed by as often
+-- as may be. From its asking on at most `most` go before it, and at most so many more as stood in line before it when it asked
 abbrev pub IsPassedAtMost : Type 0
 IsPassedAtMost =
     (ask n : ℕ) (old new : LineView) (w : Wish) (place : ℕ) → IsInOrder old → w.ask ≡ ask → Stands w place old.wishes → (waits : Waits ask n old new)
-    → HasWaited w place (go_before ask n old new waits w) (overtaken ask n old new waits w) new × (w.passed + overtaken ask n old new waits w ≤ old.most)
+    → (h : HasWaited w place (go_before ask n old new waits w) new) × (w.passed + h.later ≤ old.most)
     × (go_before ask n old new waits w + w.passed ≤ place + old.most) × (new.most ≡ old.most) × IsInOrder new
 
 -- ---- first come, first served
@@ -78,15 +70,17 @@ pub record WantsNoMore (w other : Wish) : Type 0 where
   pub needs : bit_and w.needs other.needs ≡ w.needs
   pub seats : bit_and other.seats w.seats ≡ other.seats
 
--- Whoever is let in: nobody that stood before it wants no more, and may sit wherever it may. So among those that want the same, the first come is served first
+-- Whoever is let in: nobody that stood before it wants no more, and may sit wherever it may, unless the one was passed by as often as may be and the other
+-- wasn't. So among those that want the same, the first come is served first
 abbrev pub IsFirstComeFirstServed : Type 0
 IsFirstComeFirstServed =
     (most in_use free : ℕ) (old : List Wish) (s : Seated) (new : List Wish) (goes : GoesIn most in_use free old s new) (i : ℕ)
-    → i < goes.place → WantsNoMore (wish_at old i) (wish_at old goes.place) → ⊥
+    → i < goes.place → WantsNoMore (wish_at old i) (wish_at old goes.place)
+    → (is_kept most free (wish_at old goes.place) ≡ true → is_kept most free (wish_at old i) ≡ true) → ⊥
 
 -- ---- nobody waits for nothing
 
--- its instruments are free, a seat is free for it, and nobody before it that was passed by as often as may be, and for whom a seat is free, wants one of them
+-- its instruments are free, a seat is free for it, and none of them is kept for one that goes before it
 pub record WaitsForNothing (most in_use free : ℕ) (wishes : List Wish) (k : ℕ) : Type 0 where
   pub inside : k < length wishes
   pub may : MayGoIn most in_use free wishes k
@@ -95,3 +89,28 @@ pub record WaitsForNothing (most in_use free : ℕ) (wishes : List Wish) (k : �
 abbrev pub NobodyWaitsForNothing : Type 0
 NobodyWaitsForNothing =
     (most in_use free : ℕ) (old new : List Wish) → GoIn most in_use free old None new → (k : ℕ) → WaitsForNothing most in_use free new k → ⊥
+
+-- ---- of those that want the same
+
+-- none of these that wants the same, on the same seats, counts more
+abbrev pub NotMore : Wish → List Wish → Type 0
+NotMore w [] = Unit {0}
+NotMore w (v ∷ wishes) = (v.needs ≡ w.needs → v.seats ≡ w.seats → v.passed ≤ w.passed) × NotMore w wishes
+
+-- of those that want the same, on the same seats, whoever came first counts no less
+abbrev pub IsFair : List Wish → Type 0
+IsFair [] = Unit {0}
+IsFair (w ∷ wishes) = NotMore w wishes × IsFair wishes
+
+-- so it stays, whoever asks, leaves, or is let in
+pub record StaysFair : Type 0 where
+  pub asks : (ask : ℕ) (sets : List ℕ) (seats : ℕ) (deadline : Option ℕ) (wishes : List Wish) → IsFair wishes
+      → IsFair (wishes ++ wishes_of ask sets seats deadline)
+  pub leaves : (ask : ℕ) (wishes : List Wish) → IsFair wishes → IsFair (others ask wishes)
+  pub goes : (most in_use free : ℕ) (old : List Wish) (s : Option Seated) (new : List Wish) → GoIn most in_use free old s new → IsFair old → IsFair new
+
+-- and so, among those that want the same, on the same seats, the first come is served first
+abbrev pub IsFairlyServed : Type 0
+IsFairlyServed =
+    (most in_use free : ℕ) (old : List Wish) (s : Seated) (new : List Wish) → IsFair old → (goes : GoesIn most in_use free old s new) (i : ℕ)
+    → i < goes.place → (wish_at old i).needs ≡ (wish_at old goes.place).needs → (wish_at old i).seats ≡ (wish_at old goes.place).seats → ⊥

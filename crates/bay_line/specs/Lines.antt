@@ -3,7 +3,7 @@ use Rattle.std.specs.Prelude.{◌≡◌, ℕ, ◌<◌, ◌≤◌, List, [], ◌�
 use Rattle.bay_line.specs.declared.wish.Wish.{Wish}
 use Rattle.bay_line.specs.declared.going_in.Seated.{Seated}
 use Rattle.bay_line.specs.Wishes.{wish_at, is_late}
-use Rattle.bay_line.specs.Turns.{IsFirst, HasReason, IsSeat, others, after}
+use Rattle.bay_line.specs.Turns.{IsFirst, HasReason, IsSeat, others, pass_all, after}
 
 -- the wishes in the order of asking; for how many there is room; and how often one is passed by at most
 pub record LineView : Type 0 where
@@ -83,12 +83,16 @@ IsChosen most in_use free wishes None = (k : ℕ) → k < length wishes → HasR
 pub record GoesIn (most in_use free : ℕ) (old : List Wish) (s : Seated) (new : List Wish) : Type 0 where
   pub place : ℕ
   pub next : IsNext most in_use free old place s
-  pub then : new ≡ after free place old
+  pub then : new ≡ after most free place old
 
 -- or nobody is, and each that waits has a reason
 abbrev pub GoIn : ℕ → ℕ → ℕ → List Wish → Option Seated → List Wish → Type 0
 GoIn most in_use free old (Some s) new = GoesIn most in_use free old s new
 GoIn most in_use free old None new = ((k : ℕ) → k < length old → HasReason most in_use free old k) × (new ≡ old)
+
+-- the one that was next isn't in line any more, and all others are passed by, as far as they are
+abbrev pub gone : LineView → Seated → ℕ → LineView
+gone x s free = with_wishes x (others s.ask (pass_all x.most free s.needs x.wishes))
 
 -- so it is with the line, and the rest stays the same
 pub record LetsIn (in_use free : ℕ) (old : LineView) (s : Option Seated) (new : LineView) : Type 0 where

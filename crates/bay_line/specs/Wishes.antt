@@ -1,5 +1,5 @@
 -- For readers: what somebody in line waits for, and by whom it is passed by.
-use Rattle.std.specs.Prelude.{ℕ, ◌+◌, Bool, ◌&&◌, not, ◌==◌, nat_le, if◌then◌else◌, false, List, slice_index_or, Option, None, Some}
+use Rattle.std.specs.Prelude.{ℕ, ◌+◌, Bool, ◌&&◌, not, ◌==◌, nat_le, nat_lt, if◌then◌else◌, false, List, slice_index_or, Option, None, Some}
 use Rattle.std.specs.Int.Bits.{bit_and}
 use Rattle.bay_line.specs.declared.wish.Wish.{Wish}
 
@@ -27,7 +27,8 @@ is_past now None = false
 abbrev pub is_late : ℕ → Wish → Bool
 is_late now w = is_past now w.deadline
 
--- it was passed by as often as may be, and a seat is free for it: so its instruments are kept for it from those behind it
+-- it was passed by as often as may be, and a seat is free for it: so its instruments are kept for it from all but those before it
+-- of which the same is true
 abbrev pub is_kept : ℕ → ℕ → Wish → Bool
 is_kept most free w = is_ready free w && nat_le most w.passed
 
@@ -35,7 +36,11 @@ is_kept most free w = is_ready free w && nat_le most w.passed
 abbrev pub passes : ℕ → ℕ → Wish → Bool
 passes free needs w = is_ready free w && common w.needs needs
 
+-- and it counts that: it was passed by less often than may be
+abbrev pub counts : ℕ → ℕ → ℕ → Wish → Bool
+counts most free needs w = passes free needs w && nat_lt w.passed most
+
 -- so it is passed by once more
-abbrev pub passed_by : ℕ → ℕ → Wish → Wish
-passed_by free needs w =
-    if passes free needs w then record { ask = w.ask; needs = w.needs; seats = w.seats; deadline = w.deadline; passed = w.passed + 1 } else w
+abbrev pub passed_by : ℕ → ℕ → ℕ → Wish → Wish
+passed_by most free needs w =
+    if counts most free needs w then record { ask = w.ask; needs = w.needs; seats = w.seats; deadline = w.deadline; passed = w.passed + 1 } else w

@@ -1,11 +1,10 @@
 //! Who goes in.
-ghost use Rattle.std.specs.Prelude.{◌≡◌, ℕ, ◌<◌, length};
-ghost use Rattle.bay_line.specs.Wishes.{wish_at};
-ghost use Rattle.bay_line.specs.Turns.{MayGoIn, pass_first, after};
+ghost use Rattle.std.specs.Prelude.{◌≡◌};
+ghost use Rattle.bay_line.specs.Turns.{pass_all, others};
 ghost use Rattle.bay_line.specs.Lines.{IsChosen, GoIn};
 
 use crate::first::{first, seat_for};
-use crate::passing::{pass_first, remove};
+use crate::passing::{pass_all, remove};
 use crate::wish::Wish;
 use std::alloc::Global;
 
@@ -40,25 +39,12 @@ pub(crate) fn choose(wishes: &[Wish], most: u32, in_use: u64, free: u32) -> Opti
     Some((place, seated))
 }
 
-/// The wish at this place is let in: those before it are passed by, as far as they are.
-fn pass_at(wishes: &mut [Wish], place: usize, free: u32)
-    requires inside { place < length wishes.old }
-    requires may { (most : ℕ) × (in_use : ℕ) × (most < 4294967296) × MayGoIn most in_use free wishes.old place }
-    ensures { wishes.new ≡ pass_first free (wish_at wishes.old place).needs place wishes.old }
+/// The one at this place, with this number and these needs, is let in.
+pub(crate) fn go_at(wishes: &mut Vec<Wish, Global>, most: u32, seated: Seated, free: u32)
+    ensures { wishes.new.items ≡ others seated.ask (pass_all most free seated.needs wishes.old.items) }
 {
-    let needs = wishes[place].needs;
-    pass_first(wishes, place, free, needs);
-}
-
-/// The one at this place is let in.
-pub(crate) fn go_at(wishes: &mut Vec<Wish, Global>, place: usize, ask: u64, free: u32)
-    requires inside { place < length wishes.old.items }
-    requires may { (most : ℕ) × (in_use : ℕ) × (most < 4294967296) × MayGoIn most in_use free wishes.old.items place }
-    requires its { (wish_at wishes.old.items place).ask ≡ ask }
-    ensures { wishes.new.items ≡ after free place wishes.old.items }
-{
-    pass_at(wishes, place, free);
-    remove(wishes, ask);
+    pass_all(wishes, most, free, seated.needs);
+    remove(wishes, seated.ask);
 }
 
 /// The first that may be let in goes in, if there is one.
@@ -70,9 +56,9 @@ pub(crate) fn go_in(
 ) -> Option<Seated>
     ensures { GoIn most in_use free wishes.old.items result wishes.new.items }
 {
-    let Some((place, seated)) = choose(wishes, most, in_use, free) else {
+    let Some((_, seated)) = choose(wishes, most, in_use, free) else {
         return None;
     };
-    go_at(wishes, place, seated.ask, free);
+    go_at(wishes, most, seated, free);
     Some(seated)
 }

@@ -1,5 +1,5 @@
 //! What holds of every line. Each law is the contract of a function that does nothing.
-ghost use Rattle.bay_line.specs.Bounds.{IsPassedAtMost, IsFirstComeFirstServed, NobodyWaitsForNothing};
+ghost use Rattle.bay_line.specs.Bounds.{IsPassedAtMost, IsFirstComeFirstServed, NobodyWaitsForNothing, StaysFair, IsFairlyServed};
 
 /// Once nobody is let in any more, nobody waits whose instruments are all free, kept for nobody before it, and for whom a seat is free.
 pub fn nobody_waits_for_nothing()
@@ -15,4 +15,14 @@ pub fn is_passed_at_most()
 /// Among those that want the same, and may sit on the same seats, the first come is served first.
 pub fn is_first_come_first_served()
     ensures { IsFirstComeFirstServed }
+{}
+
+/// Of those that want the same, on the same seats, whoever came first counts no less, whoever asks, leaves, or is let in.
+pub fn stays_fair()
+    ensures { StaysFair }
+{}
+
+/// And so the first come is served first, among those.
+pub fn is_fairly_served()
+    ensures { IsFairlyServed }
 {}

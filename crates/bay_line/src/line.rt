@@ -1,8 +1,6 @@
 //! The line.
-ghost use Rattle.std.specs.Prelude.{◌≡◌, ◌≤◌, ℕ, length, OnErr, OnOk};
-ghost use Rattle.bay_line.specs.declared.going_in.Seated.{Seated};
-ghost use Rattle.bay_line.specs.Turns.{after};
-ghost use Rattle.bay_line.specs.Lines.{nobody, Below, with_wishes, asking, leaving, TakesLate, IsChosen, IsNext, LetsIn};
+ghost use Rattle.std.specs.Prelude.{◌≡◌, ◌≤◌, length, OnErr, OnOk};
+ghost use Rattle.bay_line.specs.Lines.{nobody, Below, asking, leaving, gone, TakesLate, IsChosen, LetsIn};
 
 use crate::appending::append;
 use crate::going_in::{Seated, choose, go_at, go_in};
@@ -107,11 +105,10 @@ impl Line {
     }
 
     /// It is let in.
-    pub fn go(&mut self, place: usize, ask: u64, free: u32)
-        requires { (in_use : ℕ) × (s : Seated) × IsNext self.old.most in_use free self.old.wishes place s × (s.ask ≡ ask) }
-        ensures { self.new ≡ with_wishes self.old (after free place self.old.wishes) }
+    pub fn go(&mut self, seated: Seated, free: u32)
+        ensures { self.new ≡ gone self.old seated free }
     {
-        go_at(&mut self.wishes, place, ask, free);
+        go_at(&mut self.wishes, self.most, seated, free);
     }
 
     /// Lets in the first whose instruments are all free, and kept for nobody before it, and for whom a seat is free. Call it until it answers none.

@@ -41,19 +41,18 @@ pub(crate) fn is_kept(wish: Wish, most: u32, free: u32) -> bool
     is_ready(wish, free) && most <= wish.passed
 }
 
-/// Whether it is passed by, if one behind it with these needs is let in.
-pub(crate) fn passes(wish: Wish, free: u32, needs: u64) -> bool
+/// Whether one with these needs goes before it.
+fn passes(wish: Wish, free: u32, needs: u64) -> bool
     ensures { result ≡ passes free needs wish }
 {
     is_ready(wish, free) && wish.needs & needs != 0
 }
 
-/// The same wish, after one behind it with these needs was let in.
-pub(crate) fn passed_by(wish: Wish, free: u32, needs: u64) -> Wish
-    requires { passes free needs wish ≡ true → wish.passed < 4294967295 }
-    ensures { result ≡ passed_by free needs wish }
+/// The same wish, after one with these needs was let in. Who was passed by as often as may be isn't counted any further.
+pub(crate) fn passed_by(wish: Wish, most: u32, free: u32, needs: u64) -> Wish
+    ensures { result ≡ passed_by most free needs wish }
 {
-    if passes(wish, free, needs) {
+    if passes(wish, free, needs) && wish.passed < most {
         Wish {
             ask: wish.ask,
             needs: wish.needs,

@@ -88,8 +88,8 @@ fn lapses(rt: &impl Abort, bay: &mut Bay) {
     check(rt, 29, bay.tell(), Some((1, Outcome::Over(End::TakenAway))));
     check(rt, 30, bay.tell(), None);
     check(rt, 31, bay.let_go(2), Ok(()));
-    check(rt, 32, bay.tell(), Some((2, Outcome::Over(End::LetGo))));
-    check(rt, 33, bay.tell(), Some((5, Outcome::Holds)));
+    check(rt, 32, bay.tell(), Some((5, Outcome::Holds)));
+    check(rt, 33, bay.tell(), Some((2, Outcome::Over(End::LetGo))));
     bay.time(1000);
     check(rt, 34, bay.tell(), None);
     check(rt, 35, bay.let_go(5), Ok(()));

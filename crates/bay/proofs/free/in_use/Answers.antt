@@ -1,4 +1,4 @@
-use Rattle.std.proofs.Common.{length, ◌≡◌, ◌<◌, sym, ◌∙◌, subst, inl, inr, arith}
+use Rattle.std.proofs.Common.{ap, length, ◌≡◌, ◌<◌, sym, ◌∙◌, subst, inl, inr, arith}
 use Rattle.std.proofs.lemmas.Bool.{cases_eq, false≢true}
 use Rattle.lab_plan.proofs.Bits.{holds_none}
 use Rattle.bay.specs.Frees.{NeedsLast}

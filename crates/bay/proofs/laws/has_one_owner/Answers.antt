@@ -1,7 +1,9 @@
 use Rattle.std.proofs.Common.{length, take, ◌∙◌, sym, ap, subst}
 use Rattle.std.proofs.Math.Seq.{take-length}
+use Rattle.legal_steps.specs.State.{State}
 use Rattle.legal_steps.specs.Run.{after_all}
-use Rattle.legal_steps.specs.Holding.{IsExclusive}
+use Rattle.legal_steps.specs.Holding.{Holds, IsExclusive}
+use Rattle.bay.specs.Laws.{HoldsBy}
 use Rattle.bay.proofs.laws.has_one_owner.Goals as goal
 
 pub returns : goal.returns

@@ -1,14 +1,13 @@
-use Rattle.std.proofs.Common.{◌<◌, suc, length, refl, sym, subst}
-use Rattle.bay_line.specs.Wishes.{wish_at}
+use Rattle.std.proofs.Common.{◌<◌, ℕ, suc, length, refl, sym, subst}
 use Rattle.bay_line.specs.Lines.{LineView}
 use Rattle.bay_line.proofs.Overtaken.{fewer_after}
 use Rattle.bay.proofs.lined.seat_all.Goals as goal
 
 pub loop-place-smaller : goal.loop-place-smaller
 loop-place-smaller c =
-    let ws = c.loop-place.line.wishes in let place = c.in-Some.place in let w = wish_at ws place in
+    let x = c.loop-place.line in let ws = x.wishes in let s = c.in-Some.seated in let n = c.in-Some.ensures in let place = c.in-Some.place in
     subst (λ (v : LineView). length v.wishes < length ws) (sym c.go.ensures)
-    (fewer_after c.free_seats-free.result w.needs w.ask place ws c.in-Some.ensures.first.0 refl)
+    (fewer_after x.most c.free_seats-free.result s.needs s.ask place ws n.first.0 (sym n.ask))
 
 pub loop-place-preserved : goal.loop-place-preserved
 loop-place-preserved c =

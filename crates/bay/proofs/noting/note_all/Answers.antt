@@ -1,4 +1,6 @@
-use Rattle.std.proofs.Common.{length, subst, arith}
+use Rattle.std.proofs.Common.{length, ap, ◌∙◌, subst, arith}
+use Rattle.seat_book.specs.Books.{BookView}
+use Rattle.bay.specs.Noting.{NotesAll}
 use Rattle.bay.proofs.Noted.{NotedTo, none_noted, all_noted, are_held}
 use Rattle.bay.proofs.noting.note_all.Goals as goal
 

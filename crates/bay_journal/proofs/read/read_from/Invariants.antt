@@ -1,4 +1,4 @@
-use Rattle.std.proofs.Common.{length, ◌≡◌, []}
+use Rattle.std.proofs.Common.{◌≡◌, [], length}
 use Rattle.script_reader.specs.Script.{text_lines}
 use Rattle.bay_journal.specs.Reading.{read_lines}
 use Rattle.bay_journal.proofs.read.read_from.Given as goal
