@@ -1,13 +1,12 @@
--- What a step answers.
-use Rattle.std.specs.Prelude.{◌≡◌, ℕ, Result, Ok, Err}
+-- What a step needs of the logs.
+use Rattle.std.specs.Prelude.{ℕ}
 use Rattle.lab_plan.specs.LabPlan.{LabPlan}
 use Rattle.instrument_log.specs.Entries.{IsWithinLimits}
 use Rattle.instrument_log.specs.InstrumentLog.{MayAppend}
 use Rattle.legal_steps.specs.declared.event.Event.{Event}
 use Rattle.legal_steps.specs.declared.event.Event.TheVariants.{Act}
-use Rattle.legal_steps.specs.declared.event.NotLegal.{NotLegal}
-use Rattle.legal_steps.specs.State.{State, Setting}
-use Rattle.legal_steps.specs.Legal.{May, IsLegal, next_command, next_entry}
+use Rattle.legal_steps.specs.State.{State}
+use Rattle.legal_steps.specs.Legal.{May, next_command, next_entry}
 use Rattle.legal_steps.specs.WholeLogs.{log_with_room}
 
 -- the log of the next command's instrument takes the entry of the next command
@@ -19,8 +18,3 @@ pub record TakesNext (plan : LabPlan) (s : State) (j : ℕ) : Type 0 where
 abbrev pub TakesEntry : LabPlan → State → Event → Type 0
 TakesEntry plan s (Act j) = May plan s (Act j) → TakesNext plan s j
 TakesEntry plan s _ = Unit {0}
-
--- Ok if the event is legal, which leads to the new state; else nothing changes
-abbrev pub IsStep : Setting → Event → Result (Unit {0}) NotLegal → Setting → Type 0
-IsStep old event (Ok done) new = IsLegal old.plan old.state event new.state × (new.plan ≡ old.plan)
-IsStep old event (Err refused) new = (¬ May old.plan old.state event) × (new ≡ old)

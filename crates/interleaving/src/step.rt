@@ -1,10 +1,10 @@
 //! One event of any kind.
 ghost use Rattle.std.specs.Prelude.{◌≡◌, ◌↔◌, IsTrue};
 ghost use Rattle.legal_steps.specs.Legal.{May, after};
-ghost use Rattle.interleaving.specs.Step.{IsStep, TakesEntry};
+ghost use Rattle.interleaving.specs.Step.{TakesEntry};
 
 use crate::tables::Tables;
-use legal_steps::{Event, NotLegal};
+use legal_steps::Event;
 use std::alloc::Allocator;
 
 impl<'a, A: Allocator> Tables<'a, A> {
@@ -58,16 +58,5 @@ impl<'a, A: Allocator> Tables<'a, A> {
             Event::Glance(_, _, _) => (),
             Event::Withdraw(job) => self.withdraw(job),
         }
-    }
-
-    pub(crate) fn step(&mut self, event: &Event) -> Result<(), NotLegal>
-        requires { TakesEntry self.old.plan self.old.state event.now }
-        ensures { IsStep self.old event.now result self.new }
-    {
-        if !self.enabled(event) {
-            return Err(NotLegal);
-        }
-        self.apply(event);
-        Ok(())
     }
 }

@@ -1,5 +1,5 @@
 //! A world: a plan, and a state of its bench that legal events have led to from an opening without a cycle.
-ghost use Rattle.std.specs.Prelude.{◌≡◌, ℕ, ◌-◌, ◌<◌, ◌↔◌, [], true, IsTrue, length, IfOk, IfErr};
+ghost use Rattle.std.specs.Prelude.{◌≡◌, ℕ, ◌-◌, ◌<◌, ◌↔◌, [], true, IsTrue, length, IfOk, IfErr, Ok};
 ghost use Rattle.cycles.specs.Cycles.{IsAmong, AreBelow};
 ghost use Rattle.lab_plan.specs.LabPlan.{edges};
 ghost use Rattle.legal_steps.specs.State.{IsOwn, edge as edge_at, seat as seat_at, phase as phase_at};
@@ -139,11 +139,22 @@ impl<'a, A: Allocator> World<'a, A> {
     pub fn step(&mut self, event: Event) -> Result<(), NotLegal>
         ensures { Steps self.old event result self.new }
     {
-        self.tables.step(&event)?;
+        if !self.tables.enabled(&event) {
+            return Err(NotLegal);
+        }
+        self.done(event);
+        Ok(())
+    }
+
+    /// Does one event that is legal, without asking again whether it is.
+    pub fn done(&mut self, event: Event)
+        requires { May self.old.plan self.old.state event }
+        ensures { Steps self.old event (Ok tt) self.new }
+    {
+        self.tables.apply(&event);
         self.tally.count(&event);
         self.tape.keep(&event);
         self.past = Past::after(&self.past, &event);
-        Ok(())
     }
 
     /// Whether the event is legal now, so that [`step`](Self::step) would do it.

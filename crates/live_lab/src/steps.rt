@@ -14,9 +14,7 @@ pub(crate) fn step<A: Allocator>(world: &mut World<A>, event: Event)
     requires { May world.old.plan world.old.state event }
     ensures { LeadsTo world.old (event ∷ []) world.new }
 {
-    if world.step(event).is_err() {
-        unreachable!()
-    }
+    world.done(event);
 }
 
 /// Does an event if it is legal. Answers whether it was.

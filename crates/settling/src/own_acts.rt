@@ -152,9 +152,7 @@ pub(crate) fn drink_alone<A: Allocator>(world: &mut World<A>, due: &mut Due<A>, 
     if !may_drink(world, due, job) {
         return false;
     }
-    if world.step(Event::Drink(job)).is_err() {
-        unreachable!()
-    }
+    world.done(Event::Drink(job));
     true
 }
 
@@ -188,8 +186,6 @@ pub(crate) fn act_alone<A: Allocator>(world: &mut World<A>, due: &mut Due<A>, jo
     let Some(event) = own_act(world, due, job) else {
         return false;
     };
-    if world.step(event).is_err() {
-        unreachable!()
-    }
+    world.done(event);
     true
 }
