@@ -1,6 +1,0 @@
-use Rattle.std.proofs.Common.{◌≢◌, ℕ, ◌<◌}
-use Rattle.seat_book.specs.Seats.{seat_at}
-use Rattle.bay.proofs.lined.ask_of.Given as goal
-
-abbrev pub invariant-loop-place : goal.invariant-loop-place
-invariant-loop-place l = (j : ℕ) → j < l.place → (seat_at l.bay.book.seats j).ask ≢ l.number

@@ -1,6 +1,0 @@
-pub mod Reading
-pub mod Changed
-pub mod Writes
-pub mod Backs
-pub mod Owning
-pub mod Laws

@@ -1,3 +1,0 @@
-pub mod Back
-pub mod Reading
-pub mod Fronts

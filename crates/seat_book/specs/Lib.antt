@@ -1,4 +1,0 @@
-pub mod Stages
-pub mod Seats
-pub mod Books
-pub mod Runs
