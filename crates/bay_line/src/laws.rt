@@ -1,5 +1,5 @@
 //! What holds of every line. Each law is the contract of a function that does nothing.
-ghost use Rattle.bay_line.specs.Bounds.{IsPassedAtMost, IsFirstComeFirstServed, NobodyWaitsForNothing, StaysFair, IsFairlyServed};
+ghost use Rattle.bay_line.specs.Bounds.{IsPassedAtMost, IsFirstComeFirstServed, IsServedBefore, NobodyWaitsForNothing};
 
 /// Once nobody is let in any more, nobody waits whose instruments are all free, kept for nobody before it, and for whom a place is free.
 pub fn nobody_waits_for_nothing()
@@ -17,12 +17,8 @@ pub fn is_first_come_first_served()
     ensures { IsFirstComeFirstServed }
 {}
 
-/// Of those that want the same, on places of the same classes, whoever came first counts no less, whoever asks, leaves, or is let in.
-pub fn stays_fair()
-    ensures { StaysFair }
-{}
-
-/// And so the first come is served first, among those.
-pub fn is_fairly_served()
-    ensures { IsFairlyServed }
+/// Whoever wants no more than somebody behind it, and may have a place wherever that one may, goes first; unless that one alone was passed by as often as
+/// may be.
+pub fn is_served_before()
+    ensures { IsServedBefore }
 {}
