@@ -6,3 +6,4 @@ pub mod Fair
 pub mod InOrder
 pub mod Waiting
 pub mod FirstCome
+pub mod Chain

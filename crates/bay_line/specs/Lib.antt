@@ -2,3 +2,4 @@ pub mod Wishes
 pub mod Turns
 pub mod Lines
 pub mod Bounds
+pub mod Chains

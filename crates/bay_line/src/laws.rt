@@ -1,9 +1,16 @@
 //! What holds of every line. Each law is the contract of a function that does nothing.
+ghost use Rattle.bay_line.specs.Chains.{EachReasonEnds};
 ghost use Rattle.bay_line.specs.Bounds.{IsPassedAtMost, IsFirstComeFirstServed, IsServedBefore, NobodyWaitsForNothing};
 
 /// Once nobody is let in any more, nobody waits whose instruments are all free, kept for nobody before it, and for whom a place is free.
 pub fn nobody_waits_for_nothing()
     ensures { NobodyWaitsForNothing }
+{}
+
+/// Once nobody is let in any more, each reason to wait has an end: no place is free for it; or an instrument of it is in use; or it is held up by one that goes
+/// before it, which has such a reason itself, and so on, in no more steps than there are wishes, to one of which an instrument is in use.
+pub fn each_reason_ends()
+    ensures { EachReasonEnds }
 {}
 
 /// While it waits, at most `most` sessions that need one of its instruments are let in of asks that came later; and at most so many of those that came
