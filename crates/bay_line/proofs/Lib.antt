@@ -7,3 +7,4 @@ pub mod InOrder
 pub mod Waiting
 pub mod FirstCome
 pub mod Chain
+pub mod AllOf

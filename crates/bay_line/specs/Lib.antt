@@ -3,3 +3,5 @@ pub mod Turns
 pub mod Lines
 pub mod Bounds
 pub mod Chains
+pub mod Wanted
+pub mod InLine
