@@ -8,3 +8,5 @@ pub mod Waiting
 pub mod FirstCome
 pub mod Chain
 pub mod AllOf
+pub mod InLine
+pub mod Within

@@ -72,6 +72,6 @@ pub record StaysWithin (P : Wish → Type 0) : Type 0 where
   pub let_in : (in_use free : ℕ) (old : LineView) (s : Option Seated) (new : LineView) → LetsIn in_use free old s new → Within P old.wishes
       → Within P new.wishes
 
--- so it is with whatever was asked
-abbrev pub WhatWasAskedStays : Type 1
-WhatWasAskedStays = (P : Wish → Type 0) → StaysWithin P
+-- so it is with each test of what was asked: as, whether its instruments are all among some
+abbrev pub WhatWasAskedStays : Type 0
+WhatWasAskedStays = (test : Wish → Bool) → StaysWithin (λ w. test w ≡ true)

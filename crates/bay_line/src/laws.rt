@@ -1,5 +1,6 @@
 //! What holds of every line. Each law is the contract of a function that does nothing.
 ghost use Rattle.bay_line.specs.Chains.{EachReasonEnds};
+ghost use Rattle.bay_line.specs.InLine.{StaysInLine, WhatWasAskedStays};
 ghost use Rattle.bay_line.specs.Bounds.{IsPassedAtMost, IsFirstComeFirstServed, IsServedBefore, NobodyWaitsForNothing};
 
 /// Once nobody is let in any more, nobody waits whose instruments are all free, kept for nobody before it, and for whom a place is free.
@@ -28,4 +29,14 @@ pub fn is_first_come_first_served()
 /// may be.
 pub fn is_served_before()
     ensures { IsServedBefore }
+{}
+
+/// Whoever asks is in line until it leaves, is let in, or its time is over; and all others stay.
+pub fn stays_in_line()
+    ensures { StaysInLine }
+{}
+
+/// What is true of the wishes of each ask when it asks stays true of all that are in line, and of whoever is let in.
+pub fn what_was_asked_stays()
+    ensures { WhatWasAskedStays }
 {}
