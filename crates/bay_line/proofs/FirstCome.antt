@@ -1,13 +1,24 @@
--- The first come is served first.
-use Rattle.std.proofs.Common.{◌≡◌, ℕ, zero, suc, ◌<◌, ◌≤◌, true, nat_le, List, [], ◌∷◌, length, bit_and, sym, ap, ◌∙◌, subst, inl, arith}
+-- Who is next, and that the first come is served first.
+use Rattle.std.proofs.Common.{◌≡◌, ℕ, zero, suc, ◌<◌, ◌≤◌, true, nat_le, List, [], ◌∷◌, length, bit_and, refl, sym, ap, ◌∙◌, subst, inl, arith}
 use Rattle.std.specs.Int.Bits.{and_self}
 use Rattle.bay_line.specs.declared.wish.Wish.{Wish}
+use Rattle.bay_line.specs.Turns.{pass_all, others}
 use Rattle.bay_line.specs.Wishes.{wish_at, common, is_ready, is_kept}
-use Rattle.bay_line.specs.Lines.{NotMore, IsFair}
+use Rattle.bay_line.specs.Lines.{NotMore, IsFair, NextIsLetIn}
 use Rattle.bay_line.specs.Bounds.{IsFirstComeFirstServed, IsServedBefore}
 use Rattle.bay_line.proofs.Kept.{and_true_first, and_true_second, and_is}
 use Rattle.bay_line.proofs.Fair.{le_is, is_le}
 use Rattle.bay_line.proofs.Waiting.{no_reason}
+
+pub next_is_let_in : NextIsLetIn
+next_is_let_in in_use free x place s next = record {
+  goes = record {
+    place = place;
+    next = next;
+    then = ap (λ (z : ℕ × ℕ). others z.0 (pass_all x.most free z.1 x.wishes)) (λ i. (next.ask i, next.needs i));
+  };
+  same = refl;
+}
 
 pub is_served_before : IsServedBefore
 is_served_before most in_use free wishes k s next i below less too =

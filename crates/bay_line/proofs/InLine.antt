@@ -5,9 +5,10 @@ use Rattle.bay_line.specs.declared.wish.Wish.{Wish}
 use Rattle.bay_line.specs.declared.going_in.Seated.{Seated}
 use Rattle.bay_line.specs.Wishes.{wish_at}
 use Rattle.bay_line.specs.Turns.{pass_all, others}
-use Rattle.bay_line.specs.Lines.{LineView, IsNext, GoesIn, LetsIn, TakesLate, wishes_of}
-use Rattle.bay_line.specs.InLine.{InLine, Comes, GoesOut, StaysInLine}
-use Rattle.bay_line.proofs.Standing.{same_ask}
+use Rattle.bay_line.specs.Lines.{LineView, Below, IsNext, GoesIn, LetsIn, TakesLate, wishes_of}
+use Rattle.bay_line.specs.InLine.{InLine, Comes, GoesOut, AreBelow, StaysInLine}
+use Rattle.bay_line.proofs.Standing.{same_ask, fewer_others}
+use Rattle.bay_line.proofs.PassedBy.{as_many}
 use Rattle.bay_line.proofs.Overtaken.{stays, goes}
 
 -- it is the first in line, or one behind it
@@ -64,6 +65,20 @@ isnt_in ask (w ∷ ws) h = elim (cases_eq w.ask ask) [
       ]
 ]
 
+fewer : (ask : ℕ) (ws : List Wish) → IsIn ask ws → length (others ask ws) < length ws
+fewer ask [] h = absurd h
+fewer ask (w ∷ ws) h = elim (cases_eq w.ask ask) [
+  | inl same ↦
+      let few = fewer_others ask ws in
+      subst (λ (l : List Wish). length l < suc (length ws)) (sym (goes ask w ws same)) (omega (arith, few))
+  | inr differs ↦ elim h [
+    | inl at ↦ absurd (differs at)
+    | inr more ↦
+        let few = fewer ask ws more in
+        subst (λ (l : List Wish). length l < suc (length ws)) (sym (stays ask w ws differs)) (omega (arith, few))
+  ]
+]
+
 goes_out : (ask : ℕ) (ws : List Wish) → GoesOut ask ws (others ask ws)
 goes_out ask ws = record {
   it = λ h. isnt_in ask ws (is_in ask (others ask ws) h);
@@ -71,6 +86,7 @@ goes_out ask ws = record {
     still = λ other apart h. in_line other (others ask ws) (still_in ask other ws apart (is_in other ws h));
     before = λ other apart h. in_line other ws (was_in ask other ws (is_in other (others ask ws) h));
   };
+  fewer = λ h. fewer ask ws (is_in ask ws h);
 }
 
 -- ---- whoever is passed by
@@ -94,6 +110,8 @@ goes_out_after most free needs ask ws =
         still = λ other apart h. in_line other (others ask all) (still_in ask other all apart (passed_in most free needs other ws (is_in other ws h)));
         before = λ other apart h. in_line other ws (in_passed most free needs other ws (was_in ask other all (is_in other (others ask all) h)));
       };
+      fewer = λ h.
+          let few = fewer ask all (passed_in most free needs ask ws (is_in ask ws h)) in let many = as_many most free needs ws in omega (arith, few, many);
     }
 
 -- ---- whoever asks
@@ -138,6 +156,17 @@ comes ask sets classes d ws some =
       };
     }
 
+-- ---- numbers
+
+below : (next : ℕ) (ws : List Wish) → AreBelow next ws → Below next ws
+below next [] h = tt
+below next (w ∷ ws) h = (h w.ask (0, omega arith, refl), below next ws (λ ask at. h ask (suc at.0, omega (arith, at.1), at.2)))
+
+are_below : (next : ℕ) (ws : List Wish) → Below next ws → AreBelow next ws
+are_below next [] h ask at = absurd (omega (arith, at.1))
+are_below next (w ∷ ws) h ask (zero, inside, at) = subst (λ n. n < next) at h.0
+are_below next (w ∷ ws) h ask (suc k, inside, at) = are_below next ws h.1 ask (k, omega (arith, inside), at)
+
 -- ---- all of it
 
 next_in : (most in_use free : ℕ) (wishes : List Wish) (place : ℕ) (s : Seated) → IsNext most in_use free wishes place s → InLine wishes s.ask
@@ -166,4 +195,6 @@ stays_in_line = record {
   next = next_in;
   goes = λ x s free. goes_out_after x.most free s.needs s.ask x.wishes;
   let_in = lets_in_goes;
+  below = below;
+  are_below = are_below;
 }

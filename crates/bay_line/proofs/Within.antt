@@ -7,7 +7,7 @@ use Rattle.bay_line.specs.declared.going_in.Seated.{Seated}
 use Rattle.bay_line.specs.Wishes.{no_wish, wish_at, counts, passed_by}
 use Rattle.bay_line.specs.Turns.{pass_all, others}
 use Rattle.bay_line.specs.Lines.{LineView, IsNext, GoIn, TakesLate, wishes_of}
-use Rattle.bay_line.specs.InLine.{as_asked, Within, IsSeatedWithin, StaysWithin, WhatWasAskedStays}
+use Rattle.bay_line.specs.InLine.{as_asked, asked_by, Within, IsSeatedWithin, StaysWithin, WhatWasAskedStays}
 use Rattle.bay_line.proofs.Standing.{either}
 
 -- whoever is passed by asked for the same
@@ -35,11 +35,11 @@ module _ (P : Wish → Type 0) where
       → IsSeatedWithin P free s
   within_next most in_use free wishes place s next h =
       let w = wish_at wishes place in
-      let same : as_asked w ≡ record { ask = s.ask; needs = s.needs; classes = w.classes; deadline = s.deadline; passed = 0 } =
+      let same : as_asked w ≡ asked_by s w.classes =
       sym (λ i. record { ask = next.ask i; needs = next.needs i; classes = w.classes; deadline = next.deadline i; passed = 0 }) in
       record {
         classes = w.classes;
-        is = subst P same (h place no_wish next.first.0);
+        asked = subst P same (h place no_wish next.first.0);
         class = record { is_free = next.class.is_free; its = next.class.its; small = next.class.small };
       }
 

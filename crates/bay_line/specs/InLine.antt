@@ -5,7 +5,7 @@ use Rattle.bay_line.specs.declared.wish.Wish.{Wish}
 use Rattle.bay_line.specs.declared.going_in.Seated.{Seated}
 use Rattle.bay_line.specs.Wishes.{wish_at}
 use Rattle.bay_line.specs.Turns.{IsFreeClass}
-use Rattle.bay_line.specs.Lines.{LineView, IsNext, LetsIn, TakesLate, nobody, wishes_of, asking, leaving, gone}
+use Rattle.bay_line.specs.Lines.{LineView, Below, IsNext, LetsIn, TakesLate, nobody, wishes_of, asking, leaving, gone}
 
 -- a wish of this ask is in line
 abbrev pub InLine : List Wish → ℕ → Type 0
@@ -26,10 +26,15 @@ pub record Comes (ask : ℕ) (old new : List Wish) : Type 0 where
   pub it : InLine new ask
   pub others : OthersStay ask old new
 
--- the ask isn't in line any more
+-- the ask isn't in line any more; and if it was, there are fewer wishes
 pub record GoesOut (ask : ℕ) (old new : List Wish) : Type 0 where
   pub it : InLine new ask → ⊥
   pub others : OthersStay ask old new
+  pub fewer : InLine old ask → length new < length old
+
+-- each ask in line has a number below this
+abbrev pub AreBelow : ℕ → List Wish → Type 0
+AreBelow next wishes = (ask : ℕ) → InLine wishes ask → ask < next
 
 -- Whoever asks for a set at least is in line; until it leaves, is let in, or its time is over; and all others stay
 pub record StaysInLine : Type 0 where
@@ -42,6 +47,9 @@ pub record StaysInLine : Type 0 where
   pub goes : (x : LineView) (s : Seated) (free : ℕ) → GoesOut s.ask x.wishes (gone x s free).wishes
   pub let_in : (in_use free : ℕ) (old : LineView) (s : Seated) (new : LineView) → LetsIn in_use free old (Some s) new
       → InLine old.wishes s.ask × GoesOut s.ask old.wishes new.wishes
+  -- so whoever's number is above those of all asks in line may ask
+  pub below : (next : ℕ) (wishes : List Wish) → AreBelow next wishes → Below next wishes
+  pub are_below : (next : ℕ) (wishes : List Wish) → Below next wishes → AreBelow next wishes
 
 -- ---- what was asked
 
@@ -53,11 +61,15 @@ as_asked w = record { ask = w.ask; needs = w.needs; classes = w.classes; deadlin
 abbrev pub Within : (Wish → Type 0) → List Wish → Type 0
 Within P wishes = All (λ w. P (as_asked w)) wishes
 
--- the one that is let in has the needs of a wish of which P is true, and a class that this wish may take
+-- what the one that is let in asked for, if it may have a place of these classes
+abbrev pub asked_by : Seated → ℕ → Wish
+asked_by s classes = record { ask = s.ask; needs = s.needs; classes = classes; deadline = s.deadline; passed = 0 }
+
+-- P is true of what it asked for, and it gets a place of a class that it asked for
 pub record IsSeatedWithin (P : Wish → Type 0) (free : ℕ) (s : Seated) : Type 0 where
   pub classes : ℕ
-  pub is : P (record { ask = s.ask; needs = s.needs; classes = classes; deadline = s.deadline; passed = 0 })
-  pub class : IsFreeClass free (record { ask = s.ask; needs = s.needs; classes = classes; deadline = s.deadline; passed = 0 }) s.class
+  pub asked : P (asked_by s classes)
+  pub class : IsFreeClass free (asked_by s classes) s.class
 
 -- If P is true of each wish when it asks, it stays true of all that are in line, and of whoever is let in
 pub record StaysWithin (P : Wish → Type 0) : Type 0 where

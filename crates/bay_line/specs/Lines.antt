@@ -109,3 +109,8 @@ gone x s free = with_wishes x (others s.ask (pass_all x.most free s.needs x.wish
 pub record LetsIn (in_use free : ℕ) (old : LineView) (s : Option Seated) (new : LineView) : Type 0 where
   pub goes : GoIn old.most in_use free old.wishes s new.wishes
   pub same : new ≡ with_wishes old new.wishes
+
+-- to see who is next, and to let it go in, is to let it in
+abbrev pub NextIsLetIn : Type 0
+NextIsLetIn =
+    (in_use free : ℕ) (x : LineView) (place : ℕ) (s : Seated) → IsNext x.most in_use free x.wishes place s → LetsIn in_use free x (Some s) (gone x s free)

@@ -1,5 +1,6 @@
 //! What holds of every line. Each law is the contract of a function that does nothing.
 ghost use Rattle.bay_line.specs.Chains.{EachReasonEnds};
+ghost use Rattle.bay_line.specs.Lines.{NextIsLetIn};
 ghost use Rattle.bay_line.specs.InLine.{StaysInLine, WhatWasAskedStays};
 ghost use Rattle.bay_line.specs.Bounds.{IsPassedAtMost, IsFirstComeFirstServed, IsServedBefore, NobodyWaitsForNothing};
 
@@ -29,6 +30,11 @@ pub fn is_first_come_first_served()
 /// may be.
 pub fn is_served_before()
     ensures { IsServedBefore }
+{}
+
+/// To see who is next, and to let it go in, is to let it in.
+pub fn next_is_let_in()
+    ensures { NextIsLetIn }
 {}
 
 /// Whoever asks is in line until it leaves, is let in, or its time is over; and all others stay.

@@ -1,6 +1,6 @@
 //! The line.
 ghost use Rattle.std.specs.Prelude.{◌≡◌, ◌≤◌, length, OnErr, OnOk};
-ghost use Rattle.bay_line.specs.Lines.{nobody, Below, asking, leaving, gone, TakesLate, IsChosen, LetsIn};
+ghost use Rattle.bay_line.specs.Lines.{nobody, Below, IsInOrder, asking, leaving, gone, TakesLate, IsChosen, LetsIn};
 ghost use Rattle.bay_line.specs.InLine.{SaysInLine};
 ghost use Rattle.bay_line.specs.Wanted.{AreWanted, AreClasses, IsFirstDeadline};
 
@@ -54,7 +54,8 @@ impl Line {
 
     /// How many wishes are in line.
     pub fn len(&self) -> usize
-        ensures { result ≡ length self.now.wishes }
+        ensures number { result ≡ length self.now.wishes }
+        ensures in_order { IsInOrder self.now }
     {
         self.wishes.len()
     }
