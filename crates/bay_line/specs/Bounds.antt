@@ -62,8 +62,8 @@ pub record HasWaited (w : Wish) (place all : ℕ) (new : LineView) : Type 0 wher
   pub each : it.passed < new.most → all ≡ later
   pub bound : all + now ≤ place + later
 
--- As long as a wish waits: each session that needs one of its instruments and is let in while a place is free for it is counted, until it was passed by as often
--- as may be. From its asking on at most `most` go before it, and at most so many more as stood in line before it when it asked
+-- As long as a wish waits: each that needs one of its instruments and is let in while a place is free for it is counted, until it was passed by as often as may
+-- be. From its asking on at most `most` go before it, and at most so many more as stood in line before it when it asked
 abbrev pub IsPassedAtMost : Type 0
 IsPassedAtMost =
     (ask n : ℕ) (old new : LineView) (w : Wish) (place : ℕ) → IsInOrder old → w.ask ≡ ask → Stands w place old.wishes → (waits : Waits ask n old new)

@@ -16,8 +16,8 @@ pub fn each_reason_ends()
     ensures { EachReasonEnds }
 {}
 
-/// While it waits, at most `most` sessions that need one of its instruments are let in of asks that came later; and at most so many of those that came
-/// earlier as stood before it when it asked.
+/// While it waits, and a place is free for it, at most `most` that need one of its instruments are let in, and one more for each wish that stood before it when
+/// it asked.
 pub fn is_passed_at_most()
     ensures { IsPassedAtMost }
 {}
