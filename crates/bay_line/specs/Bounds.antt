@@ -1,12 +1,12 @@
 -- For readers: by how many somebody is passed while it waits in line.
-use Rattle.std.specs.Prelude.{◌≡◌, ◌≢◌, ◌⊎◌, ℕ, zero, suc, ◌+◌, ◌<◌, ◌≤◌, Bool, if◌then◌else◌, true, List, [], ◌∷◌, ◌++◌, length, Option, Some, None}
+use Rattle.std.specs.Prelude.{◌≡◌, ◌≢◌, ◌⊎◌, ℕ, zero, suc, ◌+◌, ◌<◌, ◌≤◌, Bool, if◌then◌else◌, true, List, ◌∷◌, ◌++◌, length, Option, Some, None}
 use Rattle.std.proofs.Common.{inl, inr}
 use Rattle.std.specs.Int.Bits.{bit_and}
 use Rattle.bay_line.specs.declared.wish.Wish.{Wish}
 use Rattle.bay_line.specs.declared.going_in.Seated.{Seated}
 use Rattle.bay_line.specs.Wishes.{wish_at, is_kept, passes}
-use Rattle.bay_line.specs.Turns.{MayGoIn, others}
-use Rattle.bay_line.specs.Lines.{LineView, IsInOrder, Below, GoesIn, GoIn, LetsIn, wishes_of, asking, leaving}
+use Rattle.bay_line.specs.Turns.{MayGoIn}
+use Rattle.bay_line.specs.Lines.{LineView, IsInOrder, Below, IsNext, GoIn, LetsIn, asking, leaving}
 
 -- so many wishes stand before this one
 pub record Stands (w : Wish) (place : ℕ) (wishes : List Wish) : Type 0 where
@@ -19,8 +19,8 @@ pub record Stands (w : Wish) (place : ℕ) (wishes : List Wish) : Type 0 where
 abbrev pub WaitsOnce : ℕ → LineView → LineView → Type 0
 WaitsOnce ask old new =
     ((in_use : ℕ) × (free : ℕ) × (s : Seated) × LetsIn in_use free old (Some s) new × (s.ask ≢ ask))
-    ⊎ ((other : ℕ) × (sets : List ℕ) × (seats : ℕ) × (deadline : Option ℕ) × Below other old.wishes
-    × (new ≡ asking old other sets seats deadline) × (length new.wishes ≤ new.limit))
+    ⊎ ((other : ℕ) × (sets : List ℕ) × (classes : ℕ) × (deadline : Option ℕ) × Below other old.wishes
+    × (new ≡ asking old other sets classes deadline) × (length new.wishes ≤ new.limit))
     ⊎ ((other : ℕ) × (other ≢ ask) × (new ≡ leaving old other))
 
 -- so many of these, one after another
@@ -31,7 +31,7 @@ Waits ask (suc n) old new = (mid : LineView) × Waits ask n old mid × WaitsOnce
 abbrev pub one_if : Bool → ℕ
 one_if b = if b then 1 else 0
 
--- one more, if somebody was let in that needs one of the instruments of the wish, while a seat was free for it
+-- one more, if somebody was let in that needs one of the instruments of the wish, while a place was free for it
 abbrev pub goes_before : (ask : ℕ) (old new : LineView) → WaitsOnce ask old new → Wish → ℕ
 goes_before ask old new (inl (in_use, free, s, lets, other)) w = one_if (passes free s.needs w)
 goes_before ask old new (inr same) w = 0
@@ -41,6 +41,13 @@ abbrev pub go_before : (ask n : ℕ) (old new : LineView) → Waits ask n old ne
 go_before ask zero old new same w = 0
 go_before ask (suc n) old new (mid, before, once) w = go_before ask n old mid before w + goes_before ask mid new once w
 
+-- what happens in one time and then in another happens in both together; and so do those that go before it
+abbrev pub WaitsAddUp : Type 0
+WaitsAddUp =
+    (ask n m : ℕ) (old mid new : LineView) (first : Waits ask n old mid) (second : Waits ask m mid new)
+    → (all : ℕ) × (all ≡ n + m) × (both : Waits ask all old new)
+    × ((w : Wish) → go_before ask all old new both w ≡ go_before ask n old mid first w + go_before ask m mid new second w)
+
 -- The wish is in line still. It counts those that went before it, until it was passed by as often as may be; and all that went before it are no more than it
 -- counted and stand before it no more
 pub record HasWaited (w : Wish) (place all : ℕ) (new : LineView) : Type 0 where
@@ -49,14 +56,14 @@ pub record HasWaited (w : Wish) (place all : ℕ) (new : LineView) : Type 0 wher
   pub stands : Stands it now new.wishes
   pub ask : it.ask ≡ w.ask
   pub needs : it.needs ≡ w.needs
-  pub seats : it.seats ≡ w.seats
+  pub classes : it.classes ≡ w.classes
   pub later : ℕ
   pub counted : it.passed ≡ w.passed + later
   pub each : it.passed < new.most → all ≡ later
   pub bound : all + now ≤ place + later
 
--- As long as a wish waits: each session that needs one of its instruments and is let in while a seat is free for it is counted, until it was passed by as often
--- as may be. From its asking on at most `most` go before it, and at most so many more as stood in line before it when it asked
+-- As long as a wish waits: each that needs one of its instruments and is let in while a place is free for it is counted, until it was passed by as often as may
+-- be. From its asking on at most `most` go before it, and at most so many more as stood in line before it when it asked
 abbrev pub IsPassedAtMost : Type 0
 IsPassedAtMost =
     (ask n : ℕ) (old new : LineView) (w : Wish) (place : ℕ) → IsInOrder old → w.ask ≡ ask → Stands w place old.wishes → (waits : Waits ask n old new)
@@ -65,22 +72,33 @@ IsPassedAtMost =
 
 -- ---- first come, first served
 
--- it wants no instrument that the other doesn't, and may sit wherever the other may
-pub record WantsNoMore (w other : Wish) : Type 0 where
-  pub needs : bit_and w.needs other.needs ≡ w.needs
-  pub seats : bit_and other.seats w.seats ≡ other.seats
+-- both want the same instruments, on places of the same classes
+pub record WantTheSame (v w : Wish) : Type 0 where
+  pub needs : v.needs ≡ w.needs
+  pub classes : v.classes ≡ w.classes
 
--- Whoever is let in: nobody that stood before it wants no more, and may sit wherever it may, unless the one was passed by as often as may be and the other
--- wasn't. So among those that want the same, the first come is served first
+-- among those that want the same, the first come is served first
 abbrev pub IsFirstComeFirstServed : Type 0
 IsFirstComeFirstServed =
-    (most in_use free : ℕ) (old : List Wish) (s : Seated) (new : List Wish) (goes : GoesIn most in_use free old s new) (i : ℕ)
-    → i < goes.place → WantsNoMore (wish_at old i) (wish_at old goes.place)
-    → (is_kept most free (wish_at old goes.place) ≡ true → is_kept most free (wish_at old i) ≡ true) → ⊥
+    (in_use free : ℕ) (x : LineView) (place : ℕ) (s : Seated) → IsInOrder x → IsNext x.most in_use free x.wishes place s
+    → (i : ℕ) → i < place → WantTheSame (wish_at x.wishes i) (wish_at x.wishes place) → ⊥
+
+-- it wants no instrument that the other doesn't, and may have a place wherever the other may
+pub record WantsNoMore (w other : Wish) : Type 0 where
+  pub needs : bit_and w.needs other.needs ≡ w.needs
+  pub classes : bit_and other.classes w.classes ≡ other.classes
+
+-- Whoever is let in: nobody that stood before it wants no more, and may have a place wherever it may, unless the one was passed by as often as may be and the
+-- other wasn't
+abbrev pub IsServedBefore : Type 0
+IsServedBefore =
+    (most in_use free : ℕ) (wishes : List Wish) (place : ℕ) (s : Seated) → IsNext most in_use free wishes place s
+    → (i : ℕ) → i < place → WantsNoMore (wish_at wishes i) (wish_at wishes place)
+    → (is_kept most free (wish_at wishes place) ≡ true → is_kept most free (wish_at wishes i) ≡ true) → ⊥
 
 -- ---- nobody waits for nothing
 
--- its instruments are free, a seat is free for it, and none of them is kept for one that goes before it
+-- its instruments are free, a place is free for it, and none of them is kept for one that goes before it
 pub record WaitsForNothing (most in_use free : ℕ) (wishes : List Wish) (k : ℕ) : Type 0 where
   pub inside : k < length wishes
   pub may : MayGoIn most in_use free wishes k
@@ -89,28 +107,3 @@ pub record WaitsForNothing (most in_use free : ℕ) (wishes : List Wish) (k : �
 abbrev pub NobodyWaitsForNothing : Type 0
 NobodyWaitsForNothing =
     (most in_use free : ℕ) (old new : List Wish) → GoIn most in_use free old None new → (k : ℕ) → WaitsForNothing most in_use free new k → ⊥
-
--- ---- of those that want the same
-
--- none of these that wants the same, on the same seats, counts more
-abbrev pub NotMore : Wish → List Wish → Type 0
-NotMore w [] = Unit {0}
-NotMore w (v ∷ wishes) = (v.needs ≡ w.needs → v.seats ≡ w.seats → v.passed ≤ w.passed) × NotMore w wishes
-
--- of those that want the same, on the same seats, whoever came first counts no less
-abbrev pub IsFair : List Wish → Type 0
-IsFair [] = Unit {0}
-IsFair (w ∷ wishes) = NotMore w wishes × IsFair wishes
-
--- so it stays, whoever asks, leaves, or is let in
-pub record StaysFair : Type 0 where
-  pub asks : (ask : ℕ) (sets : List ℕ) (seats : ℕ) (deadline : Option ℕ) (wishes : List Wish) → IsFair wishes
-      → IsFair (wishes ++ wishes_of ask sets seats deadline)
-  pub leaves : (ask : ℕ) (wishes : List Wish) → IsFair wishes → IsFair (others ask wishes)
-  pub goes : (most in_use free : ℕ) (old : List Wish) (s : Option Seated) (new : List Wish) → GoIn most in_use free old s new → IsFair old → IsFair new
-
--- and so, among those that want the same, on the same seats, the first come is served first
-abbrev pub IsFairlyServed : Type 0
-IsFairlyServed =
-    (most in_use free : ℕ) (old : List Wish) (s : Seated) (new : List Wish) → IsFair old → (goes : GoesIn most in_use free old s new) (i : ℕ)
-    → i < goes.place → (wish_at old i).needs ≡ (wish_at old goes.place).needs → (wish_at old i).seats ≡ (wish_at old goes.place).seats → ⊥

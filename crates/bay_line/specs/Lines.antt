@@ -1,9 +1,11 @@
 -- For readers: the line as contracts see it, and what its calls do to it.
-use Rattle.std.specs.Prelude.{◌≡◌, ℕ, ◌<◌, ◌≤◌, List, [], ◌∷◌, ◌++◌, map, length, Option, Some, None, true, false}
+use Rattle.std.specs.Prelude.{◌≡◌, ℕ, ◌+◌, ◌<◌, ◌≤◌, List, [], ◌∷◌, ◌++◌, map, length, Option, Some, None, true, false}
 use Rattle.bay_line.specs.declared.wish.Wish.{Wish}
+use Rattle.bay_line.specs.declared.line.NotInLine.{NotInLine}
+use Rattle.bay_line.specs.declared.line.NotInLine.TheVariants.{Full, NoMemory}
 use Rattle.bay_line.specs.declared.going_in.Seated.{Seated}
 use Rattle.bay_line.specs.Wishes.{wish_at, is_late}
-use Rattle.bay_line.specs.Turns.{IsFirst, HasReason, IsSeat, others, pass_all, after}
+use Rattle.bay_line.specs.Turns.{IsFirst, HasReason, IsFreeClass, others, pass_all, after}
 
 -- the wishes in the order of asking; for how many there is room; and how often one is passed by at most
 pub record LineView : Type 0 where
@@ -31,11 +33,22 @@ abbrev pub Seldom : ℕ → List Wish → Type 0
 Seldom most [] = Unit {0}
 Seldom most (w ∷ wishes) = (w.passed ≤ most) × Seldom most wishes
 
--- What is true of every line: asks stand in the order of their numbers, none was passed by more often than may be, and there are no more wishes than there
--- is room for
+-- none of these that wants the same, on places of the same classes, counts more
+abbrev pub NotMore : Wish → List Wish → Type 0
+NotMore w [] = Unit {0}
+NotMore w (v ∷ wishes) = (v.needs ≡ w.needs → v.classes ≡ w.classes → v.passed ≤ w.passed) × NotMore w wishes
+
+-- of those that want the same, on places of the same classes, whoever came first counts no less
+abbrev pub IsFair : List Wish → Type 0
+IsFair [] = Unit {0}
+IsFair (w ∷ wishes) = NotMore w wishes × IsFair wishes
+
+-- What is true of every line: asks stand in the order of their numbers, none was passed by more often than may be, of those that want the same whoever came
+-- first was passed by no less often, and there are no more wishes than there is room for
 pub record IsInOrder (x : LineView) : Type 0 where
   pub rises : Rises x.wishes
   pub seldom : Seldom x.most x.wishes
+  pub fair : IsFair x.wishes
   pub few : length x.wishes ≤ x.limit
 
 abbrev pub nobody : ℕ → ℕ → LineView
@@ -46,11 +59,16 @@ with_wishes x wishes = record { wishes = wishes; limit = x.limit; most = x.most 
 
 -- the wishes of one that asks
 abbrev pub wishes_of : ℕ → List ℕ → ℕ → Option ℕ → List Wish
-wishes_of ask sets seats deadline = map (λ needs. record { ask = ask; needs = needs; seats = seats; deadline = deadline; passed = 0 }) sets
+wishes_of ask sets classes deadline = map (λ needs. record { ask = ask; needs = needs; classes = classes; deadline = deadline; passed = 0 }) sets
 
 -- it stands behind all others
 abbrev pub asking : LineView → ℕ → List ℕ → ℕ → Option ℕ → LineView
-asking x ask sets seats deadline = with_wishes x (x.wishes ++ wishes_of ask sets seats deadline)
+asking x ask sets classes deadline = with_wishes x (x.wishes ++ wishes_of ask sets classes deadline)
+
+-- why it isn't in line: there is no room for so many wishes; or there is, and no memory
+abbrev pub IsWhyNot : LineView → List ℕ → NotInLine → Type 0
+IsWhyNot x sets Full = x.limit < length x.wishes + length sets
+IsWhyNot x sets NoMemory = length x.wishes + length sets ≤ x.limit
 
 -- it isn't in line, and all others stand as they stood
 abbrev pub leaving : LineView → ℕ → LineView
@@ -66,12 +84,12 @@ abbrev pub TakesLate : ℕ → LineView → Option ℕ → LineView → Type 0
 TakesLate now old (Some ask) new = IsLate now old.wishes (Some ask) × (new ≡ leaving old ask)
 TakesLate now old None new = IsLate now old.wishes None × (new ≡ old)
 
--- the first that may go in, and a seat that is free
+-- the first that may go in, and the class of a place that is free
 pub record IsNext (most in_use free : ℕ) (wishes : List Wish) (place : ℕ) (s : Seated) : Type 0 where
   pub first : IsFirst most in_use free wishes (Some place)
   pub ask : s.ask ≡ (wish_at wishes place).ask
   pub needs : s.needs ≡ (wish_at wishes place).needs
-  pub seat : IsSeat free (wish_at wishes place) s.seat
+  pub class : IsFreeClass free (wish_at wishes place) s.class
   pub deadline : s.deadline ≡ (wish_at wishes place).deadline
 
 -- or nobody is, and each that waits has a reason
@@ -98,3 +116,8 @@ gone x s free = with_wishes x (others s.ask (pass_all x.most free s.needs x.wish
 pub record LetsIn (in_use free : ℕ) (old : LineView) (s : Option Seated) (new : LineView) : Type 0 where
   pub goes : GoIn old.most in_use free old.wishes s new.wishes
   pub same : new ≡ with_wishes old new.wishes
+
+-- to see who is next, and to let it go in, is to let it in
+abbrev pub NextIsLetIn : Type 0
+NextIsLetIn =
+    (in_use free : ℕ) (x : LineView) (place : ℕ) (s : Seated) → IsNext x.most in_use free x.wishes place s → LetsIn in_use free x (Some s) (gone x s free)

@@ -1,11 +1,14 @@
 //! The line.
-ghost use Rattle.std.specs.Prelude.{◌≡◌, ◌≤◌, length, OnErr, OnOk};
-ghost use Rattle.bay_line.specs.Lines.{nobody, Below, asking, leaving, gone, TakesLate, IsChosen, LetsIn};
+ghost use Rattle.std.specs.Prelude.{◌≡◌, ◌≤◌, length, OnErr, OnOk, IfErr};
+ghost use Rattle.bay_line.specs.Lines.{nobody, Below, IsInOrder, asking, IsWhyNot, leaving, gone, TakesLate, IsChosen, LetsIn};
+ghost use Rattle.bay_line.specs.InLine.{SaysInLine};
+ghost use Rattle.bay_line.specs.Wanted.{AreWanted, AreClasses, IsFirstDeadline};
 
 use crate::appending::append;
 use crate::going_in::{Seated, choose, go_at, go_in};
 use crate::late::first_late;
 use crate::passing::remove;
+use crate::wanting;
 use crate::wish::Wish;
 use std::alloc::Global;
 use std::marker::Model;
@@ -19,7 +22,7 @@ pub enum NotInLine {
     NoMemory,
 }
 
-/// Who waits for a seat, in the order of asking.
+/// Who waits for a place, in the order of asking.
 #[derive(Drop)]
 pub struct Line {
     wishes: Vec<Wish, Global>,
@@ -51,29 +54,59 @@ impl Line {
 
     /// How many wishes are in line.
     pub fn len(&self) -> usize
-        ensures { result ≡ length self.now.wishes }
+        ensures number { result ≡ length self.now.wishes }
+        ensures in_order { IsInOrder self.now }
     {
         self.wishes.len()
     }
 
-    /// Somebody asks, for one of these sets of instruments, whichever is free first, and for one of these seats. Its number is above those of all that
+    /// Whether a wish of this ask is in line.
+    pub fn waits(&self, ask: u64) -> bool
+        ensures { SaysInLine self.now.wishes ask result }
+    {
+        wanting::waits(&self.wishes, ask)
+    }
+
+    /// The instruments that somebody in line wants.
+    pub fn wanted(&self) -> u64
+        ensures { AreWanted self.now.wishes result }
+    {
+        wanting::wanted(&self.wishes)
+    }
+
+    /// The classes of places that somebody in line may take.
+    pub fn classes(&self) -> u32
+        ensures { AreClasses self.now.wishes result }
+    {
+        wanting::classes(&self.wishes)
+    }
+
+    /// The earliest deadline of anybody in line.
+    pub fn first_deadline(&self) -> Option<u64>
+        ensures { IsFirstDeadline self.now.wishes (length self.now.wishes) result }
+    {
+        wanting::first_deadline(&self.wishes)
+    }
+
+    /// Somebody asks, for one of these sets of instruments, whichever is free first, and for a place of one of these classes. Its number is above those of all that
     /// are in line. It takes memory.
     pub fn ask(
         &mut self,
         ask: u64,
         sets: &[u64],
-        seats: u32,
+        classes: u32,
         deadline: Option<u64>,
     ) -> Result<(), NotInLine>
         requires { Below ask self.old.wishes }
-        ensures asks { OnOk result (self.new ≡ asking self.old ask sets.now seats deadline) }
+        ensures asks { OnOk result (self.new ≡ asking self.old ask sets.now classes deadline) }
         ensures room { OnOk result (length self.new.wishes ≤ self.new.limit) }
         ensures refused { OnErr result (self.new ≡ self.old) }
+        ensures why { IfErr result (λ why. IsWhyNot self.old sets.now why) }
     {
         if self.limit - self.wishes.len() < sets.len() {
             return Err(NotInLine::Full);
         }
-        match append(&mut self.wishes, ask, sets, seats, deadline) {
+        match append(&mut self.wishes, ask, sets, classes, deadline) {
             Ok(()) => Ok(()),
             Err(_) => Err(NotInLine::NoMemory),
         }
@@ -97,7 +130,7 @@ impl Line {
         Some(ask)
     }
 
-    /// The first whose instruments are all free, and kept for nobody before it, and for whom a seat is free; and where it stands.
+    /// The first whose instruments are all free, and kept for nobody before it, and for whom a place is free; and where it stands.
     pub fn next(&self, in_use: u64, free: u32) -> Option<(usize, Seated)>
         ensures { IsChosen self.now.most in_use free self.now.wishes result }
     {
@@ -111,7 +144,7 @@ impl Line {
         go_at(&mut self.wishes, self.most, seated, free);
     }
 
-    /// Lets in the first whose instruments are all free, and kept for nobody before it, and for whom a seat is free. Call it until it answers none.
+    /// Lets in the first whose instruments are all free, and kept for nobody before it, and for whom a place is free. Call it until it answers none.
     pub fn let_in(&mut self, in_use: u64, free: u32) -> Option<Seated>
         ensures { LetsIn in_use free self.old result self.new }
     {
