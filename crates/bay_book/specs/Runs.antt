@@ -15,15 +15,15 @@ use Rattle.bay_book.specs.Books.{BookView, IsSound, add, hold, end, set_gone, is
 
 -- a call that changes the book; and at `Tell` the one that is next is told what it is to be told
 pub data Call : Type 0 where
-  pub Add : (number class owner : ℕ) → (deadline limit : Option ℕ) → (now : ℕ) → Call
-  pub Hold : (place needs now : ℕ) → (keeps : Bool) → Call
-  pub Finish : (place : ℕ) → (how : End) → Call
-  pub SetGone : (place moment : ℕ) → Call
-  pub IsBack : (place : ℕ) → Call
-  pub Give : (at : ℕ) → Call
-  pub Reach : (position : ℕ) → Call
-  pub Tell : (place : ℕ) → (what : Outcome) → Call
-  pub Purge : Call
+  Add : (number class owner : ℕ) → (deadline limit : Option ℕ) → (now : ℕ) → Call
+  Hold : (place needs now : ℕ) → (keeps : Bool) → Call
+  Finish : (place : ℕ) → (how : End) → Call
+  SetGone : (place moment : ℕ) → Call
+  IsBack : (place : ℕ) → Call
+  Give : (at : ℕ) → Call
+  Reach : (position : ℕ) → Call
+  Tell : (place : ℕ) → (what : Outcome) → Call
+  Purge : Call
 
 -- what the call requires
 abbrev pub IsAllowed : BookView → Call → Type 0

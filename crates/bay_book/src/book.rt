@@ -7,7 +7,7 @@ ghost use Rattle.bay_book.specs.Finding.{IsPlaceOf, IsFirst, IsFirstLate, IsLeas
 ghost use Rattle.bay_book.specs.Telling.{to_tell, IsNextToTell};
 ghost use Rattle.bay_book.specs.Books.{IsSound, nobody, add, hold, end, set_gone, is_back, give, reach, heard, purge};
 
-use crate::ask::{Ask, End, Outcome};
+use crate::ask::{Ask, End, Outcome, Stage};
 use crate::finding::{
     due, first_gone, first_late, first_over_limit, in_use, limit_due, place_of, taken,
 };
