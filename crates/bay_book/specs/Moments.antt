@@ -1,5 +1,5 @@
 -- For readers: when the time of an ask is over.
-use Rattle.std.specs.Prelude.{◌≡◌, ℕ, ◌+◌, ◌==◌, min, max, nat_le, Bool, true, false, ◌&&◌, ◌||◌, not, Option, None, Some}
+use Rattle.std.specs.Prelude.{ℕ, ◌+◌, ◌==◌, min, max, nat_le, Bool, true, false, ◌||◌, not, Option, None, Some}
 use Rattle.std.specs.Int.{bit_at}
 use Rattle.std.specs.Int.Bits.{bit_and}
 use Rattle.bay_book.specs.declared.ask.Ask.{Ask}

@@ -122,7 +122,7 @@ impl Book {
     /// It is over, and holds nothing. A line is owed if one was given that it holds.
     pub fn end(&mut self, place: usize, how: End)
         requires inside { place < length self.old.asks }
-        requires open { is_over (ask_at self.old.asks place).stage ≡ false }
+        requires not_over { is_over (ask_at self.old.asks place).stage ≡ false }
         ensures { self.new ≡ end self.old place how }
     {
         self.asks[place] = over(self.asks[place], how);

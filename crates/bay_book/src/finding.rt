@@ -1,8 +1,8 @@
 //! What is found in the book.
-ghost use Rattle.std.specs.Prelude.{◌≡◌, ◌&&◌, ◌==◌, AllPairs, ◌<◌, ℕ};
+ghost use Rattle.std.specs.Prelude.{◌≡◌, ◌||◌, ◌&&◌, AllPairs, ◌<◌, ℕ};
 ghost use Rattle.std.specs.List.{count_by};
-ghost use Rattle.bay_book.specs.Asks.{holds_class};
-ghost use Rattle.bay_book.specs.Moments.{is_gone_too_long, is_over_limit, due_at, limit_due_at};
+ghost use Rattle.bay_book.specs.Asks.{holds_class, is_holding};
+ghost use Rattle.bay_book.specs.Moments.{common, is_gone_too_long, is_over_limit, due_at, limit_due_at};
 ghost use Rattle.bay_book.specs.Finding.{IsPlaceOf, IsFirst, IsFirstLate, IsLeast, IsInUse};
 
 use crate::ask::{Ask, End};
@@ -83,16 +83,24 @@ pub(crate) fn limit_due(asks: &[Ask], wanted: u64, full: u32) -> Option<u64>
     least
 }
 
+/// With the instruments of one, if it holds.
+fn with_needs(set: u64, ask: Ask) -> u64
+    ensures { (x : ℕ) → common x result ≡ (common x set || is_holding ask.stage && common x ask.needs) }
+{
+    if is_holding(ask.stage) {
+        set | ask.needs
+    } else {
+        set
+    }
+}
+
 /// All instruments of those that hold.
 pub(crate) fn in_use(asks: &[Ask]) -> u64
     ensures { IsInUse asks.now result }
 {
     let mut set = 0;
     for place in 0..asks.len() {
-        let ask = asks[place];
-        if is_holding(ask.stage) {
-            set |= ask.needs;
-        }
+        set = with_needs(set, asks[place]);
     }
     set
 }
