@@ -1,0 +1,230 @@
+#!/usr/bin/env python3
+"""Random days of a bay, by the library and by its second form in Python (model.py): each call's answer, what is told, and each byte of the
+journal have to be the same.
+
+usage: bench/bay/days.py LIBRARY [DAYS [SEED]]      LIBRARY: liblabrun.so, as bench/door/build makes it; 300 days if none is said
+
+A day is up to some hundred calls by a few classes of clients at a few instruments: asks with one set or several, with deadlines and limits,
+let-goes, leaves, clients that are gone, what is taken away, notes, a disk that is slow, that fails, a stop. At a random moment the journal is
+cut at a random byte at or behind what is durable, and the bay that comes back from it has to hold what was told. The last line is `N passed,
+M failed`."""
+
+import ctypes
+import os
+import random
+import sys
+
+sys.dont_write_bytecode = True
+sys.path.insert(0, os.path.dirname(os.path.realpath(__file__)))
+import model  # noqa: E402
+
+NEVER = 2**64 - 1
+DONE, NO_ROOM, NOT_YET, OVER = 0, 6, 8, 26
+WHY = {"number": 20, "stopped": 21, "no_class": 22, "empty": 23, "may_not_use": 24, "line_full": 25, "over": OVER, "owner": 29, "not_now": NOT_YET}
+WHAT = ["holds", "let_go", "left", "lapsed", "not_written", "limit", "grace", "taken_away", "replaced", "stopped"]
+
+
+class Handle(ctypes.Structure):
+    _fields_ = [("at", ctypes.c_void_p), ("live", ctypes.c_uint64)]
+
+
+class Class(ctypes.Structure):
+    _fields_ = [("uses", ctypes.c_uint64), ("places", ctypes.c_uint32), ("unused", ctypes.c_uint32)]
+
+
+class Terms(ctypes.Structure):
+    _fields_ = [("bay", ctypes.c_uint8 * 32), ("line", ctypes.c_uint64), ("grace", ctypes.c_uint64), ("disk", ctypes.c_uint64)]
+    _fields_ += [("overtakes", ctypes.c_uint32), ("keeps", ctypes.c_uint32)]
+
+
+class Asked(ctypes.Structure):
+    _fields_ = [("number", ctypes.c_uint64), ("owner", ctypes.c_uint64 * 2), ("deadline", ctypes.c_uint64), ("limit", ctypes.c_uint64)]
+    _fields_ += [("kind", ctypes.c_uint32), ("unused", ctypes.c_uint32)]
+
+
+class Outcome(ctypes.Structure):
+    _fields_ = [("serial", ctypes.c_uint64), ("number", ctypes.c_uint64), ("needs", ctypes.c_uint64), ("what", ctypes.c_uint32)]
+    _fields_ += [("unused", ctypes.c_uint32)]
+
+
+class Told(ctypes.Structure):
+    _fields_ = [("written", ctypes.c_size_t), ("line", ctypes.c_size_t), ("cause", ctypes.c_uint32)]
+
+
+def moment(it):
+    return NEVER if it is None else it
+
+
+class Machine:
+    """The library's bay, with the calls of the model."""
+
+    def __init__(self, library, rules):
+        self.library, self.handle = library, Handle()
+        self.classes = (Class * len(rules.classes))(*((uses, places, 0) for uses, places in rules.classes))
+        self.terms = Terms((ctypes.c_uint8 * 32)(*rules.head), rules.limit, moment(rules.grace), moment(rules.disk), rules.most, rules.keeps)
+
+    def call(self, name, *given):
+        return getattr(self.library, f"lab_bay_{name}")(ctypes.byref(self.handle), *given)
+
+    def open(self):
+        return self.library.lab_bay_open(self.classes, ctypes.c_size_t(len(self.classes)), ctypes.byref(self.terms), ctypes.byref(self.handle))
+
+    def resume(self, text, now):
+        told = Told()
+        status = self.library.lab_bay_resume(
+            self.classes, ctypes.c_size_t(len(self.classes)), ctypes.byref(self.terms), text, ctypes.c_size_t(len(text)), ctypes.c_uint64(now),
+            ctypes.byref(self.handle), ctypes.byref(told))  # fmt: skip
+        return status, told.written
+
+    def ask(self, number, sets, kind, owner, deadline, limit, now):
+        asked = Asked(number, (ctypes.c_uint64 * 2)(owner >> 64, owner & NEVER), moment(deadline), moment(limit), kind, 0)
+        return self.call("ask", ctypes.byref(asked), (ctypes.c_uint64 * len(sets))(*sets), ctypes.c_size_t(len(sets)), ctypes.c_uint64(now))
+
+    def act(self, name, number, now):
+        return self.call(name, ctypes.c_uint64(number), ctypes.c_uint64(now))
+
+    def time(self, now):
+        following = ctypes.c_uint64()
+        status = self.call("time", ctypes.c_uint64(now), ctypes.byref(following))
+        return status, following.value
+
+    def note(self, number, text):
+        position = ctypes.c_uint64()
+        status = self.call("note", ctypes.c_uint64(number), text, ctypes.c_size_t(len(text)), ctypes.byref(position))
+        return status, position.value
+
+    def journal(self):
+        room, written, position = 1 << 16, ctypes.c_size_t(), ctypes.c_uint64()
+        text = ctypes.create_string_buffer(room)
+        status = self.call("journal", text, ctypes.c_size_t(room), ctypes.byref(written), ctypes.byref(position))
+        return status, text.raw[: written.value], position.value
+
+    def tell(self, done):
+        told = Outcome()
+        status = self.call("tell", ctypes.c_uint64(done), ctypes.byref(told))
+        return (told.serial, told.number, WHAT[told.what]) if status == DONE else (status, None, None)
+
+
+class Differs(Exception):
+    pass
+
+
+def same(what, wanted, found):
+    if wanted != found:
+        raise Differs(f"{what}: by the model {wanted!r}, by the library {found!r}")
+
+
+def answered(call, *given):
+    """The status that the library should give, by the model, and what the model answers."""
+    try:
+        return DONE, call(*given)
+    except model.Refused as why:
+        return WHY[why.why], None
+
+
+class Day:
+    """One day: a bay in both forms."""
+
+    def __init__(self, library, dice):
+        self.dice, self.now, self.number, self.done, self.told = dice, 0, 0, 0, {}
+        kinds = [(dice.getrandbits(6) | 1, dice.choice([1, 1, 2])) for _ in range(dice.randint(0, 3))] + [(0b111111, dice.choice([2, 4, 9]))]
+        self.rules = model.Rules(
+            kinds, most=dice.choice([0, 1, 2, 64]), limit=dice.choice([3, 20]), grace=dice.choice([None, 5]), disk=dice.choice([None, 3]),
+            keeps=dice.random() < 0.7, head=dice.randbytes(32))  # fmt: skip
+        self.model, self.machine = model.Bay(self.rules), Machine(library, self.rules)
+        self.durable = 0
+        same("open", DONE, self.machine.open())
+
+    def close(self):
+        same("free", DONE, self.machine.call("free"))
+
+    def somebody(self):
+        known = [it.number for it in self.model.asks]
+        return self.dice.choice(known) if known and self.dice.random() < 0.95 else self.dice.randint(0, self.number + 1)
+
+    def asks(self):
+        dice = self.dice
+        self.number += dice.choice([1, 1, 1, 5]) if dice.random() < 0.97 else 0
+        kind = dice.randrange(len(self.rules.classes) + (dice.random() < 0.02))
+        uses = self.rules.classes[kind][0] if kind < len(self.rules.classes) else 1
+        sets = [dice.getrandbits(6) & (uses if dice.random() < 0.97 else 63) or dice.choice([uses & -uses, uses, 0]) for _ in range(dice.choice([1, 1, 1, 2, 3]))]
+        sets = [] if dice.random() < 0.01 else sets
+        given = (self.number, sets, kind, dice.choice([0, dice.getrandbits(128), 7 << 64]), dice.choice([None, self.now, self.now + dice.randint(0, 9)]), dice.choice([None, dice.randint(0, 6)]), self.now)
+        wanted, _ = answered(self.model.ask, *given)
+        same(f"ask {given}", wanted, self.machine.ask(*given))
+
+    def acts(self):
+        name, number = self.dice.choice(["let_go", "let_go", "let_go", "leave", "take_away", "gone"]), self.somebody()
+        wanted, _ = answered(getattr(self.model, name), number, self.now)
+        same(f"{name} {number}", wanted, self.machine.act(name, number, self.now))
+
+    def notes(self):
+        number, text = self.somebody(), bytes(self.dice.choice(b"abc 123") for _ in range(self.dice.randint(0, 9)))
+        wanted, position = answered(self.model.note, number, text)
+        status, found = self.machine.note(number, text)
+        same(f"note {number}", wanted, status)
+        if wanted == DONE:
+            same("the note's place", position, found)
+
+    def writes(self):
+        text, position = self.model.journal()
+        same("journal", (DONE, text, position if self.rules.keeps else position), self.machine.journal())
+        if self.dice.random() < 0.2:
+            self.model.failed()
+            same("failed", DONE, self.machine.call("failed"))
+        elif self.dice.random() < 0.8:
+            self.reaches(position)
+
+    def reaches(self, position):
+        self.durable = max(self.durable, position)
+        self.model.durable(position)
+        same("durable", DONE, self.machine.call("durable", ctypes.c_uint64(position)))
+
+    def tells(self):
+        for _ in range(self.dice.randint(1, 4)):
+            wanted = self.model.tell(self.done)
+            found = self.machine.tell(self.done)
+            same("tell", wanted or (NOT_YET, None, None), found)
+            if wanted is None:
+                return
+            if self.dice.random() < 0.8:
+                self.done = wanted[0]
+                self.told.setdefault(wanted[1], []).append(wanted[2])
+
+    def passes(self):
+        self.now += self.dice.choice([0, 1, 1, 2, 5])
+        wanted = self.model.time(self.now)
+        same(f"time {self.now}", (DONE, moment(wanted)), self.machine.time(self.now))
+
+    def stops(self):
+        if self.dice.random() < 0.03:
+            self.model.stop(self.now)
+            same("stop", DONE, self.machine.call("stop", ctypes.c_uint64(self.now)))
+
+    def goes(self, calls):
+        ways = [self.asks] * 4 + [self.acts] * 4 + [self.notes, self.writes, self.writes, self.tells, self.tells, self.tells, self.passes, self.stops]
+        for _ in range(calls):
+            self.dice.choice(ways)()
+            self.model.check()
+
+
+def main(words):
+    if not words or len(words) > 3:
+        print(__doc__)
+        return 2
+    library, days, seed = ctypes.CDLL(os.path.realpath(words[0])), int((words[1:2] or ["300"])[0]), int((words[2:3] or ["1"])[0])
+    failed = 0
+    for at in range(days):
+        try:
+            day = Day(library, random.Random(f"{seed} {at}"))
+            day.goes(day.dice.choice([30, 100, 300]))
+            day.close()
+        except (Differs, AssertionError) as why:
+            failed += 1
+            print(f"day {at} of seed {seed}: {why}", flush=True)
+    print(f"{days - failed} passed, {failed} failed")
+    return int(failed > 0)
+
+
+if __name__ == "__main__":
+    sys.exit(main(sys.argv[1:]))

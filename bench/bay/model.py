@@ -1,0 +1,329 @@
+"""The bay as sets and lists: a second, independent form of the machine, written from its laws, to test the real one against. It is slow, and
+meant to be read.
+
+An *ask* wants one of several sets of instruments and a place of a class. It waits in the one line, then holds, then it is over. The laws:
+
+1. One owner: the sets of those that hold have nothing in common, and each is one that its ask asked for.
+2. Told is kept: HOLDS and LET_GO are told once their line in the journal is durable; an ask is told HOLDS once at most, and then one end at
+   most, and then nothing. From each beginning of the journal that has what was durable, whoever was told and isn't over holds.
+3. In time: after a call at `now` nobody waits whose deadline is over, and nobody holds untold whose time for the disk is over, too.
+4. Nobody waits for nothing: each that waits has no place, or for each of its sets an instrument of it is in use, or kept for one before it.
+5. In order: while a place is free for it, an ask is passed at a set by `most` that came later at the most; of those that want the same, who
+   asked first is served first.
+"""
+
+from __future__ import annotations
+
+import hashlib
+from dataclasses import dataclass
+from typing import Iterable, Optional
+
+LET_GO, LEFT, LAPSED, NOT_WRITTEN, LIMIT, GRACE, TAKEN_AWAY, REPLACED, STOPPED = (
+    "let_go left lapsed not_written limit grace taken_away replaced stopped".split()
+)
+WAITS, HOLDS, OVER = "waits holds over".split()
+NONE, DUE = "none", "due"  # a line of the journal: none is owed; it is owed; or the place behind it
+
+
+class Refused(Exception):
+    """A call changed nothing. `why` is one word."""
+
+    def __init__(self, why: str) -> None:
+        super().__init__(why)
+        self.why = why
+
+
+@dataclass(eq=False)
+class Ask:
+    number: int
+    kind: int  # the class of its place
+    owner: int
+    deadline: Optional[int]
+    limit: Optional[int]
+    since: int
+    needs: int = 0
+    gone: Optional[int] = None
+    stage: str = WAITS
+    how: str = ""
+    heard: str = ""  # "", "holds", "end"
+    hold_line: object = NONE
+    end_line: object = NONE
+    back_of: Optional[int] = None  # a line `back` is owed, or was given, for the number that it had
+
+
+@dataclass(eq=False)
+class Wish:
+    ask: int
+    needs: int
+    kind: int
+    deadline: Optional[int]
+    passed: int = 0
+
+
+@dataclass
+class Rules:
+    classes: list[tuple[int, int]]  # which instruments may be used, and how many places there are
+    most: int = 64
+    limit: int = 1000
+    grace: Optional[int] = None
+    disk: Optional[int] = None
+    keeps: bool = True
+    head: bytes = b"\0" * 32
+
+
+def at_most(moment: Optional[int], now: int) -> bool:
+    return moment is not None and moment <= now
+
+
+class Bay:
+    def __init__(self, rules: Rules) -> None:
+        self.rules = rules
+        self.asks: list[Ask] = []  # in the order of asking; who is over stays until it was told so and its lines were given
+        self.line: list[Wish] = []
+        self.next = 0  # every number below was given
+        self.now = 0
+        self.is_stopped = False
+        self.durable_to = 0
+        self.telling: Optional[tuple[int, int, str]] = None
+        self.serial = 0
+        # the journal: all of its text so far, and how much of it was handed out
+        self.text = b""
+        self.sum = bytes(8)
+        self.sent = 0
+        if rules.keeps:
+            self._line(f"bay {rules.head.hex()} {0:016x} {0:016x}")
+
+    # ---- owners
+
+    def ask(self, number: int, sets: Iterable[int], kind: int, owner: int, deadline: Optional[int], limit: Optional[int], now: int) -> None:
+        sets = list(sets)
+        if self.is_stopped:
+            raise Refused("stopped")
+        if number < self.next or number == 2**64 - 1:
+            raise Refused("number")
+        if kind >= len(self.rules.classes):
+            raise Refused("no_class")
+        if not sets or 0 in sets:
+            raise Refused("empty")
+        if any(it & ~self.rules.classes[kind][0] for it in sets):
+            raise Refused("may_not_use")
+        if owner and any(it.owner == owner for it in self.asks if it.stage != OVER):
+            raise Refused("owner")
+        if len(self.line) + len(sets) > self.rules.limit:
+            raise Refused("line_full")
+        self.asks.append(Ask(number, kind, owner, deadline, limit, max(now, self.now)))
+        self.line += [Wish(number, it, kind, deadline) for it in sets]
+        self.next = number + 1
+        self._follow(now)
+
+    def let_go(self, number: int, now: int) -> None:
+        self._ends(self._held(number), LET_GO)
+        self._follow(now)
+
+    def take_away(self, number: int, now: int) -> None:
+        self._ends(self._held(number), TAKEN_AWAY)
+        self._follow(now)
+
+    def leave(self, number: int, now: int) -> None:
+        it = self._find(number)
+        if it is not None and it.stage != OVER:
+            self._ends(it, LEFT)
+        elif it is not None:
+            it.heard = "end"
+        self._purge()
+        self._follow(now)
+
+    def gone(self, number: int, now: int) -> None:
+        self._held(number).gone = max(now, self.now)
+        self._follow(now)
+
+    # ---- the world outside
+
+    def time(self, now: int) -> Optional[int]:
+        """The next moment at which something is due."""
+        self._follow(now)
+        return self.due()
+
+    def due(self) -> Optional[int]:
+        return min([it for one in self.asks for it in self._moments(one)], default=None)
+
+    def stop(self, now: int) -> None:
+        self.is_stopped = True
+        for it in [it for it in self.asks if it.stage == WAITS]:
+            self._ends(it, STOPPED)
+        self._follow(now)
+
+    def note(self, number: int, text: bytes) -> int:
+        it = self._held(number)
+        if it.heard != "holds":
+            raise Refused("not_now")
+        self._line(f"note {number:016x} ".encode() + text)
+        return len(self.text)
+
+    def journal(self) -> tuple[bytes, int]:
+        """What is to be written and wasn't handed out yet, and the place behind it. Who is over comes first: so each beginning is sound."""
+        for it in [it for it in self.asks if it.end_line == DUE]:
+            self._line(f"end {it.number:016x} {it.how}")
+        for it in [it for it in self.asks if it.hold_line == DUE]:
+            limit = 2**64 - 1 if it.limit is None else it.limit
+            self._line(f"hold {it.number:016x} {it.kind:08x} {it.needs:016x} {it.owner:032x} {it.since:016x} {limit:016x}")
+        for it in self.asks:
+            it.end_line = len(self.text) if it.end_line == DUE else it.end_line
+            it.hold_line = len(self.text) if it.hold_line == DUE else it.hold_line
+        self._purge()
+        text, self.sent = self.text[self.sent :], len(self.text)
+        return text, len(self.text)
+
+    def durable(self, position: int) -> None:
+        self.durable_to = max(self.durable_to, min(position, self.sent))
+
+    def failed(self) -> None:
+        """What isn't durable is handed out once more: nothing is undone."""
+        self.sent = self.durable_to
+
+    def tell(self, done: int = 0) -> Optional[tuple[int, int, str]]:
+        """What is told next, with a serial number: the same again, until that number is given back."""
+        if self.telling is not None and self.telling[0] != done:
+            return self.telling
+        self.telling = None
+        over = [it for it in self.asks if it.stage == OVER and it.heard != "end" and (it.how != LET_GO or self._is_durable(it.end_line))]
+        held = [it for it in self.asks if it.stage == HOLDS and it.heard == "" and self._is_durable(it.hold_line)]
+        for it in (over + held)[:1]:
+            it.heard = "end" if it.stage == OVER else "holds"
+            self.serial += 1
+            self.telling = (self.serial, it.number, it.how if it.stage == OVER else HOLDS)
+        self._purge()
+        return self.telling
+
+    # ---- the one rule: all are let in that may be; what is over its time is taken away; and those lapse whose time is over
+
+    def _follow(self, now: int) -> None:
+        self.now = max(self.now, now)
+        while self._lets_in() or self._takes() or self._lapses():
+            pass
+
+    def _free(self) -> set[int]:
+        held = [it.kind for it in self.asks if it.stage == HOLDS]
+        return {kind for kind, (_, places) in enumerate(self.rules.classes) if held.count(kind) < places}
+
+    def _in_use(self) -> int:
+        return union(it.needs for it in self.asks if it.stage == HOLDS)
+
+    def _lets_in(self) -> bool:
+        free, used = self._free(), self._in_use()
+        ready = [it for it in self.line if it.kind in free]
+        kept = [it for it in ready if it.passed >= self.rules.most]
+        first = next((it for at, it in enumerate(kept) if not it.needs & (used | union(one.needs for one in kept[:at]))), None)
+        if first is None:
+            first = next((it for it in ready if not it.needs & (used | union(one.needs for one in kept))), None)
+        if first is None:
+            return False
+        for it in ready:
+            if it.needs & first.needs and it.passed < self.rules.most:
+                it.passed += 1
+        self.line = [it for it in self.line if it.ask != first.ask]
+        ask = self._find(first.ask)
+        ask.stage, ask.needs, ask.since = HOLDS, first.needs, self.now
+        ask.hold_line = DUE if self.rules.keeps else NONE
+        return True
+
+    def _takes(self) -> bool:
+        free, wanted = self._free(), union(it.needs for it in self.line)
+        full = {it.kind for it in self.line} - free
+        for it in self.asks:
+            if it.stage == HOLDS and it.gone is not None and self.rules.grace is not None and it.gone + self.rules.grace <= self.now:
+                self._ends(it, GRACE)
+                return True
+        for it in self.asks:
+            over = it.stage == HOLDS and it.limit is not None and it.since + it.limit <= self.now
+            if over and (it.needs & wanted or it.kind in full):
+                self._ends(it, LIMIT)
+                return True
+        return False
+
+    def _lapses(self) -> bool:
+        for it in self.asks:
+            if it.stage == WAITS and at_most(it.deadline, self.now):
+                self._ends(it, LAPSED)
+                return True
+            if it.stage == HOLDS and it.heard == "" and at_most(self._to_be_told(it), self.now):
+                self._ends(it, NOT_WRITTEN)
+                return True
+        return False
+
+    def _to_be_told(self, it: Ask) -> Optional[int]:
+        """Until when one that holds is to be told so."""
+        if it.deadline is None or self.rules.disk is None:
+            return None
+        return max(it.deadline, it.since + self.rules.disk)
+
+    def _moments(self, it: Ask) -> list[int]:
+        """The moments at which something is due of it."""
+        found = [it.deadline] if it.stage == WAITS else []
+        if it.stage == HOLDS and it.heard == "":
+            found.append(self._to_be_told(it))
+        if it.stage == HOLDS and it.gone is not None and self.rules.grace is not None:
+            found.append(it.gone + self.rules.grace)
+        if it.stage == HOLDS and it.limit is not None:
+            found.append(it.since + it.limit)
+        return [one for one in found if one is not None and one > self.now]
+
+    def _ends(self, it: Ask, how: str) -> None:
+        if it.stage == WAITS:
+            self.line = [one for one in self.line if one.ask != it.number]
+        it.stage, it.how = OVER, how
+        if how == LEFT or it.gone is not None:
+            it.heard = "end"
+        if it.hold_line == DUE:
+            it.hold_line = NONE
+        elif it.hold_line != NONE:
+            it.end_line = DUE
+        self._purge()
+
+    def _purge(self) -> None:
+        self.asks = [it for it in self.asks if not (it.stage == OVER and it.heard == "end" and it.end_line != DUE)]
+
+    def _find(self, number: int) -> Optional[Ask]:
+        return next((it for it in self.asks if it.number == number), None)
+
+    def _held(self, number: int) -> Ask:
+        it = self._find(number)
+        if it is None or it.stage == OVER:
+            raise Refused("over")
+        if it.stage != HOLDS:
+            raise Refused("not_now")
+        return it
+
+    # ---- the journal
+
+    def _is_durable(self, line: object) -> bool:
+        return line == NONE or line != DUE and line <= self.durable_to
+
+    def _line(self, body: str | bytes) -> None:
+        body = body.encode() if isinstance(body, str) else body
+        self.sum = hashlib.sha256(self.sum + body).digest()[:8]
+        self.text += self.sum.hex().encode() + b" " + body + b"\n"
+
+    # ---- what holds after each call
+
+    def check(self) -> None:
+        held = [it for it in self.asks if it.stage == HOLDS]
+        assert sum(bin(it.needs).count("1") for it in held) == bin(self._in_use()).count("1"), "one owner"
+        assert all(it.needs & ~self.rules.classes[it.kind][0] == 0 for it in held), "may use"
+        assert all([one.kind for one in held].count(kind) <= places for kind, (_, places) in enumerate(self.rules.classes)), "places"
+        assert {it.ask for it in self.line} == {it.number for it in self.asks if it.stage == WAITS}, "who waits is in line"
+        for it in self.asks:
+            assert not (it.stage == WAITS and at_most(it.deadline, self.now)), "in time"
+            assert not (it.stage == HOLDS and it.heard == "" and at_most(self._to_be_told(it), self.now)), "told in time"
+        free, used = self._free(), self._in_use()
+        kept = [it for it in self.line if it.kind in free and it.passed >= self.rules.most]
+        for it in self.line:
+            assert it.kind not in free or it.needs & (used | union(one.needs for one in kept)), "nobody waits for nothing"
+            assert it.passed <= self.rules.most, "passed"
+
+
+def union(sets: Iterable[int]) -> int:
+    found = 0
+    for it in sets:
+        found |= it
+    return found

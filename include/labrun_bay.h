@@ -1,0 +1,153 @@
+/* The bay: who asks, who holds and what they were told, for programs, threads and people that share instruments. A pure machine: it knows no
+   clock, no file and no thread. A moment is a number of yours that never falls (say milliseconds), and so is how far your file is on the disk.
+
+   An *ask* wants one of several sets of instruments (bit i of a number for instrument i) and a place of a *class*: a station's own, or one of
+   the guests'. It waits in the bay's one line, then it holds, then it is over. Who asks gives it a number, larger than any before; so who is
+   interrupted between a call and the note of what it answered has lost nothing. What an ask comes to is *told* by `lab_bay_tell`:
+
+     LAB_HOLDS        it holds the instruments in `needs`. With a journal this is told only once the journal's line that says so is durable
+     then one of these, and nothing after it
+     LAB_LET_GO       it let go, and the journal's line that says so is durable
+     LAB_LAPSED       its deadline was over while it waited
+     LAB_NOT_WRITTEN  it came to hold in time, but the journal wasn't durable within the bay's time for the disk
+     LAB_LIMIT        it held for longer than its limit, and somebody waited for what it had
+     LAB_TAKEN        somebody took it away
+     LAB_REPLACED     another ask has what it held
+     LAB_STOPPED      the bay was stopped while it waited
+   (An ask that left is told nothing, nor is one whose client is gone.)
+
+   What holds, whatever the calls: no two asks hold one instrument; whoever was told that it holds goes on to hold, until it lets go, leaves,
+   is taken away, or its limit or its grace is over; after each call nobody waits whose instruments are free, kept for nobody before it, and
+   for whom there is a place, and nobody waits whose deadline is over; while there is a place for it, an ask is passed at a set by at most
+   `overtakes` that came later, and of those that want the same, whoever asked first is served first. Of a journal that is cut at any byte at
+   or behind what was durable, each ask that was told that it holds and isn't over comes back, with its owner.
+
+   A whole shell, in any language:
+
+     with your mutex:  call; then pump
+     pump:             while lab_bay_tell answers 0, hand what is told to whoever waits for that ask, and give its serial number back in the
+                       next lab_bay_tell; if there is text, wake the writer
+     writer:           with the mutex lab_bay_journal, without it write and fsync, with it lab_bay_durable and pump; if a write fails, cut the
+                       file back to what is durable, and lab_bay_failed: what wasn't durable is handed out again
+     timer:            with the mutex lab_bay_time, and pump; sleep until the moment that it tells
+*/
+#ifndef LABRUN_BAY_H
+#define LABRUN_BAY_H
+#include "labrun.h"
+#ifdef __cplusplus
+extern "C" {
+#endif
+
+/* The statuses are those of labrun.h, and these. Of several reasons to refuse an ask the first counts, in the order 21, 20, 22, 23, 24, 29, 25, 5: */
+#define LAB_BAY_NUMBER 20u     /* the number isn't larger than any before, or it is 18446744073709551615 */
+#define LAB_BAY_STOPPED 21u    /* the bay was stopped */
+#define LAB_BAY_NO_CLASS 22u   /* there is no such class */
+#define LAB_BAY_EMPTY 23u      /* there is no set, or one of them is empty */
+#define LAB_BAY_MAY_NOT 24u    /* the class may not use an instrument of one of the sets */
+#define LAB_BAY_LINE_FULL 25u  /* the line has no room for so many sets */
+#define LAB_BAY_OVER 26u       /* the ask is over, or there never was one with this number */
+#define LAB_BAY_ANOTHER 27u    /* the journal is another bay's */
+#define LAB_BAY_UNSOUND 28u    /* a line of the journal isn't sound: `told->line` */
+#define LAB_BAY_OWNER 29u      /* the owner has an ask that isn't over */
+
+/* No moment, no limit: for ever. */
+#define LAB_NEVER UINT64_MAX
+
+/* What an ask is told. */
+#define LAB_HOLDS 0u
+#define LAB_LET_GO 1u
+#define LAB_LEFT 2u
+#define LAB_LAPSED 3u
+#define LAB_NOT_WRITTEN 4u
+#define LAB_LIMIT 5u
+#define LAB_GRACE 6u
+#define LAB_TAKEN 7u
+#define LAB_REPLACED 8u
+#define LAB_STOPPED 9u
+
+/* What C keeps of a bay: all zero before it is opened, as `struct lab_bench`, whose rules are those of this handle. */
+struct lab_bay {
+    void *at;
+    uint64_t live;
+};
+
+struct lab_class {
+    uint64_t uses;   /* which instruments it may use */
+    uint32_t places; /* how many of it hold at once */
+    uint32_t unused;
+};
+
+struct lab_terms {
+    uint8_t bay[32];    /* which bay it is: a hash of what people call its instruments and stations, say */
+    uint64_t line;      /* for how many sets there is room in line */
+    uint64_t grace;     /* how long what is held is kept once its client is gone, or LAB_NEVER */
+    uint64_t disk;      /* how long a hold may wait for the disk once its deadline is over, or LAB_NEVER */
+    uint32_t overtakes; /* by how many that came later an ask is passed at most */
+    uint32_t keeps;     /* 1: the bay keeps a journal; 0: it doesn't */
+};
+
+struct lab_asked {
+    uint64_t number;
+    uint64_t owner[2]; /* who may come back for it: 128 bits of the hash of a ticket, the high ones first; two zeros: nobody */
+    uint64_t deadline; /* until when it waits, or LAB_NEVER */
+    uint64_t limit;    /* how long it may hold while somebody waits for what it has, or LAB_NEVER */
+    uint32_t kind;     /* its class, counted from 0 */
+    uint32_t unused;
+};
+
+struct lab_outcome {
+    uint64_t serial; /* from 1; to be given back */
+    uint64_t number; /* of the ask */
+    uint64_t needs;  /* of LAB_HOLDS: the instruments that it holds */
+    uint32_t what;   /* LAB_HOLDS, or how it is over */
+    uint32_t unused;
+};
+
+/* Opens a bay in which nobody is, with so many classes (32 at most). 0; 5; 11; 22 if there are more classes. */
+uint32_t lab_bay_open(const struct lab_class *classes, size_t count, const struct lab_terms *terms, struct lab_bay *bay);
+
+/* Somebody asks for one of these sets, whichever is free first (if several are: the first of them). 0; 5; 7; 20 to 25; 29. */
+uint32_t lab_bay_ask(struct lab_bay *bay, const struct lab_asked *asked, const uint64_t *sets, size_t count, uint64_t now);
+
+/* An ask that holds lets go. 0; 7; 8 if it waits; 26. */
+uint32_t lab_bay_let_go(struct lab_bay *bay, uint64_t number, uint64_t now);
+
+/* Nobody is there for the ask any more, whatever it is at: it leaves the line, or lets go, and is told nothing more. 0; 7. */
+uint32_t lab_bay_leave(struct lab_bay *bay, uint64_t number, uint64_t now);
+
+/* Somebody takes away what an ask holds. It is told at once; it is so for good once all that was given is durable. 0; 7; 8 if it waits; 26. */
+uint32_t lab_bay_take_away(struct lab_bay *bay, uint64_t number, uint64_t now);
+
+/* The client of an ask that holds is gone, from now on. 0; 7; 8 if it waits (let it leave); 26. */
+uint32_t lab_bay_gone(struct lab_bay *bay, uint64_t number, uint64_t now);
+
+/* It is this moment. `*next` is the next moment at which something is due, or LAB_NEVER. 0; 7. */
+uint32_t lab_bay_time(struct lab_bay *bay, uint64_t now, uint64_t *next);
+
+/* Nobody is let in any more, and nobody may ask: whoever waits is told LAB_STOPPED. 0; 7. */
+uint32_t lab_bay_stop(struct lab_bay *bay, uint64_t now);
+
+/* Whoever holds, and was told so, notes something: at most 500 bytes, no line feed or carriage return. It is so once what was given is durable
+   up to `*position`. 0; 5; 7; 8 if it waits or wasn't told yet; 24 for another text; 26. */
+uint32_t lab_bay_note(struct lab_bay *bay, uint64_t number, const uint8_t *text, size_t length, uint64_t *position);
+
+/* Hands out what is to be written and wasn't handed out yet, and how long the journal is behind it. 0, also with nothing; 5; 6 with `written`, and
+   nothing is handed out; 7. */
+uint32_t lab_bay_journal(struct lab_bay *bay, uint8_t *text, size_t room, size_t *written, uint64_t *position);
+
+/* The journal is durable up to there. 0; 7. */
+uint32_t lab_bay_durable(struct lab_bay *bay, uint64_t position);
+
+/* A write failed, and the file was cut back to what is durable: the rest is handed out again by `lab_bay_journal`. 0; 7. */
+uint32_t lab_bay_failed(struct lab_bay *bay);
+
+/* What is told next, and to whom. It is told again until its serial number is given back as `done` (at first 0). 0; 8 if there is nothing; 7. */
+uint32_t lab_bay_tell(struct lab_bay *bay, uint64_t done, struct lab_outcome *outcome);
+
+/* Frees the bay. The handle is empty then. 0; 7. */
+uint32_t lab_bay_free(struct lab_bay *bay);
+
+#ifdef __cplusplus
+}
+#endif
+#endif
