@@ -118,7 +118,7 @@ class Clients(OnBroker):
             pass
 
     def test_released_after_the_grace(self) -> None:
-        broker = self.broker('gone = "release"\n' + BAY, "--grace", "0.3")
+        broker = self.broker('gone = "release"\n' + BAY, "--grace", "1")
         lab = self.lab(broker)
         one = self.program(broker, "scope")
         assert one.stdout is not None
@@ -126,7 +126,7 @@ class Clients(OnBroker):
         one.kill()
         begun = time.monotonic()
         with lab.hold("scope", timeout=10):
-            self.assertGreater(time.monotonic() - begun, 0.2)
+            self.assertGreater(time.monotonic() - begun, 0.5)
 
     def test_who_stops_is_no_trouble(self) -> None:
         """A client that is stopped while it holds, or waits, keeps nobody else waiting for anything but its instruments."""
@@ -233,10 +233,10 @@ class WhoIsLetIn(OnBroker):
             self.assertEqual(held.instruments, ("scope",))
         with self.lab(broker).hold("scope", timeout=5):
             pass  # the socket needs no token
-        for more in ({"certificate_file": certificate}, {"certificate_file": certificate, "token_file": f"{folder}/wrong"}):
-            with labrun_broker.connect(at, **more) as lab:
+        for more, why in (({}, "asks for its token"), ({"token_file": f"{folder}/wrong"}, "this isn't its token")):
+            with labrun_broker.connect(at, certificate_file=certificate, **more) as lab:
                 for act in (lab.hold("scope").acquire, lab.status, lambda: lab.release("board"), lambda: next(lab.watch()), lab.report, lab.pages):
-                    with self.assertRaisesRegex(labrun_broker.Unreachable, "asks for its token"):
+                    with self.assertRaisesRegex(labrun_broker.Unreachable, why):
                         act()
         with labrun_broker.connect(at, token_file=token) as lab, self.assertRaises(labrun_broker.Unreachable):
             lab.status()
