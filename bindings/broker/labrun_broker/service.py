@@ -21,6 +21,7 @@ from typing import Any, AsyncIterator, Awaitable, Callable, Coroutine, Optional
 import grpc
 import labrun
 from google.protobuf import json_format
+from grpc._cython import cygrpc
 
 from . import broker_pb2 as pb
 from .bay import BadAddress as BadAddress
@@ -373,6 +374,7 @@ async def start(keeping: Keeping, door: Door) -> Any:
     # (a server of gRPC that is made and not started may keep the program from ending, so all is looked at before)
     for address in door.addresses:
         _check_free(address)
+    asyncio.get_running_loop().set_exception_handler(Complaints())
     server = grpc.aio.server(options=OPTIONS)
     server.add_generic_rpc_handlers((_methods(service),))
     with for_the_group():
@@ -385,6 +387,27 @@ async def start(keeping: Keeping, door: Door) -> Any:
                 give(address.removeprefix("unix:"), door.group)
         await server.start()
     return server
+
+
+class Complaints:
+    """What nobody catches is told, with its traceback, once in a while: a client can't fill the log. That a stream was over before gRPC could
+    say how it ended is no fault."""
+
+    PAUSE = 10.0
+
+    def __init__(self) -> None:
+        self.next, self.passed = 0.0, 0
+
+    def __call__(self, loop: asyncio.AbstractEventLoop, context: dict[str, Any]) -> None:
+        if isinstance(context.get("exception"), cygrpc.ExecuteBatchError):
+            return
+        if loop.time() < self.next:
+            self.passed += 1
+            return
+        if self.passed:
+            context = {**context, "message": f"{context.get('message')} (and {self.passed} before it)"}
+        self.next, self.passed = loop.time() + self.PAUSE, 0
+        loop.default_exception_handler(context)
 
 
 def _check_free(address: str) -> None:
