@@ -15,11 +15,13 @@ import builtins
 import concurrent.futures
 import contextlib
 import getpass
+import math
 import os
 import secrets
 import socket
 import sys
 import threading
+import time
 from types import TracebackType
 from typing import Any, Callable, Coroutine, Generic, Iterable, Iterator, Optional, TypeVar, Union
 
@@ -35,6 +37,10 @@ PAUSE = 0.1  # between such tries
 # a question that a broker doesn't answer for so long won't be answered
 ANSWER = 30.0
 CLOSING, GIVING_UP = 3.0, 0.5
+# so many pings in the time for which a session is held after one
+BEATS = 6
+# the bytes of a message that a broker takes, and the characters that are told of work that failed
+MOST_BYTES, MOST_FAILED = 1 << 16, 10000
 SERVICE = "/labrun.broker.Broker/"
 
 OPTIONS = [
@@ -48,6 +54,11 @@ OPTIONS = [
 ]
 
 Result = TypeVar("Result")
+
+
+def _clock() -> float:
+    """One that goes on while the machine sleeps."""
+    return time.clock_gettime(time.CLOCK_BOOTTIME)
 
 
 class BrokerError(labrun.LabrunError):
@@ -133,6 +144,7 @@ class _Stream:
         self.is_open = False
         self._lost: Optional[_Lost] = None
         self._answers: asyncio.Queue[Union[tuple[str, Any], Exception]] = asyncio.Queue()
+        self._writing, self._asked_at = asyncio.Lock(), -1.0
         self._reader = asyncio.create_task(self._reads())
 
     @property
@@ -150,9 +162,29 @@ class _Stream:
 
     async def asks(self, **what: Any) -> tuple[str, Any]:
         """What the broker answers. _Lost: the stream ended."""
-        with contextlib.suppress(grpc.RpcError, asyncio.InvalidStateError):  # (whoever reads sees that, too)
-            await self._call.write(pb.Ask(**what))
+        ask = pb.Ask(**what)
+        if (size := ask.ByteSize()) > MOST_BYTES:
+            # (the broker would end the stream)
+            raise BadWish(f"a {ask.WhichOneof('ask')} of {size} bytes; {MOST_BYTES} are the most")
+        await self._writes(ask)
         return await self._answer()
+
+    async def _writes(self, ask: Any) -> None:
+        async with self._writing:
+            with contextlib.suppress(grpc.RpcError, asyncio.InvalidStateError):  # (whoever reads sees that, too)
+                await self._call.write(ask)
+
+    async def pings(self) -> None:
+        """Says that the client is there; the session is told of the answer."""
+        await self._writes(pb.Ask(ping=pb.Ping(at=_clock())))
+
+    async def keeps(self) -> float:
+        """Asks whether the broker still keeps the session, and waits for the answer; when that was asked."""
+        at = self._asked_at = _clock()
+        kind, told = await self.asks(ping=pb.Ping(at=at))
+        if kind != "pong" or not told.holds:
+            raise TakenAway("the session was taken away just as it came to hold")
+        return at
 
     async def _answer(self) -> tuple[str, Any]:
         if self._lost is not None:
@@ -204,6 +236,9 @@ class _Stream:
                 self.session._waits_for(told.text)
             except Exception as fault:
                 self.ends(fault)
+        elif kind == "pong" and told.at != self._asked_at:
+            if self.session is not None and told.holds:
+                self.session._is_sure(told.at)
         else:
             self._answers.put_nowait((kind, told))
 
@@ -373,8 +408,9 @@ class Lab:
                 for held in list(self._held):
                     if lets_go:
                         await held._let_go(None)
-                    if held._returns is not None:
-                        held._returns.cancel()
+                    for task in (held._returns, held._beats):
+                        if task is not None:
+                            task.cancel()
         self._has_left = True
         with contextlib.suppress(builtins.TimeoutError):
             async with asyncio.timeout(CLOSING):
@@ -433,6 +469,12 @@ class Held:
         self._wish, self._waits = wish, waits
         self._stream: Optional[_Stream] = None
         self._taken: Optional[Exception] = None
+        # for how long it is held after a word that the broker answered, and so until when, by `_clock`; and who sends such words. Nobody else holds
+        # its instruments before that, whatever becomes of the connection (LEASE in keeping.py)
+        self._lease: Optional[float] = None
+        self._until = math.inf
+        self._beats: Optional[asyncio.Task[None]] = None
+        # of an older broker, which knows no lease
         self._grace: Optional[float] = None
         # what its owner asks now, and since when; and who looks for another stream
         self._asked: dict[str, Any] = {}
@@ -443,14 +485,15 @@ class Held:
 
     @property
     def held(self) -> bool:
-        return self.state == "held"
+        """Whether nobody else can hold its instruments."""
+        return self.state == "held" and _clock() < self._until
 
     def acquire(self) -> None:
         """Blocks until the session holds all its instruments."""
         try:
             self.lab._run(self._acquire())
         except BaseException:
-            if self.held:
+            if self.state == "held":
                 self.release()
             raise
 
@@ -459,7 +502,7 @@ class Held:
         try:
             await self.lab._run_async(self._acquire())
         except BaseException:
-            if self.held:
+            if self.state == "held":
                 await self.release_async()
             raise
 
@@ -483,7 +526,7 @@ class Held:
 
     def __exit__(self, kind: Optional[type[BaseException]], fault: Optional[BaseException], at: Optional[TracebackType]) -> None:
         try:
-            if self.held or self._taken is not None:
+            if self.state == "held" or self._taken is not None:
                 self.release(_failure(kind, fault))
         except labrun.LabrunError:
             # (what the body raised is told first)
@@ -496,7 +539,7 @@ class Held:
 
     async def __aexit__(self, kind: Optional[type[BaseException]], fault: Optional[BaseException], at: Optional[TracebackType]) -> None:
         try:
-            if self.held or self._taken is not None:
+            if self.state == "held" or self._taken is not None:
                 await self.release_async(_failure(kind, fault))
         except labrun.LabrunError:
             if kind is None:
@@ -521,6 +564,8 @@ class Held:
         self._raises_taken()
         self.state = "held"
         self.lab._held.add(self)
+        if self._lease is not None:
+            self._beats = asyncio.create_task(self._stays_sure(self._lease))
         if self._stream is not None and self._stream.is_lost:
             self._is_cut()
 
@@ -536,8 +581,13 @@ class Held:
                 lab._was_there = True
             if until is not None:
                 self._wish.timeout = max(0.0, until - loop.time())
+            sent = _clock()
             kind, told = await stream.asks(wish=self._wish)
+            if kind == "held" and told.HasField("lease") and _clock() > sent + told.lease / BEATS:
+                # (the wish is old: what was told may be, too)
+                sent = await stream.keeps()
         except _Lost as lost:
+            self._raises_taken()
             # (one that was idle may be of a broker that is gone)
             is_over = lost_at is not None and loop.time() > lost_at + GRACE or until is not None and loop.time() > until
             if is_new and (lost.code not in AGAIN or not lab._was_there or is_over):
@@ -554,16 +604,49 @@ class Held:
         if kind == "fault":
             stream.is_idle()
             raise _raised(told)
-        self._holds(stream, told)
+        self._holds(stream, told, sent)
         return True
 
-    def _holds(self, stream: _Stream, told: Any) -> None:
+    def _holds(self, stream: _Stream, told: Any, sent: float) -> None:
+        """The broker said so in answer to what was sent then."""
         self._stream, self._grace = stream, told.grace if told.HasField("grace") else None
+        self._lease = told.lease if told.HasField("lease") else None
+        self._until = math.inf if self._lease is None else sent + self._lease
         self.instruments, self.station, self.number = tuple(told.instruments), told.station, told.session
 
     def _waits_for(self, text: str) -> None:
         if self._waits is not None:
             self._waits(text)
+
+    def _is_sure(self, sent: float) -> None:
+        """The broker answered what was sent then, and it holds."""
+        if self._lease is not None:
+            self._until = max(self._until, sent + self._lease)
+
+    async def _stays_sure(self, lease: float) -> None:
+        """Says again and again that the client is there. If the broker doesn't answer the session is over in time, whatever the connection does."""
+        ping: Optional[asyncio.Task[None]] = None
+        while self.state == "held" and (left := self._until - _clock()) > 0:
+            # (a question that its owner has asked is a word, too)
+            if self._stream is not None and self._returns is None and not self._asked and (ping is None or ping.done()):
+                ping = asyncio.create_task(self._stream.pings())
+            await asyncio.sleep(min(left, lease / BEATS))
+        if ping is not None:
+            ping.cancel()
+        self._looks_at_the_time()
+
+    def _looks_at_the_time(self) -> None:
+        if self.state != "held" or _clock() < self._until:
+            return
+        what = ", ".join(self.instruments)
+        fault = TakenAway(f"{self.station}: the broker hasn't answered for {self._lease or 0:g} s, so others may hold these soon: {what}")
+        stream, returns = self._stream, self._returns
+        if returns is None and stream is not None:
+            self._is_taken(stream, fault)
+            return
+        self._is_over("taken", fault)
+        if returns is not None:
+            returns.cancel()
 
     def _is_taken(self, stream: _Stream, fault: Exception) -> None:
         is_asked = bool(self._asked)
@@ -580,10 +663,10 @@ class Held:
     async def _comes_back(self, loop: asyncio.AbstractEventLoop) -> None:
         """The session goes on to hold, on another stream, or is over. It is tried while the broker keeps the session, or for so long as an
         owner waits who asked for something."""
-        until = None if self._grace is None else loop.time() + self._grace
+        until = None if self._grace is None or self._lease is not None else loop.time() + self._grace
         wish = pb.Wish(ticket=self._wish.ticket, by=self._wish.by, comes_back=True)
         while True:
-            stream = _Stream(self.lab)
+            stream, sent = _Stream(self.lab), _clock()
             stream.session = self
             try:
                 kind, told = await stream.asks(wish=wish)
@@ -591,26 +674,33 @@ class Held:
                     return
                 if kind == "held" and not stream.is_lost:
                     self._returns = None
-                    return self._holds(stream, told)
+                    return self._holds(stream, told, sent)
                 if kind == "fault":
                     was_done = told.kind == "LetGo" and "let_go" in self._asked
                     return self._is_over("finished" if was_done else "taken", None if was_done else _raised(told))
             except _Lost as lost:
                 now = loop.time()
                 is_late = until is not None and now > until or bool(self._asked) and now > self._asked_at + GRACE
-                if lost.code not in AGAIN or is_late:
+                # (where too many clients are, there may be room later)
+                if lost.code not in (*AGAIN, grpc.StatusCode.RESOURCE_EXHAUSTED) or is_late:
                     return self._is_over("lost", _why(self.lab, lost.code, str(lost)))
+            except asyncio.CancelledError:
+                stream.cancel()
+                raise
             stream.cancel()
             await asyncio.sleep(PAUSE)
 
     def _is_over(self, state: str, fault: Optional[Exception]) -> None:
         self.state, self._taken, self._stream, self._returns = state, fault, None, None
         self.lab._held.discard(self)
+        if self._beats is not None and self._beats is not asyncio.current_task():
+            self._beats.cancel()
         if fault is not None and not self._asked and self.on_taken is not None:
             self.on_taken(fault)
 
     async def _ask(self, **what: Any) -> None:
         """Asks, and waits for the answer; if the stream ends meanwhile it is asked again on the next one."""
+        self._looks_at_the_time()
         self._raises_taken()
         if self.state != "held":
             raise NotHeld(f"the session is {self.state}: it doesn't hold its instruments")
@@ -623,24 +713,38 @@ class Held:
             self._asked = {}
 
     async def _is_answered(self, what: dict[str, Any]) -> None:
+        pause = PAUSE
         while self.state == "held":
-            if self._returns is not None:
-                await asyncio.shield(self._returns)
+            if (returns := self._returns) is not None:
+                await asyncio.wait({returns})
+                if self._returns is returns and not returns.cancelled():
+                    returns.result()
+                if self._returns is returns:
+                    raise NotHeld("the lab is closed")
                 continue
-            stream = self._stream
+            stream, sent = self._stream, _clock()
             assert stream is not None
             try:
                 kind, told = await stream.asks(**what)
-            except _Lost:
+            except _Lost as lost:
                 self._is_cut()
                 if self._returns is None:
                     raise NotHeld("the lab is closed") from None
+                if lost.code is grpc.StatusCode.RESOURCE_EXHAUSTED and "note" in what:
+                    raise BadWish(f"the broker doesn't take this note: {lost}") from None
+                if asyncio.get_running_loop().time() > self._asked_at + GRACE:
+                    raise _why(self.lab, lost.code, str(lost)) from None
+                # (it comes back meanwhile)
+                await asyncio.sleep(pause)
+                pause = min(2 * pause, 1.0)
                 continue
             if kind == "fault":
                 raise _raised(told)
             if kind == "gone":
                 stream.is_idle()
                 self._is_over("finished", None)
+            elif stream is self._stream:
+                self._is_sure(sent)
             return
         self._raises_taken()
 
@@ -651,7 +755,7 @@ class Held:
             raise fault
 
     async def _let_go(self, failed: Optional[str]) -> None:
-        await self._ask(let_go=pb.LetGo(failed=failed))
+        await self._ask(let_go=pb.LetGo(failed=failed and failed[:MOST_FAILED]))
 
 
 def _failure(kind: Optional[type[BaseException]], fault: Optional[BaseException]) -> Optional[str]:

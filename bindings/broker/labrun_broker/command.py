@@ -114,6 +114,8 @@ async def serve(args: argparse.Namespace) -> int:
         for runner in await web(args, keeping):
             ends.push_async_callback(runner.cleanup)
         say(f"bay {bay.name}, page {keeping.page}: {len(bay.instruments)} instruments, at {' '.join(door.addresses)}")
+        for it in keeping.complaints:
+            say(plain(it))
         tell_systemd("READY=1")
         return await until_the_end(keeping)
     finally:

@@ -4,17 +4,27 @@ A journal says when a job came into the line, held, let go or gave up; how long 
 
 from __future__ import annotations
 
+import hashlib
+import math
 import re
 from dataclasses import dataclass
 from datetime import datetime, timezone
 from typing import Iterable, Iterator, Optional
 
 from .sessions import Fault, Record
+from .texts import plain
 
-# what the broker itself notes of a session: that it is given, with the hash of its ticket and by whom it was asked for; that it is taken away
-GIVES, TAKES = "labrun-broker gives", "labrun-broker takes it away"
+# What the broker itself writes of a session are lines of their own, each with a sum of all else that is in it:
+#     # gives STATION N: SUM TICKET GRACE BY     it is given: the hash of its ticket, its grace (`keep` without one), by whom it was asked for
+#     # takes STATION N: SUM by NAME             it is taken away
+GIVES, TAKES = "gives", "takes"
+# and as older versions wrote them: notes, without a sum
+OLD_GIVES, OLD_TAKES = "labrun-broker gives", "labrun-broker takes it away"
 
-_GIVEN = re.compile(rf"{GIVES} (\w*) (.*)")
+_OWN = re.compile(rf"# ({GIVES}|{TAKES}) (\S+) (\d+): ([0-9a-f]{{16}}) (.*)")
+_GIVEN = re.compile(r"(\w+|-) ([0-9.e+-]+|keep) (.*)")
+_OLD_GIVEN = re.compile(rf"{OLD_GIVES} (\w*) (.*)")
+_COMMENT = re.compile(r"#steps|#sum [0-9a-f]{16}|#more \S+|#\+.*|# (?:hold (\S+) (\d+)|add \S+ \d+)")
 
 STEPS = {"thirst": "asked", "drink": "held", "quit": "let_go", "withdraw": "gave_up"}
 
@@ -72,9 +82,11 @@ def records_of_journal(lines: Iterable[str]) -> Iterator[Record]:
             it.script_line(["job", *words[1:]])
         elif line.startswith("#+"):
             it.script_line(line[2:].split())
+        elif line.startswith(OWN):
+            continue
         elif (note := note_of(line)) is not None:
             job, number, text = note
-            if not text.startswith((GIVES, TAKES)):
+            if not text.startswith((OLD_GIVES, OLD_TAKES)):
                 yield it.record("note", job, number, [], text)
         elif line.startswith("# "):
             it.t = time_of(words[-1]) or it.t
@@ -100,35 +112,121 @@ def note_of(line: str) -> Optional[tuple[str, int, str]]:
     return words[2], int(words[3]), text
 
 
+def _sum(word: str, station: str, number: int, text: str) -> str:
+    return hashlib.sha256(f"{word} {station} {number}: {text}".encode("utf-8", "backslashreplace")).hexdigest()[:16]
+
+
+def gives(station: str, number: int, ticket: str, grace: float, by: str) -> str:
+    """What stands behind `# gives STATION N: `."""
+    text = f"{ticket or '-'} {'keep' if math.isinf(grace) else repr(float(grace))} {plain(by)}"
+    return f"{_sum(GIVES, station, number, text)} {text}"
+
+
+def takes(station: str, number: int, by: str) -> str:
+    """What stands behind `# takes STATION N: `."""
+    text = f"by {plain(by)}"
+    return f"{_sum(TAKES, station, number, text)} {text}"
+
+
+OWN = (f"# {GIVES} ", f"# {TAKES} ")
+
+
+def is_own(text: str) -> bool:
+    """Whether a text could be taken for a line of the broker's own, as no note may."""
+    return text.startswith((OLD_GIVES, OLD_TAKES)) or any(it in text for it in OWN)
+
+
 @dataclass
 class Given:
-    """A session that the broker gave, by its notes; `taken` says by whom it was taken away."""
+    """A session that the broker gave, by its lines; `taken` says by whom it was taken away. `is_to_write`: its line is as an older version wrote
+    it, or lost its end, and the journal is to have a whole one."""
 
     since: float
     ticket: str
     by: str
     note: Optional[str] = None
     taken: str = ""
+    grace: float = 0.0
+    is_to_write: bool = False
 
 
-def sessions_given(path: str) -> dict[tuple[str, int], Given]:
-    """Those of a journal, by station and number."""
-    found: dict[tuple[str, int], Given] = {}
-    t = 0.0
-    with open(path, encoding="utf-8", errors="replace") as file:
-        for line in file:
-            if not line.startswith("# "):
-                continue
-            note = note_of(line)
-            if note is None:
-                t = time_of(line[2:-1]) or t
-                continue
-            job, number, text = note
-            of = found.get((job, number))
-            if of is None and (given := _GIVEN.fullmatch(text)):
-                found[job, number] = Given(t, given[1], given[2])
-            elif of is not None and text.startswith(TAKES):
-                of.taken = text.removeprefix(TAKES + " ")
-            elif of is not None:
-                of.note = text
+class SessionsGiven(dict[tuple[str, int], Given]):
+    """By station and number. `faults` are the numbers of the lines that nobody wrote as they are: each may have been one that gave a session."""
+
+    def __init__(self) -> None:
+        super().__init__()
+        self.faults: list[int] = []
+        self._t = 0.0
+        # the last session that came, of each station
+        self._last: dict[str, int] = {}
+
+    def take(self, line: str) -> bool:
+        """Takes a whole line, and says whether it is as somebody wrote it, as far as can be seen."""
+        if not line.startswith("#"):
+            return True  # (the library has looked at it)
+        if line.startswith(OWN):
+            return self._take_own(line)
+        if is_own(line):  # (the line before has lost its end)
+            return False
+        if (note := note_of(line)) is not None:
+            return self._take_note(*note)
+        if (found := _COMMENT.fullmatch(line)) is not None:
+            if found[1]:
+                self._last[found[1]] = int(found[2])
+            return True
+        t = time_of(line[2:])
+        self._t = t or self._t
+        return t is not None
+
+    def _take_own(self, line: str, is_to_write: bool = False) -> bool:
+        found = _OWN.fullmatch(line)
+        if found is None or _sum(found[1], found[2], int(found[3]), found[5]) != found[4]:
+            return False
+        key, text = (found[2], int(found[3])), found[5]
+        if found[1] == TAKES:
+            if key in self:
+                self[key].taken = text
+            return key in self
+        if (given := _GIVEN.fullmatch(text)) is None:
+            return False
+        before = self.get(key)
+        grace = math.inf if given[2] == "keep" else float(given[2])
+        ticket = "" if given[1] == "-" else given[1]
+        self[key] = Given(before.since if before else self._t, ticket, given[3], before.note if before else None, "", grace, is_to_write)
+        return True
+
+    def _take_note(self, station: str, number: int, text: str) -> bool:
+        of = self.get((station, number))
+        if of is None and (given := _OLD_GIVEN.fullmatch(text)) and self._last.get(station) == number:
+            self[station, number] = Given(self._t, given[1], given[2], is_to_write=True)
+            return True
+        if of is None:
+            return False
+        if text.startswith(OLD_TAKES):
+            of.taken = text.removeprefix(OLD_TAKES + " ")
+        else:
+            of.note = text
+        return not text.startswith(OLD_GIVES)
+
+    def take_cut(self, line: str) -> None:
+        """Takes the last line, which has lost its end. If that is the end alone, it is whole."""
+        for whole in (line, line[:-1]):
+            if whole.startswith(OWN) and self._take_own(whole, True):
+                return
+        # (of one without a sum nobody knows whether it is whole)
+        if (note := note_of(line)) is not None and _OLD_GIVEN.fullmatch(note[2]):
+            self._take_note(*note)
+
+
+def sessions_given(path: str) -> SessionsGiven:
+    """Those of a journal."""
+    found, is_script = SessionsGiven(), True
+    with open(path, encoding="utf-8", errors="replace", newline="\n") as file:
+        for number, line in enumerate(file, 1):
+            if is_script:
+                is_script = line != "steps\n"
+            elif not line.endswith("\n"):
+                found.take_cut(line)
+            elif not found.take(line[:-1]):
+                found.faults.append(number)
     return found

@@ -12,6 +12,7 @@ import contextlib
 import errno
 import fcntl
 import functools
+import math
 import os
 import re
 import tempfile
@@ -23,8 +24,9 @@ import labrun
 from labrun import LabrunError, MayNotUse, NotHeld, TakenAway
 
 from .bay import MOST_COMMANDS, MOST_SESSIONS, Bay
-from .journals import GIVES, TAKES, sessions_given
+from .journals import GIVES, TAKES, Given, SessionsGiven, gives, is_own, records_of_journal, sessions_given, takes
 from .records import Disk, Record, Records, hashed
+from .sessions import ENDS, parsed
 
 KEPT_IN_MEMORY = 1000  # records, and ends of tickets
 # a page is turned before the bench is full: at so many sessions of a seat, commands of all, and bytes of the journal
@@ -38,6 +40,16 @@ AGAIN, LATEST = 1.0, 60.0
 A_LITTLE = 65536  # bytes, as room on a disk
 NEXT = ".next"  # behind the journal's name, until it takes the place of the one before
 LEAST_TICKET = 16
+# who comes back for a session again within so many seconds waits until they are over
+BACK = 1.0
+
+# Where `gone = "release"`, two clients are never told that they hold one instrument:
+#   - The broker keeps a session for its grace, from when it last heard its client: from the last word, if the client says again and again that it
+#     is there (a ping), and else from when it sees that the stream has ended.
+#   - The client holds for LEASE of the grace, from when it *sent* the last word that the broker answered, which is before the broker heard it. Its
+#     program is told at that moment, whatever is known of the connection; the rest of the grace is the margin, in which it leaves the instruments.
+#   - A session keeps the grace that its client was told: it stands in the journal, for a broker that begins again with another one.
+LEASE = 0.75
 
 
 class TimedOut(LabrunError, builtins.TimeoutError):
@@ -93,6 +105,10 @@ class Seat:
     gone_at: Optional[float] = None
     timer: Optional[asyncio.TimerHandle] = None
     sessions: int = 0
+    # for how long a silent client's session is kept; when its client was last heard, if it says that it is there; and when it came back
+    grace: float = math.inf
+    heard_at: Optional[float] = None
+    back_at: float = -math.inf
 
     @property
     def name(self) -> str:
@@ -115,6 +131,10 @@ class Keeping:
         self.bay, self.grace, self.state = bay, grace, state
         self.history: list[Record] = []
         self.page, self.refusals, self.sessions = 1, 0, 0
+        # what is to be told to whoever looks after the broker, as it begins
+        self.complaints: list[str] = []
+        # by the journal, as the broker begins: the sessions that were given
+        self._given = SessionsGiven()
         self._syncs = syncs
         self._watchers: set[asyncio.Event] = set()
         self._tickets: dict[str, Seat] = {}
@@ -174,6 +194,9 @@ class Keeping:
             os.close(self._lock)
             raise LabrunError(f"{folder}: another broker keeps its state there") from None
         self._clears_up()
+        # (the bench cuts off the last line, if that has lost its end)
+        if os.path.exists(self._journal):
+            self._given = sessions_given(self._journal)
         # (what is synced, and when, is the disk's part)
         try:
             self.bench = labrun.Bench.new(self.bay.jobs, journal=self._journal, sync="none", overtakes=self._overtakes)
@@ -205,10 +228,14 @@ class Keeping:
             return None
         records = Records(f"{self.state}/records-{page}.jsonl")
         try:
-            return records, os.open(journal, os.O_RDONLY | os.O_CLOEXEC)
+            file = os.open(journal, os.O_RDONLY | os.O_CLOEXEC)
         except OSError:
             records.close()
             raise
+        # (for those who may read the records, and nobody else)
+        with contextlib.suppress(PermissionError):
+            os.fchmod(file, 0o640)
+        return records, file
 
     def _open_page(self, files: Optional[tuple[Records, int]]) -> None:
         """The page that begins, or goes on."""
@@ -243,12 +270,15 @@ class Keeping:
 
     def _take_up(self) -> None:
         """The bench is as a broker left it that was killed: what was held is held, and its clients are awaited."""
-        given = sessions_given(self._journal)
+        given, self._given = self._given, SessionsGiven()
+        if given.faults:
+            lines = ", ".join(map(str, given.faults[:10]))
+            self.complaints.append(f"{self._journal}: nobody wrote these lines as they are: {lines}")
         for seat in self._seats.values():
             session = seat.job.next_session()
             if session is None:
                 continue
-            it = given.pop((seat.name, session.number), None)
+            it = given.pop((seat.name, session.number), None) or self._may_be_given(given, seat, session)
             if it is None:
                 # (no client was told that it holds: that is noted before)
                 if session.resumed:
@@ -259,12 +289,50 @@ class Keeping:
             self._free[seat.line].remove(seat)
             seat.session, seat.instruments, seat.state = session, session.instruments, "holding"
             seat.since = self._now() - max(0.0, time.time() - it.since)
-            seat.by, seat.note, seat.ticket = it.by or None, it.note, it.ticket
+            seat.by, seat.note, seat.ticket, seat.grace = it.by or None, it.note, it.ticket, it.grace or self._grace
+            if it.is_to_write:
+                session.note(gives(seat.name, session.number, seat.ticket, seat.grace, it.by), GIVES)
+                if it.note is not None:
+                    session.note(it.note)
             if seat.ticket:
                 self._tickets[seat.ticket] = seat
             self.gone(seat, None)
         for it in given.values():
             self._ended(it.ticket, it.taken or "let_go")
+        self._records_ends(given)
+
+    def _may_be_given(self, given: SessionsGiven, seat: Seat, session: labrun.Session) -> Optional[Given]:
+        """A session that holds has no line that says who was told so. If all lines are whole there was none. If some aren't, that line may be
+        among them, and somebody at work: it is kept, until an operator has seen to it."""
+        if not given.faults or not session.resumed:
+            return None
+        held = " ".join(session.instruments)
+        self.complaints.append(f"so nobody knows for whom {seat.name} holds {held}: see to it, and then run labrun-broker release {seat.name}")
+        return Given(time.time(), "", "", "nobody knows for whom: its line in the journal is damaged", "", math.inf, True)
+
+    def _records_ends(self, given: SessionsGiven) -> None:
+        """The journal ended these. A broker that was killed right then has no record of it."""
+        if self._records is None or not given:
+            return
+        held, ended = dict[tuple[str, int], Record](), set[tuple[str, int]]()
+        with open(self._records.path, "rb") as file:
+            for record in filter(None, map(parsed, file)):
+                key = record.get("station") or "", record.get("session") or 0
+                if record["what"] == "held":
+                    held[key] = record
+                elif record["what"] in ENDS:
+                    ended.add(key)
+        left = [key for key in given if key not in ended]
+        if not left:
+            return
+        with open(self._journal, encoding="utf-8", errors="replace", newline="\n") as lines:
+            let_go = {(it["station"], it["session"]): it for it in records_of_journal(lines) if it["what"] == "let_go"}
+        for key in left:
+            it, of = given[key], let_go.get(key, held.get(key, {}))
+            text = f"{it.taken}, as the journal has it" if it.taken else "as the journal has it"
+            t = let_go[key]["t"] if key in let_go else round(time.time(), 6)
+            more = {"station": key[0], "session": key[1], "instruments": of.get("instruments") or [], "by": it.by or None, "text": text}
+            self._add_record({"t": t, "what": "taken" if it.taken else "let_go", **more})
 
     async def close(self) -> None:
         """Nobody comes to hold any more; what is held stays held, in the journal."""
@@ -305,8 +373,8 @@ class Keeping:
         is called with the seat once there is one."""
         try:
             ticket = hashed(wish.ticket)
-            if ticket in self._tickets and wish.ticket:
-                return self._comes_back(self._tickets[ticket], owner)
+            if ticket and (held := await self._seat_of(ticket)) is not None:
+                return self._comes_back(held, owner)
             if wish.comes_back:
                 raise self._why_unknown(ticket)
             self._check(wish)
@@ -328,6 +396,15 @@ class Keeping:
         if seat.owner is not owner:
             raise Ended("taken", "the session was taken away before its client was told that it holds")
         return seat
+
+    async def _seat_of(self, ticket: str) -> Optional[Seat]:
+        """The seat that holds by this ticket. Who came back for it just now waits here."""
+        while (seat := self._tickets.get(ticket)) is not None:
+            span = seat.back_at + min(BACK, seat.grace / 8) - self._now()
+            if span <= 0:
+                return seat
+            await asyncio.sleep(span)
+        return None
 
     def _check(self, wish: Wish) -> None:
         if self._is_closed:
@@ -396,11 +473,11 @@ class Keeping:
                     raise
         self._takes_up_page()
         seat.instruments, seat.state, seat.since = session.instruments, "holding", self._now()
-        seat.ticket = ticket
+        seat.ticket, seat.grace = ticket, self._grace
         if ticket:
             self._tickets[ticket] = seat
         if self._journal_file >= 0:
-            session.note(f"{GIVES} {ticket} {wish.by}")
+            session.note(gives(seat.name, session.number, ticket, seat.grace, wish.by), GIVES)
         self._counts(seat)
         self._record("held", seat, ticket=seat.ticket)
 
@@ -461,7 +538,8 @@ class Keeping:
         if seat.timer is not None:
             seat.timer.cancel()
         seat.state, seat.since, seat.ticket, seat.instruments = "idle", self._now(), "", ()
-        seat.session = seat.owner = seat.by = seat.note = seat.gone_at = seat.timer = None
+        seat.session = seat.owner = seat.by = seat.note = seat.gone_at = seat.timer = seat.heard_at = None
+        seat.grace, seat.back_at = math.inf, -math.inf
         line = self._lines[seat.line]
         while line:
             one = line.popleft()
@@ -500,6 +578,8 @@ class Keeping:
 
     async def note(self, seat: Seat, owner: Owner, text: str) -> None:
         session = self._is_of(seat, owner)
+        if is_own(text):
+            raise BadWish("this note could be taken for a line that the broker writes itself")
         seat.note = text
         if self._journal_file >= 0:
             session.note(text)
@@ -514,7 +594,7 @@ class Keeping:
         if seat.state not in ("holding", "gone"):
             raise NotHeld(f"{station} holds nothing")
         if self._journal_file >= 0 and seat.session is not None:
-            seat.session.note(f"{TAKES} by {by}")
+            seat.session.note(takes(seat.name, seat.session.number, by), TAKES)
         instruments = self.bench.take_away(station)
         try:
             # (the bench tells that once)
@@ -531,17 +611,51 @@ class Keeping:
 
     # ---- clients that are gone
 
+    @property
+    def _grace(self) -> float:
+        """For how long a session that is given now is kept for a silent client."""
+        return self.grace if self.bay.gone == "release" else math.inf
+
+    def heard(self, seat: Seat, owner: Owner, says_so: bool = False) -> bool:
+        """A word of a client came now. Whether the session is its own. `says_so`: that it is there, as it will again and again."""
+        if seat.owner is not owner:
+            return False
+        if says_so or seat.heard_at is not None:
+            seat.heard_at = self._now()
+            if seat.timer is None:
+                self._looks_at(seat)
+        return True
+
     def gone(self, seat: Seat, owner: Optional[Owner]) -> None:
         """The client of a session that holds isn't there any more. It goes on to hold."""
         if seat.owner is not owner or seat.state != "holding":
             return
+        self._is_gone(seat)
+        if seat.timer is None:
+            self._looks_at(seat)
+
+    def _is_gone(self, seat: Seat) -> None:
         seat.state, seat.owner, seat.gone_at = "gone", None, self._now()
-        if self.bay.gone == "release":
-            seat.timer = asyncio.get_running_loop().call_later(self.grace, self._grace_is_over, seat)
         self._record("gone", seat)
 
+    def _looks_at(self, seat: Seat) -> None:
+        """Whether the client has been silent for the grace, now or later."""
+        seat.timer = None
+        since = seat.gone_at if seat.heard_at is None else seat.heard_at
+        if since is None or math.isinf(seat.grace):
+            return
+        span = since + seat.grace - self._now()
+        if span > 0:
+            seat.timer = asyncio.get_running_loop().call_later(span, self._looks_at, seat)
+        else:
+            self._grace_is_over(seat)
+
     def _grace_is_over(self, seat: Seat) -> None:
-        by = f"the broker, because its client was gone for {self.grace:g} s"
+        by = f"the broker, because its client was gone for {seat.grace:g} s"
+        if seat.state == "holding" and (owner := seat.owner) is not None:
+            # (its stream seems whole, so it may be told by that)
+            self._is_gone(seat)
+            owner.taken(f"{seat.name}: the session was taken away by {by}")
         if seat.state == "gone":
             self._start(self._once_written(seat, seat.gone_at, functools.partial(self.release, seat.name, by)))
 
@@ -574,7 +688,8 @@ class Keeping:
             seat.owner.taken("another connection came for the session")
         if seat.timer is not None:
             seat.timer.cancel()
-        seat.state, seat.owner, seat.gone_at, seat.timer = "holding", owner, None, None
+        seat.state, seat.owner, seat.gone_at, seat.timer, seat.back_at = "holding", owner, None, None, self._now()
+        self.heard(seat, owner)
         self._record("back", seat)
         return seat
 
@@ -670,7 +785,7 @@ class Keeping:
         session = bench.jobs[seat.name].hold(*seat.instruments)
         session.acquire()
         if self.state is not None:
-            session.note(f"{GIVES} {seat.ticket} {seat.by or ''}")
+            session.note(gives(seat.name, session.number, seat.ticket, seat.grace, seat.by or ""), GIVES)
             if seat.note is not None:
                 session.note(seat.note)
         return session
@@ -770,6 +885,9 @@ class Keeping:
             "by": None if seat is None else seat.by,
             "text": text,
         }
+        self._add_record(record, **more)
+
+    def _add_record(self, record: Record, **more: Any) -> None:
         self.history.append(record)
         if len(self.history) > 2 * KEPT_IN_MEMORY:
             del self.history[:-KEPT_IN_MEMORY]

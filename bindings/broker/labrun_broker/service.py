@@ -9,6 +9,7 @@ import asyncio
 import builtins
 import collections
 import hmac
+import math
 import os
 import secrets
 import socket
@@ -20,11 +21,12 @@ from typing import Any, AsyncIterator, Awaitable, Callable, Coroutine, Optional
 import grpc
 import labrun
 from google.protobuf import json_format
+from grpc._cython import cygrpc
 
 from . import broker_pb2 as pb
 from .bay import BadAddress as BadAddress
 from .bay import is_here
-from .keeping import BadWish, Ended, Keeping, Seat, Wish
+from .keeping import LEASE, BadWish, Ended, Keeping, Seat, Wish
 from .sockets import check_group, clear, for_the_group, give
 
 # when a client that waits is told for whom, and when again if that has changed
@@ -98,20 +100,23 @@ class Client:
         self._tasks: set[asyncio.Task[None]] = set()
 
     async def talk(self) -> None:
-        answers: dict[str, Callable[[Any], Awaitable[None]]] = {"wish": self._wish, "note": self._note, "let_go": self._let_go}
+        answers: dict[str, Callable[[Any], Awaitable[None]]] = {"wish": self._wish, "note": self._note, "let_go": self._let_go, "ping": self._ping}
         try:
             while (ask := await self.context.read()) is not grpc.aio.EOF:
+                self._is_heard()
                 if (span := self.pace.span()) > 0:
                     await asyncio.sleep(span)
                 kind = ask.WhichOneof("ask")
                 try:
                     if kind is None:
                         raise BadWish("a wish, a note or a let_go is wanted")
-                    if self._waiting is not None and kind != "let_go":
+                    if self._waiting is not None and kind not in ("let_go", "ping"):
                         raise BadWish("this stream waits: only let_go may come meanwhile, which gives up")
                     await answers[kind](getattr(ask, kind))
                 except FAULTS as fault:
                     await self._tell(pb.Told(fault=fault_of(fault)))
+                # (a client whose word took long, as on a slow disk, wasn't silent meanwhile)
+                self._is_heard()
             if self._waiting is not None:
                 await self._give_up(self._waiting)
         finally:
@@ -119,6 +124,14 @@ class Client:
                 self._waiting.cancel()
             if self.seat is not None:
                 self.keeping.gone(self.seat, self)
+
+    def _is_heard(self) -> None:
+        if self.seat is not None:
+            self.keeping.heard(self.seat, self)
+
+    async def _ping(self, asked: Any) -> None:
+        holds = self.seat is not None and self.keeping.heard(self.seat, self, True)
+        await self._tell(pb.Told(pong=pb.Pong(at=asked.at, holds=holds)))
 
     async def _tell(self, told: Any) -> None:
         async with self._writing:
@@ -164,8 +177,10 @@ class Client:
         try:
             seat = self.seat = await self.keeping.hold(wish, self, seats.append)
             number = seat.session.number if seat.session is not None else 0
-            grace = self.keeping.grace if self.keeping.bay.gone == "release" else None
-            told = pb.Told(held=pb.Held(station=seat.name, session=number, instruments=seat.instruments, ticket=wish.ticket, grace=grace))
+            held = pb.Held(station=seat.name, session=number, instruments=seat.instruments, ticket=wish.ticket)
+            if not math.isinf(seat.grace):
+                held.grace, held.lease = seat.grace, LEASE * seat.grace
+            told = pb.Told(held=held)
         except FAULTS as fault:
             told = pb.Told(fault=fault_of(fault))
         finally:
@@ -232,8 +247,10 @@ class Service:
         """Whoever is told no by an abort gets no further."""
         if self.token is not None and not context.peer().startswith("unix:"):
             given = next((value for key, value in context.invocation_metadata() if key == "authorization"), "")
-            if not hmac.compare_digest(str(given).encode(), f"Bearer {self.token}".encode()):
+            if not given:
                 await context.abort(grpc.StatusCode.UNAUTHENTICATED, "this broker asks for its token: give its file by --token-file")
+            if not hmac.compare_digest(str(given).encode(), f"Bearer {self.token}".encode()):
+                await context.abort(grpc.StatusCode.UNAUTHENTICATED, "this isn't its token")
 
     async def _paces(self, context: Any) -> None:
         await self._lets_in(context)
@@ -357,6 +374,7 @@ async def start(keeping: Keeping, door: Door) -> Any:
     # (a server of gRPC that is made and not started may keep the program from ending, so all is looked at before)
     for address in door.addresses:
         _check_free(address)
+    asyncio.get_running_loop().set_exception_handler(Complaints())
     server = grpc.aio.server(options=OPTIONS)
     server.add_generic_rpc_handlers((_methods(service),))
     with for_the_group():
@@ -369,6 +387,27 @@ async def start(keeping: Keeping, door: Door) -> Any:
                 give(address.removeprefix("unix:"), door.group)
         await server.start()
     return server
+
+
+class Complaints:
+    """What nobody catches is told, with its traceback, once in a while: a client can't fill the log. That a stream was over before gRPC could
+    say how it ended is no fault."""
+
+    PAUSE = 10.0
+
+    def __init__(self) -> None:
+        self.next, self.passed = 0.0, 0
+
+    def __call__(self, loop: asyncio.AbstractEventLoop, context: dict[str, Any]) -> None:
+        if isinstance(context.get("exception"), cygrpc.ExecuteBatchError):
+            return
+        if loop.time() < self.next:
+            self.passed += 1
+            return
+        if self.passed:
+            context = {**context, "message": f"{context.get('message')} (and {self.passed} before it)"}
+        self.next, self.passed = loop.time() + self.PAUSE, 0
+        loop.default_exception_handler(context)
 
 
 def _check_free(address: str) -> None:

@@ -16,6 +16,7 @@ import grpc
 import labrun
 import labrun_broker
 from labrun_broker import broker_pb2 as pb
+from labrun_broker import client
 from labrun_broker.service import BadAddress, Door, Pace, is_loopback
 from tests.brokers import BAY, LIMIT, Broker, OnBroker, station, until
 
@@ -118,7 +119,7 @@ class Clients(OnBroker):
             pass
 
     def test_released_after_the_grace(self) -> None:
-        broker = self.broker('gone = "release"\n' + BAY, "--grace", "0.3")
+        broker = self.broker('gone = "release"\n' + BAY, "--grace", "1")
         lab = self.lab(broker)
         one = self.program(broker, "scope")
         assert one.stdout is not None
@@ -126,7 +127,7 @@ class Clients(OnBroker):
         one.kill()
         begun = time.monotonic()
         with lab.hold("scope", timeout=10):
-            self.assertGreater(time.monotonic() - begun, 0.2)
+            self.assertGreater(time.monotonic() - begun, 0.5)
 
     def test_who_stops_is_no_trouble(self) -> None:
         """A client that is stopped while it holds, or waits, keeps nobody else waiting for anything but its instruments."""
@@ -233,10 +234,10 @@ class WhoIsLetIn(OnBroker):
             self.assertEqual(held.instruments, ("scope",))
         with self.lab(broker).hold("scope", timeout=5):
             pass  # the socket needs no token
-        for more in ({"certificate_file": certificate}, {"certificate_file": certificate, "token_file": f"{folder}/wrong"}):
-            with labrun_broker.connect(at, **more) as lab:
+        for more, why in (({}, "asks for its token"), ({"token_file": f"{folder}/wrong"}, "this isn't its token")):
+            with labrun_broker.connect(at, certificate_file=certificate, **more) as lab:
                 for act in (lab.hold("scope").acquire, lab.status, lambda: lab.release("board"), lambda: next(lab.watch()), lab.report, lab.pages):
-                    with self.assertRaisesRegex(labrun_broker.Unreachable, "asks for its token"):
+                    with self.assertRaisesRegex(labrun_broker.Unreachable, why):
                         act()
         with labrun_broker.connect(at, token_file=token) as lab, self.assertRaises(labrun_broker.Unreachable):
             lab.status()
@@ -305,6 +306,84 @@ class Floods(OnBroker):
             with self.assertRaisesRegex(labrun_broker.BadWish, "a note of 501 characters; 500 are the most"):
                 held.note("x" * 501)
             held.note("x" * 500)
+
+    def test_notes_that_are_too_long(self) -> None:
+        """Each is refused at once, by name, and the session goes on."""
+        broker = self.broker(BAY, "--state", "FOLDER/state")
+        lab = self.lab(broker)
+        begun = time.monotonic()
+        with lab.hold("scope") as held:
+            for text in ("x" * 501, "x" * 65530, "x" * 70000, "x" * 1000000, "\u00fc" * 40000):
+                with self.assertRaisesRegex(labrun_broker.BadWish, "are the most"):
+                    held.note(text)
+            # (a broker of another version may have another limit, and end the stream)
+            with unittest.mock.patch("labrun_broker.client.MOST_BYTES", 1 << 30):
+                with self.assertRaisesRegex(labrun_broker.BadWish, "the broker doesn't take this note: Received message larger than max"):
+                    held.note("x" * 70000)
+            held.note("5 V")
+            self.assertTrue(held.held)
+        self.assertEqual(held.state, "finished")
+        with self.assertRaisesRegex(labrun_broker.BadWish, "are the most"):
+            lab.hold("x" * 70000).acquire()
+        with self.assertRaisesRegex(RuntimeError, "smoke"):
+            with lab.hold("scope") as held:
+                raise RuntimeError("smoke" * 100000)
+        with lab.hold("scope") as held:
+            held.release("smoke" * 100000)
+        self.assertLess(time.monotonic() - begun, 10)
+        with open(f"{broker.folder}/state/records-1.jsonl", encoding="utf-8") as file:
+            self.assertLess(len(file.readlines()), 20)
+        broker.end()
+        self.assertEqual(broker.said, "")
+
+    def test_no_question_is_asked_for_ever(self) -> None:
+        """Whatever ends the stream each time: the question is given up after the grace, and the session goes on."""
+        lab = self.lab(self.broker())
+        asks, count = client._Stream.asks, 0
+        for code in (grpc.StatusCode.UNAVAILABLE, grpc.StatusCode.RESOURCE_EXHAUSTED, grpc.StatusCode.DATA_LOSS):
+
+            async def lost(stream: client._Stream, **what: object) -> object:
+                nonlocal count
+                if "note" in what or "let_go" in what:
+                    count += 1
+                    stream._call.cancel()
+                    raise client._Lost(code, "lost")
+                return await asks(stream, **what)
+
+            with self.subTest(code), lab.hold("scope", timeout=LIMIT) as held:
+                begun, count = time.monotonic(), 0
+                with unittest.mock.patch.object(client._Stream, "asks", lost), unittest.mock.patch.object(client, "GRACE", 0.3):
+                    for ask in (lambda: held.note("5"), held.release):
+                        with self.assertRaises(labrun.LabrunError):
+                            ask()
+                self.assertLess(time.monotonic() - begun, LIMIT)
+                self.assertLess(count, 20)
+                self.assertEqual(held.state, "held")
+                held.note("6")
+
+    def test_a_ticket_that_comes_back_again_and_again(self) -> None:
+        """As by a client in another language: it is slowed, and fills neither the records nor the log."""
+        broker = self.broker(BAY, "--state", "FOLDER/state")
+        ticket, begun, count = "x" * 43, time.monotonic(), 0
+        with grpc.insecure_channel(broker.address) as channel:
+            while time.monotonic() < begun + 3:
+                wish = pb.Wish(ticket=ticket, comes_back=True) if count else pb.Wish(instruments=["scope"], ticket=ticket)
+
+                def asks():  # type: ignore[no-untyped-def]
+                    yield pb.Ask(wish=wish)
+                    held.wait(2)
+                    yield pb.Ask(note=pb.Note(text="x" * 100000))
+
+                held = threading.Event()
+                with self.assertRaises(grpc.RpcError):
+                    for _ in self.stream(channel, asks()):
+                        held.set()
+                count += 1
+        self.goes_on(self.lab(broker))
+        with open(f"{broker.folder}/state/records-1.jsonl", encoding="utf-8") as file:
+            self.assertLess(sum('"what":"back"' in line for line in file), 7)
+        broker.end()
+        self.assertNotIn("Traceback", broker.said)
 
     def test_numbers(self) -> None:
         broker = self.broker()

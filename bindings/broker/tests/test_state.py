@@ -1,12 +1,18 @@
 """A broker with a state folder, which is killed and goes on where it was, and whose disk is full for a while."""
 
 import asyncio
+import contextlib
 import json
+import math
 import os
+import signal
 import subprocess
+import sys
 import tempfile
 import threading
+import time
 import unittest
+from typing import Any
 from unittest import mock
 
 import labrun
@@ -15,8 +21,9 @@ from labrun import _journal
 from labrun_broker import keeping as kept
 from labrun_broker.bay import bay_of
 from labrun_broker.journals import sessions_given
-from labrun_broker.keeping import Ended, Keeping, Wish
-from tests.brokers import BAY, LIMIT, OnBroker, station, until
+from labrun_broker.keeping import BadWish, Ended, Keeping, Wish
+from labrun_broker.records import LAST
+from tests.brokers import BAY, COMMAND, LIMIT, Broker, OnBroker, station, until
 from tests.test_keeping import TICKET, Owner, how, whats
 
 
@@ -181,6 +188,219 @@ class TakenUp(unittest.IsolatedAsyncioTestCase):
         await keeping.let_go(await keeping.hold(Wish(("supply",), station="board"), owner), owner)
 
 
+class Damaged(unittest.IsolatedAsyncioTestCase):
+    """The line that says who was told that a session holds is another one, by one byte. Nobody else gets its instruments by that."""
+
+    async def keeping(self, folder: str, bay: str = BAY, grace: float = 60.0) -> Keeping:
+        keeping = Keeping(bay_of(bay), folder, grace)
+        await keeping.open()
+        self.addAsyncCleanup(keeping.close)
+        return keeping
+
+    async def left(self, folder: str) -> bytes:
+        """What a broker leaves whose one session holds, and its line."""
+        keeping = await self.keeping(folder)
+        await keeping.hold(Wish(("scope",), station="radio", by="ann", ticket=TICKET), Owner())
+        await keeping.close()
+        with open(f"{folder}/bay.journal", "rb") as file:
+            return next(line for line in file if line.startswith(b"# gives "))
+
+    def damages(self, folder: str, line: bytes, at: int, byte: int) -> None:
+        with open(f"{folder}/bay.journal", "r+b") as file:
+            text = file.read()
+            file.seek(text.index(line) + at)
+            file.write(bytes([byte]))
+
+    async def test_each_byte(self) -> None:
+        refused = 0
+        with tempfile.TemporaryDirectory() as folder:
+            line = await self.left(folder)
+            for at in [*range(0, len(line), 5), len(line) - 1]:
+                with self.subTest(at), tempfile.TemporaryDirectory() as copy:
+                    subprocess.run(["cp", "-a", f"{folder}/.", copy], check=True)
+                    self.damages(copy, line, at, line[at] ^ 1)
+                    try:
+                        keeping = await self.keeping(copy)
+                    except labrun.JournalError:  # (it isn't a comment any more)
+                        refused += 1
+                        continue
+                    self.assertEqual((how(keeping, "radio")["state"], how(keeping, "scope")["holder"]), ("gone", "radio"))
+                    await keeping.close()
+        self.assertLessEqual(refused, 1)
+
+    async def test_until_an_operator_has_seen_to_it(self) -> None:
+        folder = self.enterContext(tempfile.TemporaryDirectory())
+        line = await self.left(folder)
+        self.damages(folder, line, 5, ord("t"))
+        for grace in (0.02, 60.0):  # (and however often the broker begins again)
+            keeping = await self.keeping(folder, 'gone = "release"\n' + BAY, grace)
+            await asyncio.sleep(0.1)
+            self.assertEqual(how(keeping, "radio")["state"], "gone")
+            self.assertIn("nobody knows for whom", how(keeping, "radio")["note"])
+            with self.assertRaises(labrun.TimeoutError):
+                await keeping.hold(Wish(("scope",), station="board", timeout=0.05), Owner())
+            with self.assertRaises(Ended):
+                await keeping.hold(Wish(ticket=TICKET, comes_back=True), Owner())
+            self.assertIn("nobody wrote these lines as they are: ", keeping.complaints[0])
+            if grace < 1:
+                self.assertIn("nobody knows for whom radio holds scope: see to it, and then run labrun-broker release radio", keeping.complaints[1])
+                await keeping.close()
+        self.assertEqual(await keeping.release("radio", "eve"), ("scope",))
+        await keeping.hold(Wish(("scope",), station="board"), Owner())
+
+    async def test_an_older_version_wrote_it(self) -> None:
+        """Its lines have no sum; they are read, and the journal has them as they are now from then on."""
+        folder, owner = self.enterContext(tempfile.TemporaryDirectory()), Owner()
+        line = await self.left(folder)
+        path = f"{folder}/bay.journal"
+        with open(path, "rb") as file:
+            text = file.read()
+        old = b"# note radio 2: labrun-broker gives " + line.split()[5] + b" ann\n"
+        for damaged in (False, True):
+            with open(path, "wb") as file:
+                file.write(text.replace(line, old.replace(b"gives", b"givet") if damaged else old))
+            keeping = await self.keeping(folder)
+            self.assertEqual(how(keeping, "radio")["state"], "gone")
+            self.assertEqual(bool(keeping.complaints), damaged)
+            if not damaged:
+                await keeping.hold(Wish(ticket=TICKET, comes_back=True), owner)
+                with open(path, "rb") as file:
+                    self.assertIn(line, file.read())
+            await keeping.close()
+
+    async def test_no_note_is_such_a_line(self) -> None:
+        folder, owner = self.enterContext(tempfile.TemporaryDirectory()), Owner()
+        keeping = await self.keeping(folder)
+        seat = await keeping.hold(Wish(("scope",), station="radio", ticket=TICKET), owner)
+        for text in ("labrun-broker takes it away by eve", "5\n# gives radio 2: 0123456789abcdef - keep eve", "# takes radio 2: 0 by eve"):
+            with self.assertRaisesRegex(BadWish, "could be taken for a line that the broker writes itself"):
+                await keeping.note(seat, owner, text)
+        await keeping.note(seat, owner, "\x1b\r\n# hold radio 7")
+        await keeping.close()
+        self.assertEqual((await self.keeping(folder)).complaints, [])
+
+
+class Terms(unittest.IsolatedAsyncioTestCase):
+    """A session keeps the grace that its client was told, whatever the broker that goes on has."""
+
+    async def begun(self, folder: str, gone: str, grace: float) -> Keeping:
+        keeping = Keeping(bay_of(f'gone = "{gone}"\n' + BAY), folder, grace)
+        await keeping.open()
+        self.addAsyncCleanup(keeping.close)
+        return keeping
+
+    async def test_it_stands_in_the_journal(self) -> None:
+        for told, now, grace in (("release", "release", 60.0), ("release", "keep", 60.0), ("keep", "release", math.inf)):
+            folder, owner = self.enterContext(tempfile.TemporaryDirectory()), Owner()
+            keeping = await self.begun(folder, told, 60.0)
+            await keeping.hold(Wish(("scope",), station="radio", ticket=TICKET), owner)
+            await keeping.close()
+            keeping = await self.begun(folder, now, 0.02)
+            await asyncio.sleep(0.1)
+            self.assertEqual(how(keeping, "radio")["state"], "gone", "it isn't released after 0.02 s")
+            await keeping.turn_page_over_sessions()
+            await keeping.close()
+            keeping = await self.begun(folder, now, 0.02)
+            self.assertEqual((await keeping.hold(Wish(ticket=TICKET, comes_back=True), owner)).grace, grace)
+            await keeping.close()
+
+
+class Records(OnBroker):
+    def test_killed_behind_the_journals_line(self) -> None:
+        """Its end is in the journal, and in no record yet. The next broker writes that."""
+        for ends, what, text in (
+            (lambda lab, held: held.release(), "let_go", "as the journal has it"),
+            (lambda lab, held: lab.release("board"), "taken", "by tester, as the journal has it"),
+        ):
+            with self.subTest(what):
+                folder = self.enterContext(tempfile.TemporaryDirectory())
+                broker = Broker(folder, BAY, ("--state", f"{folder}/state"), killed_at(what))
+                self.addCleanup(broker.ends)
+                board, other = broker.lab("board"), broker.lab()
+                held = board.hold("scope", "supply")
+                held.acquire()
+                thread = threading.Thread(target=quietly, args=(ends, other, held))
+                thread.start()
+                assert broker.process is not None
+                self.assertEqual(broker.process.wait(LIMIT), -signal.SIGKILL)
+                broker.command = COMMAND
+                broker.begin()
+                with broker.lab() as lab, lab.hold("scope", "supply", timeout=LIMIT):
+                    pass
+                thread.join(LIMIT)
+                for lab in (other, board):
+                    with contextlib.suppress(labrun.LabrunError):  # (its session was taken away)
+                        lab.close()
+                broker.end()
+                for _ in range(2):  # (once: not at each start)
+                    broker.begin()
+                    broker.end()
+                with open(f"{folder}/state/records-1.jsonl", encoding="utf-8") as file:
+                    records = [it for it in map(json.loads, file) if it["station"] == "board"]
+                self.assertEqual([it["what"] for it in records], ["asked", "held", what])
+                self.assertEqual((records[-1]["text"], records[-1]["session"], records[-1]["by"]), (text, records[1]["session"], "tester"))
+                self.assertEqual(records[-1]["instruments"], ["scope", "supply"])
+                self.assertLess(records[1]["t"] - 1, records[-1]["t"])
+
+    def test_who_may_read(self) -> None:
+        broker = self.broker(BAY, "--state", "FOLDER/state")
+        with self.lab(broker) as lab:
+            with lab.hold("scope"):
+                pass
+            lab.pages(turn=True)
+        for name in ("bay.journal", "bay.journal.1", "records-1.jsonl", "records-2.jsonl", "lock"):
+            self.assertEqual(os.stat(f"{broker.folder}/state/{name}").st_mode & 0o777, 0o640, name)
+
+
+def quietly(ends: Any, lab: labrun_broker.Lab, held: labrun_broker.Held) -> None:
+    with contextlib.suppress(labrun.LabrunError):
+        ends(lab, held)
+
+
+def killed_at(what: str) -> list[str]:
+    """The command of a broker that is killed as it is to note this."""
+    text = f"""
+import os, signal, sys
+from labrun_broker import command, keeping
+notes = keeping.Keeping._record
+def killed(self, what, *given, **more):
+    if what == {what!r}:
+        os.kill(os.getpid(), signal.SIGKILL)
+    notes(self, what, *given, **more)
+keeping.Keeping._record = killed
+sys.exit(command.main())"""
+    return [sys.executable, "-c", text]
+
+
+class OnDisk(unittest.IsolatedAsyncioTestCase):
+    async def test_a_note_is_there_before_it_is_answered(self) -> None:
+        """In the journal and in the records, on a quick disk and on a slow one."""
+        for slow in (False, True):
+            with self.subTest(slow):
+                folder, owner = self.enterContext(tempfile.TemporaryDirectory()), Owner()
+                on_disk: dict[str, bytes] = {}
+                real = os.fdatasync
+
+                def fdatasync(file: int) -> None:
+                    size = os.fstat(file).st_size
+                    if slow:
+                        time.sleep(0.05)
+                    real(file)
+                    name = os.path.basename(os.readlink(f"/proc/self/fd/{file}"))
+                    on_disk[name] = os.pread(file, size, 0)
+
+                with mock.patch("os.fdatasync", fdatasync):
+                    keeping = Keeping(bay_of(BAY), folder)
+                    await keeping.open()
+                    seat = await keeping.hold(Wish(("scope",), station="radio", ticket=TICKET), owner)
+                    if slow:
+                        keeping._disk._took.extend([1.0] * LAST)
+                    await keeping.note(seat, owner, "12.5 V")
+                    self.assertIn(b"# note radio 2: 12.5 V\n", on_disk["bay.journal"])
+                    self.assertIn(b'"text":"12.5 V"', on_disk["records-1.jsonl"])
+                    await keeping.close()
+
+
 class OverSessions(unittest.IsolatedAsyncioTestCase):
     """A page that is turned while a session holds, and a broker that ends right before, right after, or in between."""
 
@@ -286,7 +506,7 @@ class FullDisk(unittest.IsolatedAsyncioTestCase):
         real = _journal._pwrite
 
         def pwrite(file: int, text: bytes, place: int) -> int:
-            self.is_full = self.is_full or (self.is_full_at_a_note and b"# note" in text)
+            self.is_full = self.is_full or (self.is_full_at_a_note and b"# gives" in text)
             if self.is_full:
                 self.failed += 1
                 raise OSError(28, "No space left on device")

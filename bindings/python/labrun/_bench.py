@@ -427,15 +427,18 @@ class Session:
         if ticket is not None:
             bench._commit(ticket)
 
-    def note(self, text: str) -> None:
+    def note(self, text: str, word: str = "note") -> None:
         """Writes a comment of one line to the journal, as a reading, with the job and the session; what isn't printable is escaped. It is on
-        the disk when this returns. JournalError if the bench has no journal."""
+        the disk when this returns. JournalError if the bench has no journal. With another `word` in front, of letters alone, the line is a
+        program's own: no note is ever taken for it."""
+        if word in ("hold", "add") or not (word.isascii() and word.isalpha()):
+            raise ValueError(f"{word!r} can't stand before a note")
         bench = self.job.bench
         with bench._mutex:
             bench._look_over()
             if bench._journal is None:
                 raise JournalError("", "the bench has no journal")
-            bench._journal.note(f"{self.job.name} {self.number}: {text}")
+            bench._journal.note(f"{self.job.name} {self.number}: {text}", word)
             ticket = bench._journal.ticket
         bench._commit(ticket)
 

@@ -224,10 +224,10 @@ class Journal:
             raise MemoryError() if status == NO_MEMORY else JournalError(self.path, f"the journal's text: status {status}")
         return ctypes.string_at(self._room_at, self._written.value)
 
-    def note(self, text: str) -> None:
+    def note(self, text: str, word: str = "note") -> None:
         """Adds a comment of one line."""
         one = "".join(it if it.isprintable() else it.encode("unicode_escape").decode() for it in text)
-        self._add(self._stamp() + f"# note {one}\n".encode("utf-8", "backslashreplace"))
+        self._add(self._stamp() + f"# {word} {one}\n".encode("utf-8", "backslashreplace"))
 
     def steps(self) -> int:
         """How many steps it has, with those that aren't written yet."""
