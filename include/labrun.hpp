@@ -210,7 +210,7 @@ struct timed_out : error {
 };
 
 // A report: whether every job is retired, and the text as labrun prints it. `lapsed` has the sessions, by job and number, that were given up
-// without a patience and whose turn came: their commands are in the logs, and nobody did their work. `taken` has those that were taken away from
+// and whose turn came, or had come: their commands are in the logs, and nobody did their work. `taken` has those that were taken away from
 // their owners: their commands are in the logs, and their work may not be done.
 struct report {
     bool finished;
@@ -267,6 +267,17 @@ namespace detail {
     throw error("status " + std::to_string(status));
 }
 
+// What a call answered that has nothing to say but that it is done.
+inline void done(std::uint32_t status) {
+    if (status) throw error("status " + std::to_string(status));
+}
+
+// Whether a call did what it was asked for; no by `LAB_NOT_YET`, and by no other status.
+inline bool is_done(std::uint32_t status) {
+    if (status != LAB_NOT_YET) done(status);
+    return status != LAB_NOT_YET;
+}
+
 // Calls with ever more room, until the text fits.
 template <class Call> report told_text(Call call) {
     std::vector<std::uint8_t> room(16384);
@@ -281,6 +292,13 @@ template <class Call> report told_text(Call call) {
             fail(status, told);
         }
     }
+}
+
+// The text of a call that ends no run.
+template <class Call> std::string plain_text(Call call) {
+    report told = told_text(call);
+    if (!told.finished) done(LAB_UNFINISHED);
+    return std::move(told.text);
 }
 
 inline const std::uint8_t *bytes(std::string_view script) {
@@ -302,11 +320,18 @@ inline const int at_forks = pthread_atfork(nullptr, nullptr, [] {
 // What became of who asked.
 enum class asked { waits, holds, withdrawn, failed };
 
+// A session as it is added: its lines, and its instruments.
+struct kind {
+    std::string text;
+    std::uint64_t needs;
+};
+
 // What is kept of a job.
 struct seat {
     std::vector<lab_session> sessions;
     std::uint32_t in = 0, last = 0; // the session that it is in, which waits or holds, or 0; and the one that it is in or was in last
-    std::uint64_t asks = 0; // how many asks there were: the last one is the seat's
+    std::uint64_t asks = 0; // how many asks there were: the last one is the seat's, and it is of this session
+    std::uint32_t asks_for = 0;
     asked *to = nullptr;    // where that ask is told what became of it, until its thread has woken (an earlier one may not have woken yet, either)
     std::uint32_t held = 0, done = 0; // a session that held before it was asked for, by a journal, and how many of its commands are done
     bool is_had = false;              // a thread has the session that it is in, and holds
@@ -317,6 +342,11 @@ struct seat {
     std::uint32_t outside = 0;                        // in how many settles it waited outside the line
     bool is_old = false;                              // it comes from a journal: then it was in line
     std::uint32_t taken = 0;                          // a session that was taken away, of which its owner doesn't know yet, or 0
+    struct {
+        bool is_had = false, is_left = false;
+        std::optional<clock::time_point> since;
+    } was; // what it was before: whether a thread had it, whether it had been given up, and since when it had held
+    std::optional<kind> anew; // one of `hold`, as long as a thread asks for it: it comes anew if it was given up because others had so many turns
     std::condition_variable woken;
 
     bool is_over = false; // its owner said that it gets no further session
@@ -366,12 +396,6 @@ struct seat {
 struct times {
     std::optional<seat::clock::time_point> until;
     std::optional<std::chrono::nanoseconds> patience, limit;
-};
-
-// A session as it is added: its lines, and its instruments.
-struct kind {
-    std::string text;
-    std::uint64_t needs;
 };
 
 // One that waits until one of several sessions is free: their instruments, and how many sessions that need one of these went before it.
@@ -427,7 +451,8 @@ class journal {
             if (status) fail(status, told);
             add(head);
         }
-        if (!write(added_) || (syncs_ && !is_there && !sync_folder()))
+        // (the file may be there though its name isn't on the disk: whoever began it died before, or synced nothing)
+        if (!write(added_) || (syncs_ && !sync_folder()))
             throw journal_error(path_, "a write failed: " + std::string(std::strerror(errno)));
         stands_.length += added_.size();
         added_.clear();
@@ -512,8 +537,9 @@ class journal {
     void goes_back(lab_bench *handle) {
         lab_bench back{};
         resume(text(stands_.length), &back);
-        lab_bench_free(handle);
+        const std::uint32_t freed = lab_bench_free(handle);
         *handle = back;
+        done(freed);
         {
             std::lock_guard<std::mutex> guard(lock_);
             ends_.push_back(stands_.length);
@@ -823,7 +849,7 @@ struct core {
     struct lab_state state(std::uint32_t job) { return state_of(&handle, job); }
     static struct lab_state state_of(lab_bench *of, std::uint32_t job) {
         struct lab_state found {};
-        ::lab_state(of, job, &found);
+        done(::lab_state(of, job, &found));
         return found;
     }
 
@@ -848,16 +874,18 @@ struct core {
             const bool holds = found.drinking == 2 || found.drinking == 3;
             seat &it = seats[job];
             const bool was_had = it.is_had;
-            it.is_had = it.leaves() == found.session && was_had && holds;
+            const std::optional<seat::clock::time_point> since = it.since;
+            const bool is_same = it.leaves() == found.session && holds;
+            it.is_had = is_same && was_had;
             it.sessions.resize(found.sessions);
             it.last = found.session;
             it.in = holds || found.drinking == 1 ? found.session : 0;
             it.held = holds ? found.session : 0;
             it.done = found.position;
-            if (holds) it.since = seat::clock::now();
+            if (holds) it.since = is_same && since ? *since : seat::clock::now();
             it.is_old = it.in;
         }
-        lab_overtakes(&handle, overtakes); // (no journal has this number)
+        done(lab_overtakes(&handle, overtakes)); // (no journal has this number)
     }
 
     // A write failed: the bench is as the file has it, and whoever waits is told so. No if that can't be had: it is closed then.
@@ -870,17 +898,23 @@ struct core {
     bool went_back() {
         try {
             log->goes_back(&handle);
+            comes_back();
         } catch (const std::exception &) {
             is_closed = true;
             for (seat &it : seats) it.woken.notify_all();
             others.notify_all();
             return false;
         }
-        comes_back();
         for (std::uint32_t job = 0; job < seats.size(); job++) {
             seat &it = seats[job];
             if (undone(lapsed, job)) left |= bit(job);
-            if (undone(taken, job)) it.taken = 0;
+            if (undone(taken, job)) {
+                // (unless its owner was told: then whoever begins next gets it)
+                it.is_had = it.was.is_had && it.taken == it.in;
+                if (it.was.since) it.since = it.was.since;
+                if (it.was.is_left) left |= bit(job);
+                it.taken = 0;
+            }
             if (!it.in) left &= ~bit(job);
             tell(job, asked::failed);
         }
@@ -946,7 +980,7 @@ struct core {
     // Whether a job has asked, and its session isn't begun yet.
     bool is_outside(std::uint32_t job) {
         struct lab_outside found {};
-        ::lab_outside(&handle, job, &found);
+        done(::lab_outside(&handle, job, &found));
         return found.is_outside;
     }
 
@@ -955,7 +989,8 @@ struct core {
         bool is_gone = false;
         each(waiting, [&](std::uint32_t job) {
             seat &it = seats[job];
-            if (it.is_patient() && is_outside(job) && ++it.outside > it.what()->patience) is_gone = give_up(job) || is_gone;
+            // (one of `hold` waits for as long as its owner does)
+            if (it.is_patient() && !it.anew && is_outside(job) && ++it.outside > it.what()->patience) is_gone = give_up(job) || is_gone;
         });
         return is_gone;
     }
@@ -966,17 +1001,18 @@ struct core {
         const bool may = it.is_patient();
         if (may && is_outside(job)) {
             // (so that it is over, and not only asked for no longer, it leaves its place and begins; a meal may have to end before)
-            lab_withdraw(&handle, job);
+            is_done(lab_withdraw(&handle, job));
             for (int tries = 0; tries < 8 && !state(job).drinking; tries++) {
                 lab_turned turned{};
-                lab_turn(&handle, job, &turned);
+                done(lab_turn(&handle, job, &turned));
                 told();
             }
         }
-        const bool is_gone = lab_withdraw(&handle, job) == 0;
+        const bool is_gone = is_done(lab_withdraw(&handle, job));
         told();
         if (is_gone && !may) it.last = it.in - 1; // it wasn't begun, and is the next again
         if (is_gone) comes_to(job, asked::withdrawn);
+        else if (does_hold(job)) lapse(job);
         else left |= bit(job);
         return is_gone && may;
     }
@@ -984,27 +1020,45 @@ struct core {
     // Ends the session that a job holds, for its owner, who learns of it by its next call.
     void take(std::uint32_t job) {
         lab_turned turned{};
-        lab_end(&handle, job, &turned);
+        done(lab_end(&handle, job, &turned));
+        seats[job].was = {seats[job].is_had, (left & bit(job)) != 0, seats[job].since};
         seats[job].taken = seats[job].leaves();
         left &= ~bit(job);
         taken.emplace_back(jobs[job], seats[job].taken);
         told();
     }
 
-    // Takes away what has been held for too long, if somebody waits for an instrument of it.
-    void take_overdue() {
+    // Whether another job asked for an instrument of the session that a job is in, or needs it as one of several that aren't free.
+    bool is_wanted(std::uint32_t job) {
+        const std::uint64_t mine = seats[job].needs();
+        std::uint64_t wanted = 0;
+        for (std::uint32_t other = 0; other < seats.size(); other++) wanted |= other == job ? 0 : seats[other].needs();
+        if (wanted & mine) return true;
+        if (choosers.empty()) return false;
+        const std::uint64_t used = this->used();
+        return std::any_of(choosers.begin(), choosers.end(), [&](const chooser &it) {
+            const auto meets = [](std::uint64_t those) { return [those](std::uint64_t its) { return (its & those) != 0; }; };
+            return it.job != job && std::all_of(it.needs.begin(), it.needs.end(), meets(used)) &&
+                   std::any_of(it.needs.begin(), it.needs.end(), meets(mine));
+        });
+    }
+
+    // Takes away what has been held for too long, if somebody waits for an instrument of it; whether anything was.
+    bool take_overdue() {
         const seat::clock::time_point now = seat::clock::now();
+        std::vector<std::pair<seat::clock::time_point, std::uint32_t>> over;
+        for (std::uint32_t job = 0; job < seats.size(); job++)
+            if (const std::optional<seat::clock::time_point> ends = seats[job].ends(); ends && *ends <= now) over.emplace_back(*ends, job);
+        std::sort(over.begin(), over.end());
         bool is_any = false;
-        for (std::uint32_t job = 0; job < seats.size(); job++) {
-            const std::optional<seat::clock::time_point> ends = seats[job].ends();
-            if (!ends || *ends > now) continue;
-            std::uint64_t wanted = 0;
-            for (std::uint32_t other = 0; other < seats.size(); other++) wanted |= other == job ? 0 : seats[other].needs();
-            if (!(wanted & seats[job].needs())) continue;
-            take(job);
+        // (one after another, the first that is over first: who waits for one of several needs no more than that)
+        for (const auto &it : over) {
+            if (!is_wanted(it.second)) continue;
+            take(it.second);
             is_any = true;
         }
         if (is_any) settle();
+        return is_any;
     }
 
     // When the first of those that hold has held for as long as it may.
@@ -1021,12 +1075,16 @@ struct core {
     void settle() {
         for (;;) {
             lab_came came{};
-            lab_settle(&handle, waiting, &came);
+            bool is_again = false;
+            done(lab_settle(&handle, waiting, &came));
             told();
-            each(came.given_up, [this](std::uint32_t job) { comes_to(job, asked::withdrawn); });
+            each(came.given_up, [&](std::uint32_t job) {
+                if (comes_anew(job)) is_again = true;
+                else comes_to(job, asked::withdrawn);
+            });
             each(came.holds & waiting, [this](std::uint32_t job) { comes_to(job, asked::holds); });
             each(came.holds, [this](std::uint32_t job) { holds(job); });
-            if (wait_outside()) continue;
+            if (wait_outside() || is_again) continue;
             const std::uint32_t letting_go = waiting ? came.holds & left : 0;
             if (!letting_go) break;
             each(letting_go, [this](std::uint32_t job) { lapse(job); });
@@ -1037,10 +1095,17 @@ struct core {
     // A session that was left and holds is over.
     void lapse(std::uint32_t job) {
         lab_turned turned{};
-        lab_end(&handle, job, &turned);
-        told();
+        done(lab_end(&handle, job, &turned));
         left &= ~bit(job);
         lapsed.emplace_back(jobs[job], seats[job].leaves());
+        told();
+    }
+
+    // All those are.
+    void lapse_all() {
+        each(left, [this](std::uint32_t job) {
+            if (does_hold(job)) lapse(job);
+        });
     }
 
     // Asks for the session that a job is in, and sleeps until it has come to something: what. (It waits still if the bench is closed.)
@@ -1068,7 +1133,7 @@ struct core {
         using clock = seat::clock;
         seat &me = seats[job];
         // (a patience runs out by the calls of `lab_settle`, so one of those that wait makes one now and then)
-        const bool ticks = me.is_patient();
+        const bool ticks = me.is_patient() && me.what()->patience < FOREVER;
         clock::time_point looked = clock::now();
         while (how == asked::waits && !is_closed) {
             // (what nobody waits for is not taken away: it is looked at again later)
@@ -1120,7 +1185,7 @@ struct core {
     // What keeps an instrument from a job.
     struct lab_keepers kept(std::uint32_t job, std::uint32_t at) {
         struct lab_keepers kept {};
-        ::lab_keepers(&handle, job, at, &kept);
+        done(::lab_keepers(&handle, job, at, &kept));
         return kept;
     }
 
@@ -1162,7 +1227,7 @@ struct core {
     // ---- sessions that come
 
     static constexpr std::size_t MOST_SESSIONS = 1000, MOST_COMMANDS = 100000;
-    static constexpr std::uint32_t FOREVER = 999999, LARGEST = 999999; // a patience that nobody counts to, and the largest number of a command
+    static constexpr std::uint32_t FOREVER = 999999, LARGEST = 999999; // the largest patience that a script may have, and number of a command
     static constexpr std::chrono::milliseconds TICK{100};
 
     std::vector<std::string> names(std::uint64_t set) const {
@@ -1200,6 +1265,14 @@ struct core {
 
     // Whether its instruments aren't free: it is in line, or holds. (One that was left and holds lets go as soon as somebody waits.)
     bool is_in_use(std::uint32_t job) { return seats[job].in && !is_outside(job) && !is_left(job); }
+
+    // The instruments that aren't free.
+    std::uint64_t used() {
+        std::uint64_t used = 0;
+        for (std::uint32_t job = 0; job < seats.size(); job++)
+            if (is_in_use(job)) used |= seats[job].needs();
+        return used;
+    }
 
     [[noreturn]] void is_in_one(std::uint32_t job) const {
         throw not_now(jobs[job] + " is in a session, its " + std::to_string(seats[job].in) +
@@ -1240,10 +1313,14 @@ struct core {
         for (;;) {
             comes_next(job);
             if (const std::optional<std::size_t> at = choice(job)) return *at;
+            if (take_overdue()) continue;
             const seat::clock::time_point now = seat::clock::now();
             if (gives_up && now >= *gives_up) throw withdrawn();
             if (until && now >= *until) throw timed_out(chooser_keepers(job));
-            doze(guard, earlier(until, gives_up));
+            // (what nobody waits for is not taken away: it is looked at again later)
+            std::optional<seat::clock::time_point> limit = limit_ends();
+            if (limit && *limit <= now) limit = now + TICK;
+            doze(guard, earlier(earlier(until, gives_up), limit));
         }
     }
 
@@ -1257,9 +1334,7 @@ struct core {
         const chooser &me = *chooser_of(job);
         if (is_turning) return std::nullopt;
         if (me.needs.size() == 1) return 0;
-        std::uint64_t used = 0;
-        for (std::uint32_t other = 0; other < seats.size(); other++)
-            if (is_in_use(other)) used |= seats[other].needs();
+        const std::uint64_t used = this->used();
         for (std::size_t at = 0; at < me.needs.size(); at++)
             if (!(me.needs[at] & used)) return at;
         const auto most = std::max_element(me.passed.begin(), me.passed.end());
@@ -1303,13 +1378,28 @@ struct core {
         if (status == LAB_REFUSED && told.cause == 10) throw full(jobs[job]);
         if (status) fail(status, told);
         const std::uint32_t number = static_cast<std::uint32_t>(seats[job].sessions.size()) + 1;
-        lab_session_of(&handle, job, number, &seats[job].sessions.emplace_back());
+        seats[job].sessions.push_back(session_of(job, number));
         if (log) {
             by_hold[{job, number}] = is_hold;
             owed.push_back({job, number});
         }
         this->told();
         return number;
+    }
+
+    // A session of `hold` for which a thread waits was given up, because others had as many turns as a patience may be: it comes anew, by another
+    // number. Whether it does; no if the page has no room for it, or the job got others meanwhile, which come first.
+    bool comes_anew(std::uint32_t job) {
+        seat &it = seats[job];
+        if (!it.anew || !(waiting & bit(job)) || it.last != it.sessions.size()) return false;
+        try {
+            it.in = it.last = it.asks_for = append(job, *it.anew, true);
+        } catch (const full &) {
+            return false;
+        } catch (const retired &) {
+            return false;
+        }
+        return true;
     }
 
     // A session of `hold` that didn't come to hold is over. Whether it holds after all, where a write failed and the file has that.
@@ -1332,10 +1422,10 @@ struct core {
         // (one turn, but for a meal that ends first)
         while (state(job).session < number) {
             lab_turned turned{};
-            lab_turn(&handle, job, &turned);
+            done(lab_turn(&handle, job, &turned));
             told();
         }
-        lab_withdraw(&handle, job);
+        done(lab_withdraw(&handle, job));
         seats[job].last = number;
         told();
         settle();
@@ -1359,7 +1449,7 @@ struct core {
         for (std::uint32_t job = 0; job < seats.size(); job++) {
             const struct lab_state found = state(job);
             if (found.drinking != 1 || !is_by_hold(job, found.session)) continue;
-            lab_withdraw(&handle, job);
+            done(lab_withdraw(&handle, job));
             seats[job].leaves();
             told();
         }
@@ -1368,9 +1458,15 @@ struct core {
             while (!seats[job].in && seats[job].has_more() && is_by_hold(job, seats[job].last + 1)) skip(job);
     }
 
+    lab_session session_of(std::uint32_t job, std::uint32_t number) {
+        lab_session what{};
+        done(lab_session_of(&handle, job, number, &what));
+        return what;
+    }
+
     std::vector<lab_session> sessions_of(std::uint32_t job) {
         std::vector<lab_session> all(state(job).sessions);
-        for (std::uint32_t number = 1; number <= all.size(); number++) lab_session_of(&handle, job, number, &all[number - 1]);
+        for (std::uint32_t number = 1; number <= all.size(); number++) all[number - 1] = session_of(job, number);
         return all;
     }
 
@@ -1378,7 +1474,7 @@ struct core {
     bool retire(std::uint32_t job) {
         lab_turned turned{};
         if (seats[job].has_more() || state(job).drinking == 4) return false;
-        const bool did = lab_retire(&handle, job, 1, &turned) == LAB_DONE;
+        const bool did = is_done(lab_retire(&handle, job, 1, &turned));
         told();
         return did;
     }
@@ -1421,7 +1517,7 @@ struct core {
 
     // Of a text `bench 1` the script that it stands for, and the jobs with a line `uses`. (Whether it is sound is for the library to say.)
     void reads_bay(std::string_view text) {
-        bay_script = told_text([=](auto... given) { return lab_bench_script(bytes(text), text.size(), given...); }).text;
+        bay_script = plain_text([=](auto... given) { return lab_bench_script(bytes(text), text.size(), given...); });
         std::istringstream lines{std::string(text)};
         std::string job;
         for (std::string line; std::getline(lines, line);) {
@@ -1443,7 +1539,7 @@ struct core {
                 text += what.has_patience ? "session patience " + std::to_string(what.patience) + "\n" : "session\n";
                 for (std::uint32_t place = 0; place < what.commands; place++) {
                     struct lab_planned it {};
-                    ::lab_planned(&handle, job, number, place, &it);
+                    done(::lab_planned(&handle, job, number, place, &it));
                     static const char *const verbs[] = {"set", "add", "read"};
                     text += command{instruments[it.instrument], verbs[it.verb], it.verb == 2 ? std::nullopt : std::optional(it.number)}.line();
                 }
@@ -1459,9 +1555,9 @@ struct core {
     // The first session of a job is begun by one turn, and given up, unless that was done before; `told` follows each call.
     template <class Told> static void give_up_first(lab_bench *of, std::uint32_t job, Told told) {
         lab_turned turned{};
-        if (const struct lab_state it = state_of(of, job); !it.session && it.sessions) lab_turn(of, job, &turned);
+        if (const struct lab_state it = state_of(of, job); !it.session && it.sessions) done(lab_turn(of, job, &turned));
         told();
-        if (const struct lab_state it = state_of(of, job); it.session == 1 && it.drinking == 1) lab_withdraw(of, job);
+        if (const struct lab_state it = state_of(of, job); it.session == 1 && it.drinking == 1) done(lab_withdraw(of, job));
         told();
     }
 
@@ -1495,7 +1591,7 @@ struct core {
             }
             doze(guard, until);
         }
-        each(left, [this](std::uint32_t job) { lapse(job); });
+        lapse_all();
     }
 
     // (One may owe a meal, for which it needs forks that others give once they have let go.)
@@ -1517,7 +1613,9 @@ struct core {
             if (has_first(job)) give_up_first(opened, job, took);
         for (std::uint32_t job = 0; job < seats.size(); job++) {
             lab_turned turned{};
-            if (seats[job].is_over) lab_retire(opened, job, 1, &turned);
+            const std::uint32_t status = seats[job].is_over ? lab_retire(opened, job, 1, &turned) : LAB_DONE;
+            // (a text `bench 1` may say sessions of its own, which come again)
+            if (status != LAB_SESSIONS_LEFT) is_done(status);
             took();
         }
         return steps;
@@ -1543,7 +1641,12 @@ struct core {
             throw;
         }
         std::swap(handle, opened);
-        begins_anew();
+        try {
+            begins_anew();
+        } catch (...) {
+            is_closed = true;
+            throw;
+        }
         page.report.lapsed = std::exchange(lapsed, {});
         page.report.taken = std::exchange(taken, {});
         return page;
@@ -1562,9 +1665,9 @@ struct core {
     // Nobody turns the page any more: what waited for that may come.
     void turns_no_more() {
         is_turning = false;
+        others.notify_all();
         if (!is_closed)
             for (const auto &[job, it] : std::exchange(later, {})) append(job, it, false);
-        others.notify_all();
     }
 };
 
@@ -1622,7 +1725,7 @@ class session {
         is_held_yet();
         lab_entry entry{};
         if (!has()) return std::nullopt;
-        if (lab_command(&core_->handle, job_, &entry)) return std::nullopt;
+        if (!detail::is_done(lab_command(&core_->handle, job_, &entry))) return std::nullopt;
         core_->told();
         const detail::journal::ticket ticket = core_->ticket();
         guard.unlock();
@@ -1657,9 +1760,9 @@ class session {
             return;
         }
         lab_turned turned{};
-        lab_end(&core_->handle, job_, &turned);
-        core_->told();
+        detail::done(lab_end(&core_->handle, job_, &turned));
         core_->seats[job_].leaves();
+        core_->told();
         // (before the settle: that it let go may be in the file already, and what others come to by it not yet)
         const detail::journal::ticket ticket = core_->ticket();
         if (core_->waiting) core_->settle();
@@ -1676,25 +1779,31 @@ class session {
         : core_(core), job_(job), number_(number), needs_(needs), done_(done), resumed_(resumed), page_(page),
           ask_(core->seats[job].asks) {}
 
-    // Asks for this session, which is the next one or the one that the job is in, and sleeps until it holds. One that `passes` is given up when its
-    // time is over.
+    // Asks for this session, which is the next one or the one that the job is in, and sleeps until it holds. One of `hold`, which is of this kind,
+    // is given up when its time is over.
     static session ask(detail::core *core, std::unique_lock<std::mutex> &guard, std::uint32_t job, std::uint32_t number, const detail::times &times,
-                       bool passes) {
+                       const detail::kind *kind) {
         detail::seat &me = core->seats[job];
+        const bool passes = kind;
         // (another thread has it, or asked for it and hasn't woken yet)
         if (me.in && (me.is_had || me.to)) core->is_in_one(job);
         const std::uint64_t needs = me.sessions[number - 1].needs, page = core->page, mine = ++me.asks;
-        me.in = me.last = number;
+        me.in = me.last = me.asks_for = number;
         me.limit = times.limit;
+        me.anew = kind ? std::optional(*kind) : std::nullopt;
         if (times.patience && !me.asked_at) me.asked_at = detail::seat::clock::now();
         if (me.limit && me.since) core->rouse();
         core->left &= ~detail::core::bit(job);
         detail::asked how = detail::asked::waits;
+        // (if it came anew, it has another number by then)
+        const auto comes_anew = [&] { number = me.asks == mine ? me.asks_for : number; };
         try {
             how = core->comes_of(guard, job, times);
-        } catch (const timed_out &) {
-            if (passes) core->pass(job, number, mine);
-            throw;
+            comes_anew();
+        } catch (...) {
+            comes_anew();
+            if (!passes || !core->pass(job, number, mine)) throw;
+            how = detail::asked::holds;
         }
         if (how == detail::asked::withdrawn) throw withdrawn();
         if (how == detail::asked::failed && !(passes && core->pass(job, number, mine)))
@@ -1765,12 +1874,13 @@ class desk {
         if (core_->is_closed) throw closed();
         const std::uint32_t number = core_->next_of(job_);
         if (!number) return std::nullopt;
-        return session::ask(core_, guard, job_, number, {until, patience_, limit_}, false);
+        return session::ask(core_, guard, job_, number, {until, patience_, limit_}, nullptr);
     }
 
     // Gives up the session that timed out; whether it was withdrawn, as it is if it has a patience: then it logs nothing. A session without
-    // patience can't leave the line. Nobody comes for it, but its turn may come; if somebody waits then, its commands are logged, though
-    // nobody did its work, and it lets go: `lapsed` of the report names it. Begun again before, it is as any other.
+    // patience can't leave the line. Nobody comes for it, but its turn may come; if somebody waits then, or the bench is closed, its commands are
+    // logged, though nobody did its work, and it lets go: `lapsed` of the report names it. Begun again before, it is as any other. One that has
+    // come to hold before it is given up lets go at once, in the same way.
     bool give_up() {
         core_->belongs_here();
         std::unique_lock<std::mutex> guard(core_->mutex);
@@ -1851,7 +1961,7 @@ class job {
         const std::size_t which = core_->chosen(guard, job_, kinds, until, detail::seat::later(begun, how.patience_));
         const std::uint32_t number = core_->append(job_, kinds[which], true);
         if (how.patience_) core_->seats[job_].asked_at = begun;
-        return session::ask(core_, guard, job_, number, {until, how.patience_, how.limit_}, true);
+        return session::ask(core_, guard, job_, number, {until, how.patience_, how.limit_}, &kinds[which]);
     }
 
     // Adds a session behind the job's others: whoever takes the job's sessions (begin(), or that of its desk) comes to it. While a page is turned,
@@ -1881,7 +1991,7 @@ class job {
     std::optional<session> begin() const {
         std::unique_lock<std::mutex> guard = open();
         for (;;) {
-            if (const std::uint32_t number = core_->next_of(job_)) return session::ask(core_, guard, job_, number, {}, false);
+            if (const std::uint32_t number = core_->next_of(job_)) return session::ask(core_, guard, job_, number, {}, nullptr);
             if (!core_->is_endless || core_->seats[job_].is_over) return std::nullopt;
             core_->doze(guard, std::nullopt);
         }
@@ -1891,7 +2001,7 @@ class job {
     std::optional<session> resumed() const {
         std::unique_lock<std::mutex> guard = open();
         const std::uint32_t number = core_->seats[job_].held;
-        return number ? std::optional(session::ask(core_, guard, job_, number, {}, false)) : std::nullopt;
+        return number ? std::optional(session::ask(core_, guard, job_, number, {}, nullptr)) : std::nullopt;
     }
 
     // The job gets no further session, and who waits in begin() gets none; not_now if it is in a session or has one left. (The close retires all.)
@@ -1962,7 +2072,7 @@ class bench {
             resumed_ = came.has_value();
         }
         lab_size size{};
-        lab_bench_size(&core_->handle, &size);
+        detail::done(lab_bench_size(&core_->handle, &size));
         for (std::uint32_t job = 0; job < size.jobs; job++) core_->jobs.push_back(name(lab_job_name, job));
         for (std::uint32_t at = 0; at < size.instruments; at++) core_->instruments.push_back(name(lab_instrument_name, at));
         for (std::uint32_t job = 0; job < size.jobs; job++) {
@@ -2085,6 +2195,7 @@ class bench {
         std::unique_lock<std::mutex> guard(core_->mutex);
         // (a bench that is to go on by its journal needs all its jobs)
         const bool goes_on = !core_->is_closed && core_->is_endless && core_->log && core_->busy();
+        if (!core_->is_closed) core_->lapse_all();
         if (!core_->is_closed && !goes_on) core_->retire_all();
         while (core_->log && !core_->log->is_written()) {
             const detail::journal::ticket ticket = core_->ticket();
@@ -2112,7 +2223,7 @@ class bench {
     template <class Call> std::string name(Call call, std::uint32_t at) {
         std::uint8_t bytes[16];
         std::size_t written = 0;
-        call(&core_->handle, at, bytes, sizeof bytes, &written);
+        detail::done(call(&core_->handle, at, bytes, sizeof bytes, &written));
         return std::string(bytes, bytes + written);
     }
 
@@ -2167,10 +2278,10 @@ inline report replay(std::string_view script) {
     return detail::told_text([=](auto... given) { return lab_replay(detail::bytes(script), script.size(), given...); });
 }
 inline std::string check(std::string_view script) {
-    return detail::told_text([=](auto... given) { return lab_check(detail::bytes(script), script.size(), given...); }).text;
+    return detail::plain_text([=](auto... given) { return lab_check(detail::bytes(script), script.size(), given...); });
 }
 inline std::string upgrade(std::string_view script) {
-    return detail::told_text([=](auto... given) { return lab_upgrade(detail::bytes(script), script.size(), given...); }).text;
+    return detail::plain_text([=](auto... given) { return lab_upgrade(detail::bytes(script), script.size(), given...); });
 }
 
 } // namespace labrun

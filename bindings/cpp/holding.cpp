@@ -295,6 +295,48 @@ static void choices() {
     expect("finished", closed(bench).finished);
 }
 
+// A limit on holding is kept for one that chooses, though nobody else waits; and no more is taken than it needs.
+static void limits_for_one_that_chooses() {
+    {
+        labrun::bench bench = bay();
+        labrun::session drive = bench.job("drive").hold({"load-1", "load-2"}, asking().limit(20ms));
+        {
+            const labrun::session host = bench.job("host").any_of(EITHER, asking().timeout(60s));
+            expect("in time", text(host.instruments()) == "load-1" && !drive.is_held());
+        }
+        expect("told", throws<labrun::taken_away>([&] { drive.finish(); }));
+        expect("taken", closed(bench).taken == std::vector<std::pair<std::string, std::uint32_t>>{{"drive", 2}});
+    }
+    const labrun::jobs three = {{"a", {"load-1"}}, {"b", {"load-2"}}, {"c", {"scope"}}, {"host", {"load-1", "load-2"}}};
+    {
+        // the one whose time was over first
+        labrun::bench bench = labrun::bench::create(three);
+        {
+            const auto limited = [&](const char *job, const char *instrument) { return bench.job(job).hold({instrument}, asking().limit(20ms)); };
+            const labrun::session c = limited("c", "scope"), b = limited("b", "load-2");
+            std::this_thread::sleep_for(20ms);
+            const labrun::session a = limited("a", "load-1");
+            std::this_thread::sleep_for(40ms);
+            same("the first", text(bench.job("host").any_of(EITHER, asking().timeout(60s)).instruments()), "load-2");
+            expect("one is taken", a.is_held() && !b.is_held() && c.is_held());
+        }
+        expect("one was taken", closed(bench).taken == std::vector<std::pair<std::string, std::uint32_t>>{{"b", 2}});
+    }
+    // it learns of a limit that comes later
+    labrun::bench bench =
+        labrun::bench::create({{"a", {"load-1"}}, {"b", {"load-1"}}, {"c", {"load-2"}}, {"host", {"load-1", "load-2"}}}, "", labrun::sync::data, UINT32_MAX);
+    auto a = std::make_unique<labrun::session>(bench.job("a").hold({"load-1"}));
+    const labrun::session c = bench.job("c").hold({"load-2"});
+    auto host = later([&] { return why([&] { bench.job("host").any_of(EITHER, asking().timeout(60s)); }); });
+    until([&] { return !bench.waits_for("host").empty(); });
+    auto b = later([&] { return bench.job("b").hold({"load-1"}, asking().limit(20ms)); });
+    until([&] { return !bench.waits_for("b").empty(); });
+    a.reset();
+    labrun::session hangs = b.get();
+    same("it comes to hold", host.get(), "");
+    expect("told", throws<labrun::taken_away>([&] { hangs.finish(); }));
+}
+
 static void waits_for_either() {
     for (const int frees : {0, 1}) {
         labrun::bench bench = labrun::bench::create({{"a", {"load-1"}}, {"b", {"load-2"}}, {"host", {"load-1", "load-2"}}});
@@ -357,6 +399,10 @@ static void of_a_text() {
         const labrun::page page = it.turn_page();
         expect("its page", page.report.text.find("guest 2 1/1 set 7 = 7\nguest 3 1/1 read = 7\n") != std::string::npos);
     }
+    // (one that is retired has its own session again)
+    it.desks()[1].begin()->finish();
+    it.job("guest").retire();
+    expect("a page", it.turn_page().report.finished && it.desks()[1].begin()->number() == 2);
     try {
         labrun::bench("bench 1\njob a\nuses x y z\njob a\n");
         expect("a fault", false);
@@ -582,8 +628,8 @@ static void load() {
 }
 
 int main() {
-    for (const auto &test : {hold, commands, may_not_use, behind_a_script, times, taken_away_and_late, waiting, choices, waits_for_either, created, of_a_text,
-                             sessions_go_on, room, pages, a_page_waits_for_who_holds, two_threads_at_a_job, threads_take_what_comes,
+    for (const auto &test : {hold, commands, may_not_use, behind_a_script, times, taken_away_and_late, waiting, choices, limits_for_one_that_chooses,
+                             waits_for_either, created, of_a_text, sessions_go_on, room, pages, a_page_waits_for_who_holds, two_threads_at_a_job, threads_take_what_comes,
                              load})
         test();
     std::cout << passed << " passed, " << failed << " failed\n";

@@ -9,6 +9,7 @@
 #include <random>
 #include <sstream>
 #include <sys/resource.h>
+#include <sys/stat.h>
 #include <sys/syscall.h>
 #include <thread>
 
@@ -24,6 +25,7 @@ static std::string path;
 // The calls that change files, in place of the system's: of those that are made from now on, the ones from the first to the last of these fail.
 static std::atomic<long> made{0}, first_bad{0}, last_bad{0};
 static std::function<void()> meanwhile; // what happens before one fails, or nothing
+static std::atomic<int> folders{0};     // how many folders were synced
 
 static void disk(long first, long last) {
     last_bad = 0;
@@ -49,7 +51,12 @@ ssize_t pwrite(int file, const void *text, std::size_t length, off_t place) {
 }
 int ftruncate(int file, off_t length) noexcept { return is_bad() ? -1 : static_cast<int>(syscall(SYS_ftruncate, file, length)); }
 int fdatasync(int file) { return is_bad() ? -1 : static_cast<int>(syscall(SYS_fdatasync, file)); }
-int fsync(int file) { return is_bad() ? -1 : static_cast<int>(syscall(SYS_fsync, file)); }
+int fsync(int file) {
+    if (is_bad()) return -1;
+    struct stat it {};
+    folders += !fstat(file, &it) && S_ISDIR(it.st_mode);
+    return static_cast<int>(syscall(SYS_fsync, file));
+}
 int rename(const char *from, const char *to) noexcept { return is_bad() ? -1 : renameat(AT_FDCWD, from, AT_FDCWD, to); }
 }
 
@@ -312,6 +319,92 @@ static void no_room() {
     finished(of);
 }
 
+// A session can't be taken away, because that can't be written: it is held as before, by its owner and nobody else, and for as long.
+static void a_taking_that_fails() {
+    begin();
+    {
+        bench of = opened();
+        const labrun::job guest = of.job("guest");
+        labrun::session held = guest.hold({"scope"});
+        std::this_thread::sleep_for(50ms);
+        limit(text().size() + 5);
+        expect("not taken", throws<labrun::journal_error>([&] { of.take_away("guest"); }));
+        limit(RLIM_INFINITY);
+        expect("held still", held.is_held());
+        expect("by nobody else", throws<labrun::not_now>([&] { guest.begin(); }) && throws<labrun::not_now>([&] { guest.resumed(); }));
+        try {
+            of.job("board").hold({"scope"}, asking().timeout(0s));
+            expect("board waits", false);
+        } catch (const labrun::timed_out &late) {
+            expect("for as long", late.keepers.at(0).job == "guest" && late.keepers[0].held_for >= 50ms);
+        }
+        expect("a command", held.command().has_value());
+        held.finish();
+        // (and once it is written, it is taken)
+        labrun::session second = guest.hold({"scope"});
+        expect("taken", of.take_away("guest") && throws<labrun::taken_away>([&] { second.finish(); }));
+        const labrun::report report = finished(of);
+        expect("once", report.taken == std::vector<std::pair<std::string, std::uint32_t>>{{"guest", 3}} && count(report.text, "\nguest ") == 2);
+    }
+    // of one that was given up in line and came to hold: it is still nobody's, and lets go as soon as somebody waits
+    begin();
+    const std::string one = "\nsession\nx read\nend\n";
+    bench of("lab 1\njob a" + one + "job b" + one + "job c" + one, path, labrun::sync::none, 0);
+    {
+        auto held = of.desks()[0].begin();
+        expect("b waits", throws<labrun::timed_out>([&] { of.desks()[1].begin(0ms); }));
+        expect("left", !of.desks()[1].give_up());
+    }
+    limit(text().size() + 5);
+    expect("not taken", throws<labrun::journal_error>([&] { of.take_away("b"); }));
+    limit(RLIM_INFINITY);
+    expect("it lets go", !throws<labrun::timed_out>([&] { of.desks()[2].begin(20s); }));
+    const labrun::report report = of.close();
+    expect("lapsed", report.finished && report.taken.empty() && report.lapsed == std::vector<std::pair<std::string, std::uint32_t>>{{"b", 1}});
+}
+
+// By how many a session may be passed stays what it is when a write has failed.
+static void as_often_after_a_write_that_failed() {
+    for (const std::uint32_t overtakes : {0u, 64u}) {
+        begin();
+        bench of = bench::create({{"board", {"scope", "supply"}}, {"guest", {"scope"}}, {"drive", {"supply"}}}, path, labrun::sync::none, overtakes);
+        auto guest = std::make_unique<labrun::session>(of.job("guest").hold({"scope"}));
+        limit(text().size() + 5);
+        expect("no hold", throws<labrun::journal_error>([&] { of.job("drive").hold({"supply"}); }));
+        limit(RLIM_INFINITY);
+        auto board = std::async(std::launch::async, [&] { of.job("board").hold({"scope", "supply"}); });
+        until([&] { return !of.waits_for("board").empty(); });
+        // (with 0 board stands in line, and keeps the supply)
+        expect("as often", throws<labrun::timed_out>([&] { of.job("drive").hold({"supply"}, asking().timeout(20ms)); }) == !overtakes);
+        guest.reset();
+        board.get();
+        expect("finished", of.close().finished);
+    }
+}
+
+// A journal is begun: its name is on the disk before the open returns. If any one call that changes a file fails, that is told, and whoever opens it then
+// sees to the name again, since it finds the file there.
+static void the_name_is_on_the_disk(labrun::sync how) {
+    const int wanted = how == labrun::sync::data;
+    long bad = 1;
+    for (bool is_through = false; !is_through; bad++) {
+        begin();
+        const auto opens = [&] {
+            folders = 0;
+            bench("lab 1\njob a\nsession\nx read\nend\n", path, how);
+        };
+        disk(bad, bad);
+        const bool is_told = throws<labrun::journal_error>(opens);
+        is_through = made < bad;
+        disk(0, 0);
+        expect("it is begun, or that is told", is_told == !is_through && folders == (is_through ? wanted : 0));
+        opens();
+        expect("its name", folders == wanted);
+    }
+    // (the file is cut, and written; then it is synced, and so is its folder)
+    expect("points of an open: " + std::to_string(bad - 2), bad - 2 == (how == labrun::sync::none ? 2 : 4));
+}
+
 // How many sessions are over by the journals of a bay.
 static int over(const std::string &of = path) {
     std::size_t all = count(text(of), "\nquit ");
@@ -516,6 +609,9 @@ int main(int, char **words) {
     path = std::string(words[1]) + "/bay.journal";
     std::signal(SIGXFSZ, SIG_IGN);
     for (const auto &test : {comes_back, cuts, pages, closed_while_one_holds, what_comes_meanwhile, no_room}) test();
+    a_taking_that_fails();
+    as_often_after_a_write_that_failed();
+    for (const auto how : {labrun::sync::none, labrun::sync::data}) the_name_is_on_the_disk(how);
     for (const auto how : {labrun::sync::none, labrun::sync::data})
         for (const bool is_one : {true, false}) turns_that_fail(how, is_one);
     waits_while_a_turn_fails();

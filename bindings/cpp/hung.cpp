@@ -1,5 +1,6 @@
 // Tests late thirst and stations that hang in labrun.hpp: c++ -std=c++17 -I include bindings/cpp/hung.cpp -L FOLDER -llabrun -pthread
 #include "labrun.hpp"
+#include <array>
 #include <atomic>
 #include <functional>
 #include <iostream>
@@ -234,6 +235,97 @@ static void left_outside() {
     expect("none lapsed", bench.close().lapsed.empty());
 }
 
+// A session timed out outside, and only after the one before it has let go it is given up. It doesn't come to hold by that: nothing is logged,
+// nobody holds, and the bench comes to its end. So with a third who waits meanwhile, or not.
+static void given_up_after_the_other_let_go() {
+    const std::string jobs[] = {radio, "job board\nsession patience 999999\nscope read\nend\n", other};
+    const std::pair<std::array<std::size_t, 3>, std::uint32_t> orders[] = {{{0, 1, 2}, 64}, {{1, 0, 2}, 64}, {{2, 1, 0}, 1}, {{0, 2, 1}, UINT32_MAX}};
+    for (const auto &[order, overtakes] : orders)
+        for (const bool has_third : {false, true}) {
+            labrun::bench bench = opened(overtakes, jobs[order[0]] + jobs[order[1]] + jobs[order[2]]);
+            const auto desk = [&, order = order](std::size_t job) -> labrun::desk & { return bench.desks()[order[0] == job ? 0 : order[1] == job ? 1 : 2]; };
+            auto held = desk(0).begin();
+            expect("board waits", throws<labrun::timed_out>([&] { desk(1).begin(20ms); }));
+            std::atomic<bool> is_given_up{false};
+            std::thread waits([&] {
+                if (!has_third) return;
+                auto session = desk(2).begin();
+                until([&] { return is_given_up.load(); });
+            });
+            until([&] { return !has_third || !bench.waits_for("other").empty(); });
+            held.reset();
+            expect("withdrawn", desk(1).give_up() && bench.waits_for("board").empty());
+            is_given_up = true;
+            waits.join();
+            if (!has_third) expect("other", desk(2).begin(300s).has_value());
+            expect("radio", desk(0).begin(300s).has_value());
+            expect("none left", !desk(1).begin());
+            const labrun::report report = bench.close();
+            expect("finished", report.finished && report.lapsed.empty() && report.text.find("withdrawn 1") != std::string::npos);
+            expect("nothing is logged", report.text.find("\nboard 1 ") == std::string::npos && report.text.find("instrument scope 3\n") != std::string::npos);
+        }
+    // without a patience it is as if it had never asked
+    labrun::bench bench = opened(labrun::OVERTAKES, radio + board + drive);
+    auto held = bench.desks()[0].begin();
+    expect("board waits", throws<labrun::timed_out>([&] { bench.desks()[1].begin(20ms); }));
+    held.reset();
+    expect("not withdrawn", !bench.desks()[1].give_up() && bench.waits_for("board").empty());
+    expect("others", bench.desks()[2].begin(300s) && bench.desks()[2].begin(300s) && bench.desks()[0].begin(300s));
+    expect("it comes again", bench.desks()[1].begin(300s)->number() == 1);
+    const labrun::report report = bench.close();
+    expect("finished", report.finished && report.lapsed.empty());
+}
+
+// Time-outs come at about the moment at which the other lets go: each session is held by its owner, or logs nothing.
+static void given_up_at_that_moment() {
+    std::string sessions;
+    for (int number = 0; number < 200; number++) sessions += "session patience 999999\nscope read\nend\n";
+    for (const std::uint32_t overtakes : {0u, 64u}) {
+        labrun::bench bench = opened(overtakes, "job a\n" + sessions + "job b\n" + sessions);
+        std::size_t held = 0, logged = 0;
+        std::thread one([&] {
+            std::mt19937 chance(1);
+            for (;;) try {
+                    if (!bench.desks()[1].begin(std::chrono::milliseconds(chance() % 2))) return;
+                    held++;
+                } catch (const labrun::timed_out &) {
+                    std::this_thread::sleep_for(std::chrono::microseconds(chance() % 100));
+                    bench.desks()[1].give_up();
+                }
+        });
+        std::mt19937 chance(2);
+        while (auto session = bench.desks()[0].begin()) {
+            std::this_thread::sleep_for(std::chrono::microseconds(chance() % 1500));
+            session.reset();
+            std::this_thread::sleep_for(std::chrono::microseconds(chance() % 300));
+        }
+        one.join();
+        const labrun::report report = bench.close();
+        for (std::size_t at = report.text.find("\nb "); at != std::string::npos; at = report.text.find("\nb ", at + 1)) logged++;
+        // (one in line may have come to hold before it is given up, and lapses)
+        expect("each is held, or logs nothing", logged == held + report.lapsed.size() && report.finished);
+        expect("none lapsed", !overtakes || report.lapsed.empty());
+    }
+}
+
+// In line, too, nothing is held for nobody: one that came to hold before it is given up lets go at once, and one that came to hold after it when the
+// bench is closed.
+static void given_up_in_line() {
+    for (const std::string patience : {"", " patience 999999"})
+        for (const bool is_first : {false, true}) {
+            labrun::bench bench = opened(0, "job radio\nsession\nscope read\nend\njob board\nsession" + patience + "\nscope read\nend\n");
+            auto held = bench.desks()[0].begin();
+            expect("board waits", throws<labrun::timed_out>([&] { bench.desks()[1].begin(0ms); }));
+            if (is_first) held.reset();
+            const bool is_withdrawn = bench.desks()[1].give_up();
+            expect("withdrawn, or not", is_withdrawn == (!patience.empty() && !is_first));
+            held.reset();
+            const labrun::report report = bench.close();
+            expect("finished", report.finished);
+            expect("lapsed", report.lapsed.size() == (is_withdrawn ? 0u : 1u));
+        }
+}
+
 static void with_a_journal(const std::string &path) {
     const std::string script = "lab 2\n" + radio + board + drive;
     std::remove(path.c_str());
@@ -338,6 +430,9 @@ int main(int, char **words) {
     a_limit_comes_later();
     patience_in_seconds();
     left_outside();
+    given_up_after_the_other_let_go();
+    given_up_at_that_moment();
+    given_up_in_line();
     with_a_journal(std::string(words[1]) + "/hung.journal");
     all_at_once(std::string(words[1]) + "/all.journal");
     std::cout << passed << " passed, " << failed << " failed\n";

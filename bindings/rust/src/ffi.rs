@@ -95,7 +95,29 @@ pub struct Planned {
     pub number: u32,
 }
 
-extern "C" {
+/// The calls. In this crate's own tests each answers what these say instead, if they do.
+macro_rules! calls {
+    ($(pub fn $call:ident($($name:ident: $kind:ty),*) -> u32;)*) => {
+        #[cfg(not(test))]
+        extern "C" {
+            $(pub fn $call($($name: $kind),*) -> u32;)*
+        }
+        #[cfg(test)]
+        mod library {
+            use super::*;
+            extern "C" {
+                $(pub fn $call($($name: $kind),*) -> u32;)*
+            }
+        }
+        $(#[cfg(test)]
+        pub unsafe fn $call($($name: $kind),*) -> u32 {
+            // SAFETY: it is given what the library's call is given, and gives it on.
+            crate::tests::instead(stringify!($call)).unwrap_or_else(|| unsafe { library::$call($($name),*) })
+        })*
+    };
+}
+
+calls! {
     pub fn lab_rounds(script: *const u8, length: usize, limit: u32, report: *mut u8, room: usize, told: *mut Told) -> u32;
     pub fn lab_replay(script: *const u8, length: usize, report: *mut u8, room: usize, told: *mut Told) -> u32;
     pub fn lab_check(script: *const u8, length: usize, report: *mut u8, room: usize, told: *mut Told) -> u32;

@@ -1,11 +1,14 @@
 //! Sessions that come while the bench is open: each is added behind its job's others at the moment that it asks.
 use crate::journal::CameBy;
-use crate::{fault, ffi, members, Bench, Core, Error, Inner, Keeper, Session, Times, HOLDS, IS_RETIRED, JOURNAL_FULL, REFUSED, THIRSTY};
+use crate::{
+    done, fault, ffi, is_done, members, Bench, Core, Error, Inner, Keeper, Session, Times, HOLDS, IS_RETIRED, JOURNAL_FULL, NOT_NOW,
+    REFUSED, THIRSTY, TICK,
+};
 use std::sync::{Arc, MutexGuard};
 use std::time::{Duration, Instant};
 
-/// As a patience in turns: the largest that a script may have, which nobody counts to.
-const FOREVER: u32 = 999_999;
+/// As a patience in turns: the largest that a script may have. (In this crate's own tests so few that they come to it.)
+pub(crate) const FOREVER: u32 = if cfg!(test) { 9 } else { 999_999 };
 /// The largest number of a command, and the cause S10, that a limit is passed.
 const LARGEST: u32 = 999_999;
 const LIMIT_PASSED: u32 = 10;
@@ -137,7 +140,7 @@ impl Job {
         let mut core = inner.open()?;
         loop {
             if let Some(number) = inner.next_of(&mut core, job)? {
-                return inner.ask(core, job, number, &Times::default(), false).map(Some);
+                return inner.ask(core, job, number, &Times::default(), None).map(Some);
             }
             if !core.endless || core.seats[job as usize].over {
                 return Ok(None);
@@ -151,7 +154,7 @@ impl Job {
         let core = self.inner.open()?;
         match core.seats[self.job as usize].held {
             0 => Ok(None),
-            number => self.inner.ask(core, self.job, number, &Times::default(), false).map(Some),
+            number => self.inner.ask(core, self.job, number, &Times::default(), None).map(Some),
         }
     }
 
@@ -240,7 +243,7 @@ impl Hold {
         if self.patience.is_some() {
             core.seats[job as usize].asked = Some(begun);
         }
-        inner.ask(core, job, number, &Times { until, patience: self.patience, limit: self.limit }, true)
+        inner.ask(core, job, number, &Times { until, patience: self.patience, limit: self.limit }, Some(kind))
     }
 
     /// Adds the session behind the job's others, as [`Job::add`]. (Its times are those of whoever takes it.)
@@ -310,18 +313,28 @@ impl Hold {
 
 impl Core {
     /// The instruments that aren't free: those of jobs that are in line, or hold. (One that was left and holds lets go as soon as somebody waits.)
-    fn used(&mut self) -> u64 {
+    fn used(&mut self) -> Result<u64, Error> {
         let mut used = 0;
         for job in 0..self.seats.len() {
-            if self.is_in_use(job as u32) {
+            if self.is_in_use(job as u32)? {
                 used |= self.seats[job].needs();
             }
         }
-        used
+        Ok(used)
     }
 
-    fn is_in_use(&mut self, job: u32) -> bool {
-        self.seats[job as usize].now != 0 && !self.is_outside(job) && !self.is_left(job)
+    fn is_in_use(&mut self, job: u32) -> Result<bool, Error> {
+        Ok(self.seats[job as usize].now != 0 && !self.is_outside(job)? && !self.is_left(job)?)
+    }
+
+    /// Whether one that waits until one of several sessions is free, of which none is, needs one of these instruments of a job.
+    pub(crate) fn is_chosen(&mut self, job: u32, those: u64) -> Result<bool, Error> {
+        if self.choosers.is_empty() {
+            return Ok(false);
+        }
+        let used = self.used()?;
+        let wants = |it: &Chooser| it.needs.iter().all(|it| it & used != 0) && it.needs.iter().any(|it| it & those != 0);
+        Ok(self.choosers.iter().any(|it| it.job != job && wants(it)))
     }
 
     /// Whether this session came by `hold`.
@@ -330,8 +343,12 @@ impl Core {
     }
 
     /// Whether a job holds for nobody, because its session was given up.
-    pub(crate) fn is_left(&mut self, job: u32) -> bool {
-        self.left >> job & 1 == 1 && HOLDS.contains(&self.state(job).drinking)
+    pub(crate) fn is_left(&mut self, job: u32) -> Result<bool, Error> {
+        Ok(self.left >> job & 1 == 1 && self.does_hold(job)?)
+    }
+
+    pub(crate) fn does_hold(&mut self, job: u32) -> Result<bool, Error> {
+        Ok(HOLDS.contains(&self.state(job)?.drinking))
     }
 }
 
@@ -365,7 +382,7 @@ impl Inner {
     /// A job has no session to begin, and is in none, but for one that was left and is over now; else this says why another can't come.
     pub(crate) fn comes_next(&self, core: &mut Core, job: u32) -> Result<(), Error> {
         self.next_of(core, job)?;
-        if core.seats[job as usize].now != 0 && core.is_left(job) {
+        if core.seats[job as usize].now != 0 && core.is_left(job)? {
             self.lapse(core, job)?;
             self.settle(core)?;
         }
@@ -395,56 +412,70 @@ impl Inner {
         let needs: Vec<u64> = kinds.iter().map(|it| it.needs).collect();
         core.choosers.push(Chooser { job, passed: vec![0; needs.len()], needs });
         let chosen = loop {
-            if let Err(fault) = self.comes_next(&mut core, job) {
-                break Err(fault);
+            match self.comes_next(&mut core, job).and_then(|()| self.choice(&mut core, job)) {
+                Ok(None) => {}
+                Ok(Some(at)) => break Ok(at),
+                Err(fault) => break Err(fault),
             }
-            if let Some(at) = self.choice(&mut core, job) {
-                break Ok(at);
+            match self.take_overdue(&mut core) {
+                Ok(false) => {}
+                Ok(true) => continue,
+                Err(fault) => break Err(fault),
             }
             let now = Instant::now();
             if gives_up.is_some_and(|it| now >= it) {
                 break Err(Error::Withdrawn);
             }
             if until.is_some_and(|it| now >= it) {
-                break Err(Error::TimedOut(self.chooser_keepers(&mut core, job)));
+                break self.chooser_keepers(&mut core, job).and_then(|it| Err(Error::TimedOut(it)));
             }
+            // (what nobody waits for is not taken away: it is looked at again later)
+            let limit = core.limit_ends().map(|it| if it <= now { now + TICK } else { it });
             // (if it is closed, nobody is chosen for any more)
-            core = self.doze(core, [until, gives_up].into_iter().flatten().min())?;
+            core = self.doze(core, [until, gives_up, limit].into_iter().flatten().min())?;
         };
         core.choosers.retain(|it| it.job != job);
         chosen.map(|at| (core, &kinds[at]))
     }
 
-    fn choice(&self, core: &mut Core, job: u32) -> Option<usize> {
+    fn choice(&self, core: &mut Core, job: u32) -> Result<Option<usize>, Error> {
         if core.turning {
-            return None;
+            return Ok(None);
         }
-        let used = core.used();
-        let me = core.choosers.iter().find(|it| it.job == job)?;
+        let used = core.used()?;
+        let Some(me) = core.choosers.iter().find(|it| it.job == job) else { return Ok(None) };
         if me.needs.len() == 1 {
-            return Some(0);
+            return Ok(Some(0));
         }
         let free = me.needs.iter().position(|it| it & used == 0);
-        let most = *me.passed.iter().max()?;
-        free.or_else(|| me.passed.iter().position(|it| *it == most).filter(|_| most >= core.overtakes))
+        let most = me.passed.iter().copied().max().unwrap_or(0);
+        Ok(free.or_else(|| me.passed.iter().position(|it| *it == most).filter(|_| most >= core.overtakes)))
     }
 
     /// Who keeps the choices of a job that waits for one of several from it.
-    pub(crate) fn chooser_keepers(&self, core: &mut Core, job: u32) -> Vec<Keeper> {
+    pub(crate) fn chooser_keepers(&self, core: &mut Core, job: u32) -> Result<Vec<Keeper>, Error> {
         let me = core.choosers.iter().find(|it| it.job == job && !core.turning);
         let mine = me.map_or(0, |it| it.needs.iter().fold(0, |all, it| all | it));
         let mut found = Vec::new();
         for at in (0..self.instruments.len()).filter(|at| mine >> at & 1 == 1) {
-            let mut users: Vec<u32> = (0..core.seats.len() as u32).filter(|it| core.seats[*it as usize].needs() >> at & 1 == 1).collect();
-            users.retain(|it| core.is_in_use(*it));
-            let holders: Vec<u32> = users.iter().copied().filter(|it| HOLDS.contains(&core.state(*it).drinking)).collect();
+            let (mut users, mut holders) = (Vec::new(), Vec::new());
+            for other in 0..core.seats.len() as u32 {
+                if core.seats[other as usize].needs() >> at & 1 == 1 && core.is_in_use(other)? {
+                    users.push(other);
+                    if core.does_hold(other)? {
+                        holders.push(other);
+                    }
+                }
+            }
             if holders.is_empty() {
-                found.extend(users.into_iter().map(|it| self.earlier(core, at, it, 1 << job, None)));
+                for other in users {
+                    found.push(self.earlier(core, at, other, 1 << job, None)?);
+                }
             } else {
                 found.extend(holders.into_iter().map(|it| self.holder(core, at, it)));
             }
         }
-        found
+        Ok(found)
     }
 
     /// Adds a session behind the job's others; its number.
@@ -474,7 +505,7 @@ impl Inner {
             status => return Err(fault(status, &told)),
         }
         let number = core.seats[job as usize].sessions.len() as u32 + 1;
-        let what = core.session_of(job, number);
+        let what = core.session_of(job, number)?;
         core.seats[job as usize].sessions.push(what);
         if self.log.is_some() {
             core.by_hold.insert((job, number), by_hold);
@@ -484,13 +515,28 @@ impl Inner {
         Ok(number)
     }
 
+    /// A session of `hold` for which somebody waits was given up, because others had as many turns as a patience may be: it comes anew, by
+    /// another number. Whether it does; no if the page has no room for it, or the job got others meanwhile, which come first.
+    pub(crate) fn comes_anew(&self, core: &mut Core, job: u32) -> Result<bool, Error> {
+        let (waits, seat) = (core.waiting >> job & 1 == 1, &core.seats[job as usize]);
+        let Some(kind) = seat.anew.clone().filter(|_| waits && seat.last as usize == seat.sessions.len()) else { return Ok(false) };
+        let number = match self.append(core, job, &kind, true) {
+            Ok(number) => number,
+            Err(Error::Full(_) | Error::Retired(_)) => return Ok(false),
+            Err(fault) => return Err(fault),
+        };
+        let seat = &mut core.seats[job as usize];
+        (seat.now, seat.last, seat.asks_for) = (number, number, number);
+        Ok(true)
+    }
+
     /// A session of `hold` that didn't come to hold is over. Whether it holds after all, where a write failed and the file has that.
     /// (After such a write another thread may have asked for a session of the same number.)
     pub(crate) fn pass(&self, core: &mut Core, job: u32, number: u32, ask: u64) -> Result<bool, Error> {
         if core.closed || !core.seats[job as usize].is_in(number, ask) {
             return Ok(false);
         }
-        if HOLDS.contains(&core.state(job).drinking) {
+        if core.does_hold(job)? {
             (core.seats[job as usize].held, core.seats[job as usize].had) = (0, true);
             return Ok(true);
         }
@@ -502,13 +548,13 @@ impl Inner {
     fn skip(&self, core: &mut Core, job: u32) -> Result<(), Error> {
         let number = core.seats[job as usize].last + 1;
         // (one turn, but for a meal that ends first)
-        while core.state(job).session < number {
+        while core.state(job)?.session < number {
             let mut turned = ffi::Turned::default();
             // SAFETY: the handle is open, and the mutex is held; so below.
-            unsafe { ffi::lab_turn(&mut core.handle, job, &mut turned) };
+            done(unsafe { ffi::lab_turn(&mut core.handle, job, &mut turned) })?;
             self.told(core)?;
         }
-        unsafe { ffi::lab_withdraw(&mut core.handle, job) };
+        done(unsafe { ffi::lab_withdraw(&mut core.handle, job) })?;
         core.seats[job as usize].last = number;
         self.told(core)?;
         self.settle(core)
@@ -528,10 +574,10 @@ impl Inner {
     /// After that, or after a write that failed, sessions of `hold` that don't hold are over: nobody was told of them, and nobody comes for them.
     pub(crate) fn give_up_unheld(&self, core: &mut Core) -> Result<(), Error> {
         for job in 0..self.jobs.len() as u32 {
-            let state = core.state(job);
+            let state = core.state(job)?;
             if state.drinking == THIRSTY && core.is_by_hold(job, state.session) {
                 // SAFETY: the handle is open, and the mutex is held.
-                unsafe { ffi::lab_withdraw(&mut core.handle, job) };
+                done(unsafe { ffi::lab_withdraw(&mut core.handle, job) })?;
                 core.seats[job as usize].leaves();
                 self.told(core)?;
             }
@@ -552,12 +598,12 @@ impl Inner {
     /// A job has no session left: it retires, unless it owes a meal still. Whether it did.
     pub(crate) fn retire(&self, core: &mut Core, job: u32) -> Result<bool, Error> {
         let seat = &core.seats[job as usize];
-        if seat.now != 0 || (seat.last as usize) < seat.sessions.len() || core.state(job).drinking == crate::RETIRED {
+        if seat.now != 0 || (seat.last as usize) < seat.sessions.len() || core.state(job)?.drinking == crate::RETIRED {
             return Ok(false);
         }
         let mut turned = ffi::Turned::default();
         // SAFETY: the handle is open, and the mutex is held.
-        let retired = unsafe { ffi::lab_retire(&mut core.handle, job, 1, &mut turned) } == 0;
+        let retired = is_done(unsafe { ffi::lab_retire(&mut core.handle, job, 1, &mut turned) }, &[NOT_NOW])?;
         self.told(core)?;
         Ok(retired)
     }

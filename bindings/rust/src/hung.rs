@@ -1,5 +1,5 @@
 //! Sessions that hold for too long: by a limit of their own, or by somebody's word, they are taken away.
-use crate::{ffi, members, Bench, Core, Error, Inner, Keeper, HOLDS};
+use crate::{done, ffi, Bench, Core, Error, Inner, Keeper, Was};
 use std::time::Instant;
 
 impl Core {
@@ -8,17 +8,20 @@ impl Core {
         self.seats.iter().filter_map(|it| it.since?.checked_add(it.limit?)).min()
     }
 
-    /// Whether somebody else asked for an instrument of the session that a job is in.
-    fn is_wanted(&self, job: u32) -> bool {
+    /// Whether somebody else asked for an instrument of the session that a job is in, or needs it as one of several that aren't free.
+    fn is_wanted(&mut self, job: u32) -> Result<bool, Error> {
         let mine = self.seats[job as usize].needs();
-        self.seats.iter().enumerate().any(|(other, it)| other as u32 != job && it.needs() & mine != 0)
+        let is_asked = self.seats.iter().enumerate().any(|(other, it)| other as u32 != job && it.needs() & mine != 0);
+        Ok(is_asked || self.is_chosen(job, mine)?)
     }
 
-    /// The jobs that have held for too long.
-    fn overdue(&self) -> u32 {
+    /// The jobs that have held for too long; first the one whose time was over first.
+    fn overdue(&self) -> Vec<u32> {
         let now = Instant::now();
-        let is_over = |it: &crate::Seat| it.since.zip(it.limit).is_some_and(|(since, limit)| now.duration_since(since) >= limit);
-        self.seats.iter().enumerate().fold(0, |all, (job, it)| if is_over(it) { all | 1 << job } else { all })
+        let ends = |it: &crate::Seat| it.since?.checked_add(it.limit?).filter(|it| now >= *it);
+        let mut those: Vec<_> = self.seats.iter().enumerate().filter_map(|(job, it)| Some((ends(it)?, job as u32))).collect();
+        those.sort();
+        those.into_iter().map(|(_, job)| job).collect()
     }
 }
 
@@ -27,8 +30,9 @@ impl Inner {
     fn take(&self, core: &mut Core, job: u32) -> Result<(), Error> {
         let mut turned = ffi::Turned::default();
         // SAFETY: the handle is open, and the mutex is held.
-        unsafe { ffi::lab_end(&mut core.handle, job, &mut turned) };
+        done(unsafe { ffi::lab_end(&mut core.handle, job, &mut turned) })?;
         let seat = &mut core.seats[job as usize];
+        seat.was = Was { had: seat.had, since: seat.since, left: core.left >> job & 1 == 1 };
         let number = seat.leaves();
         seat.taken = number;
         core.left &= !(1 << job);
@@ -36,19 +40,20 @@ impl Inner {
         self.told(core)
     }
 
-    /// Takes away what has been held for too long, if somebody waits for an instrument of it.
-    pub(crate) fn take_overdue(&self, core: &mut Core) -> Result<(), Error> {
-        let overdue = core.overdue();
-        if overdue == 0 {
-            return Ok(());
+    /// Takes away what has been held for too long, if somebody waits for an instrument of it; whether anything was.
+    pub(crate) fn take_overdue(&self, core: &mut Core) -> Result<bool, Error> {
+        let mut is_any = false;
+        // (one after another: who waits for one of several needs no more than that)
+        for job in core.overdue() {
+            if core.is_wanted(job)? {
+                self.take(core, job)?;
+                is_any = true;
+            }
         }
-        let taken = members(overdue).filter(|job| core.is_wanted(*job)).fold(0, |all, job| all | 1 << job);
-        members(taken).try_for_each(|job| self.take(core, job))?;
-        if taken != 0 {
-            self.settle(core)
-        } else {
-            Ok(())
+        if is_any {
+            self.settle(core)?;
         }
+        Ok(is_any)
     }
 
     pub(crate) fn number_of(&self, job: &str) -> Result<u32, Error> {
@@ -75,7 +80,7 @@ impl Bench {
         let inner = &*self.inner;
         let job = inner.number_of(job)?;
         let mut core = inner.open()?;
-        if !HOLDS.contains(&core.state(job).drinking) {
+        if !core.does_hold(job)? {
             return Ok(false);
         }
         inner.take(&mut core, job)?;
@@ -96,6 +101,10 @@ impl Bench {
         let job = self.inner.number_of(job)?;
         let mut core = self.inner.open()?;
         let asked = core.seats[job as usize].now != 0;
-        Ok(if asked { self.inner.keepers(&mut core, job) } else { self.inner.chooser_keepers(&mut core, job) })
+        if asked {
+            self.inner.keepers(&mut core, job)
+        } else {
+            self.inner.chooser_keepers(&mut core, job)
+        }
     }
 }

@@ -2,7 +2,7 @@
 //!
 //! What a call did is added with the bench's mutex held, so in the order of the calls. It is written without that mutex, by whoever comes
 //! first, with all that others have added by then; they find it written. A write that fails leaves the bench as the file has it.
-use crate::{fault, ffi, Error, FORKS, NO_ROOM, REFUSED};
+use crate::{done, fault, ffi, Error, FORKS, NO_ROOM, REFUSED};
 use std::collections::HashMap;
 use std::fs::{File, OpenOptions};
 use std::io;
@@ -139,8 +139,9 @@ impl Journal {
         }
         let mut written = self.lock();
         let text = std::mem::take(&mut written.added);
+        // (the file may be there though its name isn't on the disk: whoever began it died before, or synced nothing)
         self.write(written.stands.1, &text, true, 0)
-            .and_then(|()| if self.syncs && !is_there { self.sync_folder() } else { Ok(()) })
+            .and_then(|()| if self.syncs { self.sync_folder() } else { Ok(()) })
             .map_err(|why| self.fault(&format!("a write failed: {why}"), 0))?;
         written.stands.1 += text.len() as u64;
         written.torn = false;
@@ -314,8 +315,9 @@ impl Journal {
         let mut back = ffi::Handle { at: std::ptr::null_mut(), live: 0 };
         self.resume(&self.text(length)?, &mut back)?;
         // SAFETY: nobody else has the handle.
-        unsafe { ffi::lab_bench_free(handle) };
+        let freed = done(unsafe { ffi::lab_bench_free(handle) });
         (handle.at, handle.live) = (back.at, back.live);
+        freed?;
         let mut written = self.lock();
         written.ends.push(length);
         written.stands.0 += 1;

@@ -1,5 +1,5 @@
 //! Who keeps a session waiting, up to who holds, and since when.
-use crate::{ffi, members, Core, Inner};
+use crate::{done, ffi, members, Core, Error, Inner};
 use std::fmt;
 use std::time::Duration;
 
@@ -73,17 +73,17 @@ impl fmt::Display for Keeper {
 
 impl Inner {
     /// What keeps each instrument that a job lacks: its number, the jobs that keep it, and those of them that hold it.
-    fn kept(&self, core: &mut Core, job: u32) -> Vec<(usize, ffi::Keepers)> {
+    fn kept(&self, core: &mut Core, job: u32) -> Result<Vec<(usize, ffi::Keepers)>, Error> {
         let mut found = Vec::new();
         for at in 0..self.instruments.len() {
             let mut kept = ffi::Keepers::default();
             // SAFETY: the handle is open, and the mutex is held.
-            unsafe { ffi::lab_keepers(&mut core.handle, job, at as u32, &mut kept) };
+            done(unsafe { ffi::lab_keepers(&mut core.handle, job, at as u32, &mut kept) })?;
             if kept.jobs != 0 {
                 found.push((at, kept));
             }
         }
-        found
+        Ok(found)
     }
 
     /// A keeper that holds.
@@ -94,38 +94,40 @@ impl Inner {
     }
 
     /// One that waits itself; `seen` are those who don't wait for it.
-    pub(crate) fn earlier(&self, core: &mut Core, at: usize, job: u32, seen: u32, passed: Option<u32>) -> Keeper {
+    pub(crate) fn earlier(&self, core: &mut Core, at: usize, job: u32, seen: u32, passed: Option<u32>) -> Result<Keeper, Error> {
         let passed = passed.filter(|_| !core.seats[job as usize].is_old);
-        let behind = self.behind(core, job, seen).map(Box::new);
+        let behind = self.behind(core, job, seen)?.map(Box::new);
         let (instrument, job) = (self.instruments[at].clone(), self.jobs[job as usize].clone());
-        Keeper { instrument, job, holds: false, held_for: None, passed, behind }
+        Ok(Keeper { instrument, job, holds: false, held_for: None, passed, behind })
     }
 
     /// Who keeps an instrument from a job: who holds it, or, where nobody does, who comes first, and why that one waits. Those come first
     /// whose chain ends at who has held longest.
-    pub(crate) fn keepers(&self, core: &mut Core, job: u32) -> Vec<Keeper> {
+    pub(crate) fn keepers(&self, core: &mut Core, job: u32) -> Result<Vec<Keeper>, Error> {
         let mut found = Vec::new();
         // (who is in line and doesn't hold, was let in because it had been passed as often as may be)
-        let passed = core.is_outside(job).then_some(core.overtakes);
-        for (at, kept) in self.kept(core, job) {
+        let passed = core.is_outside(job)?.then_some(core.overtakes);
+        for (at, kept) in self.kept(core, job)? {
             for other in members(if kept.holding != 0 { kept.holding } else { kept.jobs }) {
                 found.push(match kept.holding {
-                    0 => self.earlier(core, at, other, kept.jobs | 1 << job, passed),
+                    0 => self.earlier(core, at, other, kept.jobs | 1 << job, passed)?,
                     _ => self.holder(core, at, other),
                 });
             }
         }
         found.sort_by_key(|it| std::cmp::Reverse(it.end().held_for));
-        found
+        Ok(found)
     }
 
     /// The keeper that a job waits for, with those behind it: one chain of perhaps several, to a holder.
-    fn behind(&self, core: &mut Core, job: u32, seen: u32) -> Option<Keeper> {
-        let (seen, kept) = (seen | 1 << job, self.kept(core, job));
+    fn behind(&self, core: &mut Core, job: u32, seen: u32) -> Result<Option<Keeper>, Error> {
+        let (seen, kept) = (seen | 1 << job, self.kept(core, job)?);
         if let Some((at, it)) = kept.iter().find(|(_, it)| it.holding != 0) {
-            return Some(self.holder(core, *at, it.holding.trailing_zeros()));
+            return Ok(Some(self.holder(core, *at, it.holding.trailing_zeros())));
         }
-        let (at, other) = kept.iter().find_map(|(at, it)| members(it.jobs & !seen).next().map(|other| (*at, other)))?;
-        Some(self.earlier(core, at, other, seen, None))
+        match kept.iter().find_map(|(at, it)| members(it.jobs & !seen).next().map(|other| (*at, other))) {
+            Some((at, other)) => self.earlier(core, at, other, seen, None).map(Some),
+            None => Ok(None),
+        }
     }
 }

@@ -32,6 +32,8 @@ mod journal;
 mod keepers;
 mod options;
 mod pages;
+#[cfg(test)]
+mod tests;
 
 pub use holding::{Hold, Job, Verb};
 pub use journal::SyncTo;
@@ -54,6 +56,7 @@ const TOO_LONG: u32 = 4;
 const NO_MEMORY: u32 = 5;
 const NO_ROOM: u32 = 6;
 const NOT_NOW: u32 = 8;
+const SESSIONS_LEFT: u32 = 10;
 const JOURNAL_FULL: u32 = 12;
 const IS_RETIRED: u32 = 14;
 
@@ -202,8 +205,8 @@ pub struct Report {
     pub finished: bool,
     /// The report as `labrun` prints it.
     pub text: String,
-    /// The sessions, by job and number, that were given up without a patience and whose turn came: their commands are in the logs, and
-    /// nobody did their work.
+    /// The sessions, by job and number, that were given up and whose turn came, or had come: their commands are in the logs, and nobody did
+    /// their work.
     pub lapsed: Vec<(String, u32)>,
     /// The sessions, by job and number, that were taken away from their owners: their commands are in the logs, and their work may not be done.
     pub taken: Vec<(String, u32)>,
@@ -231,6 +234,20 @@ fn fault(status: u32, told: &ffi::Told) -> Error {
     }
 }
 
+/// What a call answered that has nothing to say but that it is done.
+fn done(status: u32) -> Result<(), Error> {
+    is_done(status, &[]).map(drop)
+}
+
+/// Whether a call did what it was asked for; no by these statuses, and by no other.
+fn is_done(status: u32, not: &[u32]) -> Result<bool, Error> {
+    match status {
+        0 => Ok(true),
+        status if not.contains(&status) => Ok(false),
+        status => Err(Error::Status(status)),
+    }
+}
+
 /// Calls with ever more room, until the text fits.
 fn told_bytes(mut call: impl FnMut(*mut u8, usize, *mut ffi::Told) -> u32) -> Result<(u32, Vec<u8>), Error> {
     let mut text = vec![0; 16384];
@@ -249,6 +266,11 @@ fn told_bytes(mut call: impl FnMut(*mut u8, usize, *mut ffi::Told) -> u32) -> Re
 
 fn told_text(call: impl FnMut(*mut u8, usize, *mut ffi::Told) -> u32) -> Result<(u32, String), Error> {
     told_bytes(call).map(|(status, text)| (status, String::from_utf8_lossy(&text).into_owned()))
+}
+
+/// The text of a call that ends no run.
+fn plain_text(call: impl FnMut(*mut u8, usize, *mut ffi::Told) -> u32) -> Result<String, Error> {
+    told_text(call).and_then(|(status, text)| done(status).map(|()| text))
 }
 
 /// Runs a script on one thread, at most `limit` rounds, as `labrun rounds LIMIT`.
@@ -276,13 +298,13 @@ pub fn replay(script: &[u8]) -> Result<Report, Error> {
 /// ```
 pub fn check(script: &[u8]) -> Result<String, Error> {
     // SAFETY: as in `run`.
-    told_text(|text, room, told| unsafe { ffi::lab_check(script.as_ptr(), script.len(), text, room, told) }).map(|(_, text)| text)
+    plain_text(|text, room, told| unsafe { ffi::lab_check(script.as_ptr(), script.len(), text, room, told) })
 }
 
 /// The script in version 2, as `labrun upgrade`.
 pub fn upgrade(script: &[u8]) -> Result<String, Error> {
     // SAFETY: as in `run`.
-    told_text(|text, room, told| unsafe { ffi::lab_upgrade(script.as_ptr(), script.len(), text, room, told) }).map(|(_, text)| text)
+    plain_text(|text, room, told| unsafe { ffi::lab_upgrade(script.as_ptr(), script.len(), text, room, told) })
 }
 
 /// What became of who asked.
@@ -300,8 +322,9 @@ struct Seat {
     /// The session that it is in, which waits or holds, or 0; and the one that it is in or was in last.
     now: u32,
     last: u32,
-    /// The number of the last ask for a session of the job: that ask is the seat's.
+    /// The number of the last ask for a session of the job: that ask is the seat's. And which session it is of.
     ask: u64,
+    asks_for: u32,
     /// Whether somebody has the session that it is in, and holds.
     had: bool,
     /// A session that held before it was asked for, by a journal, and how many of its commands are done.
@@ -316,10 +339,21 @@ struct Seat {
     limit: Option<Duration>,
     /// Whether it comes from a journal: then it was in line.
     is_old: bool,
-    /// A session that was taken away, of which its owner doesn't know yet, or 0.
+    /// A session that was taken away, of which its owner doesn't know yet, or 0; and what it was before.
     taken: u32,
+    was: Was,
+    /// One of `hold`, as long as somebody asks for it: it comes anew if it was given up because others had so many turns.
+    anew: Option<holding::Kind>,
     /// Whether its owner said that it gets no further session.
     over: bool,
+}
+
+/// Of a session that was taken away: whether somebody had it, since when it had held, and whether it had been given up.
+#[derive(Clone, Copy, Default)]
+struct Was {
+    had: bool,
+    since: Option<Instant>,
+    left: bool,
 }
 
 impl Seat {
@@ -330,6 +364,7 @@ impl Seat {
             now: 0,
             last: 0,
             ask: 0,
+            asks_for: 0,
             had: false,
             held: 0,
             done: 0,
@@ -340,6 +375,8 @@ impl Seat {
             limit: None,
             is_old: false,
             taken: 0,
+            was: Was::default(),
+            anew: None,
         }
     }
 
@@ -504,9 +541,8 @@ impl Inner {
 
     /// The same, with the mutex held.
     fn went_back(&self, core: &mut Core, log: &Journal) -> bool {
-        let mut is_back = log.goes_back(&mut core.handle).is_ok();
+        let mut is_back = log.goes_back(&mut core.handle).and_then(|()| core.comes_back()).is_ok();
         if is_back {
-            core.comes_back();
             for (job, seat) in core.seats.iter_mut().enumerate() {
                 if let Some(came) = core.came.get_mut(&seat.ask) {
                     *came = Came::Failed;
@@ -518,6 +554,11 @@ impl Inner {
                 }
                 if core.taken.contains(&session) {
                     core.taken.retain(|it| *it != session);
+                    // (unless its owner was told: then whoever begins next gets it)
+                    let was = seat.was;
+                    seat.had = was.had && seat.taken == seat.now;
+                    seat.since = was.since.or(seat.since);
+                    core.left |= u32::from(was.left) << job;
                     seat.taken = 0;
                 }
                 if seat.now == 0 {
@@ -582,8 +623,10 @@ impl Inner {
     fn wait_outside(&self, core: &mut Core) -> Result<bool, Error> {
         let mut gone = false;
         for job in members(core.waiting) {
-            let Some(patience) = core.seats[job as usize].patience() else { continue };
-            if core.is_outside(job) {
+            let seat = &core.seats[job as usize];
+            // (one of `hold` waits for as long as its owner does)
+            let Some(patience) = seat.patience().filter(|_| seat.anew.is_none()) else { continue };
+            if core.is_outside(job)? {
                 let seat = &mut core.seats[job as usize];
                 seat.outside += 1;
                 if seat.outside > patience {
@@ -623,7 +666,7 @@ impl Inner {
         gives_up: Option<Instant>,
     ) -> Woken<'c> {
         // (a patience runs out by the calls of `lab_settle`, so one of those that wait makes one now and then)
-        let tick = core.seats[job as usize].patience().map(|_| TICK);
+        let tick = core.seats[job as usize].patience().filter(|it| *it < holding::FOREVER).map(|_| TICK);
         let mut looked = Instant::now();
         loop {
             match core.came[&ask] {
@@ -674,13 +717,13 @@ impl Inner {
             return Ok(());
         }
         if gives_up.is_some_and(|it| now >= it) {
-            let keepers = self.keepers(core, job);
+            let keepers = self.keepers(core, job)?;
             if !self.give_up(core, job)? {
                 return Err(Error::TimedOut(keepers));
             }
             self.settle(core)?;
         } else if until.is_some_and(|it| now >= it) {
-            return Err(Error::TimedOut(self.keepers(core, job)));
+            return Err(Error::TimedOut(self.keepers(core, job)?));
         }
         Ok(())
     }
@@ -689,19 +732,19 @@ impl Inner {
     fn give_up(&self, core: &mut Core, job: u32) -> Result<bool, Error> {
         let may = core.seats[job as usize].patience().is_some();
         // SAFETY: the handle is open, and the mutex is held; so below.
-        let withdraw = |core: &mut Core| unsafe { ffi::lab_withdraw(&mut core.handle, job) == 0 };
-        if may && core.is_outside(job) {
+        let withdraw = |core: &mut Core| is_done(unsafe { ffi::lab_withdraw(&mut core.handle, job) }, &[NOT_NOW]);
+        if may && core.is_outside(job)? {
             // (so that it is over, and not only asked for no longer, it leaves its place and begins; a meal may have to end before)
-            withdraw(core);
+            withdraw(core)?;
             for _ in 0..8 {
-                if core.state(job).drinking == TRANQUIL {
+                if core.state(job)?.drinking == TRANQUIL {
                     let mut turned = ffi::Turned::default();
-                    unsafe { ffi::lab_turn(&mut core.handle, job, &mut turned) };
+                    done(unsafe { ffi::lab_turn(&mut core.handle, job, &mut turned) })?;
                     self.told(core)?;
                 }
             }
         }
-        let gone = withdraw(core);
+        let gone = withdraw(core)?;
         self.told(core)?;
         if gone && !may {
             // it wasn't begun, and is the next again
@@ -710,10 +753,26 @@ impl Inner {
         }
         if gone {
             self.comes_to(core, job, Came::Withdrawn);
+        } else if core.does_hold(job)? {
+            self.lapse(core, job)?;
         } else {
             core.left |= 1 << job;
         }
         Ok(gone && may)
+    }
+
+    /// A session couldn't be given up, and nobody is told: nobody comes for it, if it is there still. What no call should ever answer is told by
+    /// the next begin.
+    fn gave_up_in_vain(&self, job: u32, number: u32, ask: u64, fault: Error) {
+        let Ok(mut core) = self.open() else { return };
+        let seat = &mut core.seats[job as usize];
+        let is_left = seat.is_in(number, ask) && !seat.had;
+        if matches!(fault, Error::Status(_)) {
+            seat.fault = Some(fault);
+        }
+        if is_left {
+            core.left |= 1 << job;
+        }
     }
 
     /// All that can be done is done, and those are woken whom that concerns. If somebody waits, those that were left and hold let go.
@@ -721,12 +780,19 @@ impl Inner {
         loop {
             let mut told = ffi::Came::default();
             // SAFETY: the handle is open, and the mutex is held; so below.
-            unsafe { ffi::lab_settle(&mut core.handle, core.waiting, &mut told) };
+            done(unsafe { ffi::lab_settle(&mut core.handle, core.waiting, &mut told) })?;
             self.told(core)?;
-            members(told.given_up).for_each(|job| self.comes_to(core, job, Came::Withdrawn));
+            let mut again = false;
+            for job in members(told.given_up) {
+                if self.comes_anew(core, job)? {
+                    again = true;
+                } else {
+                    self.comes_to(core, job, Came::Withdrawn);
+                }
+            }
             members(told.holds & core.waiting).for_each(|job| self.comes_to(core, job, Came::Holds));
             self.hold(core, told.holds);
-            if self.wait_outside(core)? {
+            if self.wait_outside(core)? || again {
                 continue;
             }
             let letting_go = told.holds & core.left;
@@ -742,11 +808,21 @@ impl Inner {
     fn lapse(&self, core: &mut Core, job: u32) -> Result<(), Error> {
         let mut turned = ffi::Turned::default();
         // SAFETY: the handle is open, and the mutex is held.
-        unsafe { ffi::lab_end(&mut core.handle, job, &mut turned) };
+        done(unsafe { ffi::lab_end(&mut core.handle, job, &mut turned) })?;
         core.left &= !(1 << job);
         let session = core.seats[job as usize].leaves();
         core.lapsed.push((self.jobs[job as usize].clone(), session));
         self.told(core)
+    }
+
+    /// All those are.
+    fn lapse_all(&self, core: &mut Core) -> Result<(), Error> {
+        for job in members(core.left) {
+            if core.does_hold(job)? {
+                self.lapse(core, job)?;
+            }
+        }
+        Ok(())
     }
 
     /// The session that comes next, or the one that the job is in; None if none is left. What its owner doesn't know yet is told first.
@@ -762,17 +838,17 @@ impl Inner {
         Ok((number as usize <= seat.sessions.len()).then_some(number))
     }
 
-    /// Asks for this session, which is the next one or the one that the job is in, and sleeps until it holds. One that `passes` is given up
-    /// when its time is over.
+    /// Asks for this session, which is the next one or the one that the job is in, and sleeps until it holds. One of `hold`, which is of this
+    /// kind, is given up when its time is over.
     fn ask<'d>(
         self: &Arc<Inner>,
         mut core: MutexGuard<'_, Core>,
         job: u32,
         number: u32,
         times: &Times,
-        passes: bool,
+        kind: Option<&holding::Kind>,
     ) -> Result<Session<'d>, Error> {
-        let bit = 1 << job;
+        let (bit, passes) = (1 << job, kind.is_some());
         let seat = &core.seats[job as usize];
         // (somebody has it, or asked for it and hasn't woken yet)
         if seat.now != 0 && (seat.had || core.came.contains_key(&seat.ask)) {
@@ -782,7 +858,8 @@ impl Inner {
         let (ask, page) = (core.asks, core.page);
         let seat = &mut core.seats[job as usize];
         let needs = seat.sessions[number as usize - 1].needs;
-        (seat.now, seat.last, seat.ask, seat.limit) = (number, number, ask, times.limit);
+        (seat.now, seat.last, seat.ask, seat.asks_for) = (number, number, ask, number);
+        (seat.limit, seat.anew) = (times.limit, kind.cloned());
         let gives_up = times.patience.and_then(|it| seat.asked.get_or_insert_with(Instant::now).checked_add(it));
         if seat.limit.is_some() && seat.since.is_some() {
             self.rouse(&core);
@@ -790,6 +867,9 @@ impl Inner {
         core.left &= !bit;
         let mut ended;
         (core, ended) = self.wait(core, job, ask, times.until, gives_up);
+        // (if it came anew, it has another number by now)
+        let seat = &core.seats[job as usize];
+        let number = if seat.ask == ask { seat.asks_for } else { number };
         if passes && ended.is_err() && self.pass(&mut core, job, number, ask)? {
             ended = Ok(());
         }
@@ -849,42 +929,48 @@ impl Core {
         }
     }
 
-    fn state(&mut self, job: u32) -> ffi::State {
+    fn state(&mut self, job: u32) -> Result<ffi::State, Error> {
         state_of(&mut self.handle, job)
     }
 
     /// The bench is one that a journal had: who holds, and who waits, does still.
-    fn comes_back(&mut self) {
+    fn comes_back(&mut self) -> Result<(), Error> {
         self.owed.clear();
         for job in 0..self.seats.len() {
-            let state = self.state(job as u32);
+            let state = self.state(job as u32)?;
             let (holds, seat) = (HOLDS.contains(&state.drinking), &mut self.seats[job]);
-            let had = seat.had;
-            seat.had = seat.leaves() == state.session && had && holds;
+            let (had, since) = (seat.had, seat.since);
+            let is_same = seat.leaves() == state.session && holds;
+            seat.had = is_same && had;
             seat.sessions.truncate(state.sessions as usize);
             seat.last = state.session;
             seat.now = if holds || state.drinking == THIRSTY { state.session } else { 0 };
             (seat.held, seat.done) = (if holds { state.session } else { 0 }, state.position);
-            (seat.since, seat.is_old) = (holds.then(Instant::now), seat.now != 0);
+            (seat.since, seat.is_old) = (holds.then(|| since.filter(|_| is_same).unwrap_or_else(Instant::now)), seat.now != 0);
         }
         // (no journal has this number)
         // SAFETY: as in `state`.
-        unsafe { ffi::lab_overtakes(&mut self.handle, self.overtakes) };
+        done(unsafe { ffi::lab_overtakes(&mut self.handle, self.overtakes) })
     }
 
     /// Whether a job has asked, and its session isn't begun yet.
-    fn is_outside(&mut self, job: u32) -> bool {
+    fn is_outside(&mut self, job: u32) -> Result<bool, Error> {
         let mut found = ffi::Outside::default();
         // SAFETY: as in `state`.
-        unsafe { ffi::lab_outside(&mut self.handle, job, &mut found) };
-        found.is_outside == 1
+        done(unsafe { ffi::lab_outside(&mut self.handle, job, &mut found) })?;
+        Ok(found.is_outside == 1)
     }
 
-    fn session_of(&mut self, job: u32, number: u32) -> ffi::SessionOf {
+    fn session_of(&mut self, job: u32, number: u32) -> Result<ffi::SessionOf, Error> {
         let mut what = ffi::SessionOf::default();
         // SAFETY: as in `state`.
-        unsafe { ffi::lab_session_of(&mut self.handle, job, number, &mut what) };
-        what
+        done(unsafe { ffi::lab_session_of(&mut self.handle, job, number, &mut what) })?;
+        Ok(what)
+    }
+
+    /// All sessions of a job.
+    fn sessions_of(&mut self, job: u32) -> Result<Vec<ffi::SessionOf>, Error> {
+        (1..=self.state(job)?.sessions).map(|number| self.session_of(job, number)).collect()
     }
 }
 
@@ -897,11 +983,11 @@ impl Drop for Core {
     }
 }
 
-fn state_of(handle: &mut ffi::Handle, job: u32) -> ffi::State {
+fn state_of(handle: &mut ffi::Handle, job: u32) -> Result<ffi::State, Error> {
     let mut state = ffi::State::default();
     // SAFETY: the handle is open, and nobody else has it.
-    unsafe { ffi::lab_state(handle, job, &mut state) };
-    state
+    done(unsafe { ffi::lab_state(handle, job, &mut state) })?;
+    Ok(state)
 }
 
 fn read(path: impl AsRef<Path>) -> Result<Vec<u8>, Error> {
@@ -909,10 +995,10 @@ fn read(path: impl AsRef<Path>) -> Result<Vec<u8>, Error> {
 }
 
 /// A name by one of the two calls for names: they have 1 to 16 bytes.
-fn name(call: impl FnOnce(*mut u8, usize, *mut usize) -> u32) -> String {
+fn name(call: impl FnOnce(*mut u8, usize, *mut usize) -> u32) -> Result<String, Error> {
     let (mut bytes, mut written) = ([0; 16], 0);
-    call(bytes.as_mut_ptr(), bytes.len(), &mut written);
-    String::from_utf8_lossy(&bytes[..written.min(16)]).into_owned()
+    done(call(bytes.as_mut_ptr(), bytes.len(), &mut written))?;
+    Ok(String::from_utf8_lossy(&bytes[..written.min(16)]).into_owned())
 }
 
 /// The bench of a script.
@@ -984,18 +1070,18 @@ impl Bench {
             }
         }
         // SAFETY: the handle is open, and nobody else has it; so below.
-        unsafe { ffi::lab_bench_size(&mut core.handle, &mut size) };
+        done(unsafe { ffi::lab_bench_size(&mut core.handle, &mut size) })?;
         let handle = &mut core.handle;
-        let jobs: Vec<String> =
-            (0..size.jobs as u32).map(|at| name(|to, room, written| unsafe { ffi::lab_job_name(handle, at, to, room, written) })).collect();
+        let jobs = (0..size.jobs as u32).map(|at| name(|to, room, written| unsafe { ffi::lab_job_name(handle, at, to, room, written) }));
+        let jobs = jobs.collect::<Result<Vec<String>, Error>>()?;
         let instruments = (0..size.instruments as u32)
             .map(|at| name(|to, room, written| unsafe { ffi::lab_instrument_name(handle, at, to, room, written) }))
-            .collect();
+            .collect::<Result<Vec<String>, Error>>()?;
         for job in 0..size.jobs as u32 {
-            let sessions = (1..=core.state(job).sessions).map(|number| core.session_of(job, number)).collect();
+            let sessions = core.sessions_of(job)?;
             core.seats.push(Seat::new(sessions));
         }
-        core.comes_back();
+        core.comes_back()?;
         core.head = pages::first_line(script);
         core.bay = bay;
         let woken = jobs.iter().map(|_| Condvar::new()).collect();
@@ -1028,7 +1114,8 @@ impl Bench {
     pub fn close(self) -> Result<Report, Error> {
         let mut core = self.inner.open()?;
         // (a bench that is to go on by its journal needs all its jobs)
-        let goes_on = core.endless && self.inner.log.is_some() && !self.inner.busy(&mut core).is_empty();
+        let goes_on = core.endless && self.inner.log.is_some() && !self.inner.busy(&mut core)?.is_empty();
+        self.inner.lapse_all(&mut core)?;
         if !goes_on {
             self.inner.retire_all(&mut core)?;
         }
@@ -1107,14 +1194,14 @@ impl Desk {
         let mut core = inner.open()?;
         let Some(number) = inner.next_of(&mut core, job)? else { return Ok(None) };
         let times = Times { until, patience: self.patience, limit: self.limit };
-        inner.ask(core, job, number, &times, false).map(Some)
+        inner.ask(core, job, number, &times, None).map(Some)
     }
 
     /// Gives up the session that timed out; whether it was withdrawn, as it is if it has a patience: then it logs nothing.
     ///
-    /// A session without patience can't leave the line. Nobody comes for it, but its turn may come; if somebody waits then, its commands are
-    /// logged, though nobody did its work, and it lets go: [`Report::lapsed`] names it. Begun again before, it is as any other. A desk
-    /// that is dropped gives up, too.
+    /// A session without patience can't leave the line. Nobody comes for it, but its turn may come; if somebody waits then, or the bench is
+    /// closed, its commands are logged, though nobody did its work, and it lets go: [`Report::lapsed`] names it. Begun again before, it is as
+    /// any other. One that has come to hold before it is given up lets go at once, in the same way. A desk that is dropped gives up, too.
     pub fn give_up(&mut self) -> bool {
         let (inner, job) = (&*self.inner, self.job);
         let Ok(mut core) = inner.open() else { return false };
@@ -1123,11 +1210,17 @@ impl Desk {
         if seat.now == 0 || seat.had || core.came.get(&seat.ask) == Some(&Came::Holds) {
             return false;
         }
-        let gone = inner.give_up(&mut core, job);
-        let settled = inner.settle(&mut core);
+        let (number, ask) = (seat.now, seat.ask);
+        let gone = inner.give_up(&mut core, job).and_then(|gone| inner.settle(&mut core).map(|()| gone));
         let ticket = inner.ticket();
         drop(core);
-        gone == Ok(true) && settled.and_then(|()| inner.commit(ticket)).is_ok()
+        match gone.and_then(|gone| inner.commit(ticket).map(|()| gone)) {
+            Ok(gone) => gone,
+            Err(fault) => {
+                inner.gave_up_in_vain(job, number, ask, fault);
+                false
+            }
+        }
     }
 }
 
@@ -1266,7 +1359,7 @@ impl Session<'_> {
         self.is_held_yet(&mut core)?;
         let mut turned = ffi::Turned::default();
         // SAFETY: the handle is open, and the mutex is held.
-        unsafe { ffi::lab_end(&mut core.handle, job, &mut turned) };
+        done(unsafe { ffi::lab_end(&mut core.handle, job, &mut turned) })?;
         core.seats[job as usize].leaves();
         inner.told(&mut core)?;
         // (before the settle: that it let go may be in the file already, and what others come to by it not yet)

@@ -2,7 +2,8 @@
 use crate::holding::{Verb, MOST_SESSIONS};
 use crate::journal::{Journal, MOST, MOST_STEPS};
 use crate::{
-    fault, ffi, members, state_of, told_bytes, told_text, Bench, Core, Error, Inner, Options, Report, Seat, HOLDS, RETIRED, THIRSTY,
+    done, fault, ffi, is_done, state_of, told_bytes, told_text, Bench, Core, Error, Inner, Options, Report, Seat, NOT_NOW, RETIRED,
+    SESSIONS_LEFT, THIRSTY,
 };
 use std::sync::{Arc, MutexGuard};
 use std::time::{Duration, Instant};
@@ -118,7 +119,9 @@ pub(crate) fn bay_of(text: &[u8]) -> Result<Option<Bay>, Error> {
         return Ok(None);
     }
     // SAFETY: the pointers and lengths are those of two slices, which are apart, and none is null.
-    let (_, script) = told_bytes(|script, room, told| unsafe { ffi::lab_bench_script(text.as_ptr(), text.len(), script, room, told) })?;
+    let (status, script) =
+        told_bytes(|script, room, told| unsafe { ffi::lab_bench_script(text.as_ptr(), text.len(), script, room, told) })?;
+    done(status)?;
     let (mut users, mut job) = (Vec::new(), "");
     for line in lines {
         match line[..] {
@@ -137,10 +140,13 @@ pub(crate) fn endless(inner: Arc<Inner>) -> Result<Bench, Error> {
     for job in (0..inner.jobs.len() as u32).filter(|job| core.has_first(&inner.jobs[*job as usize])).collect::<Vec<_>>() {
         give_up_first(&mut core.handle, job, |handle| inner.log.as_ref().map_or(Ok(()), |log| log.take(handle)))?;
     }
-    core.comes_back();
+    core.comes_back()?;
     let ticket = inner.ticket();
-    let retired = (0..inner.jobs.len() as u32).any(|job| core.state(job).drinking == RETIRED);
-    let is_over = inner.resumed && retired && inner.busy(&mut core).is_empty();
+    let mut retired = false;
+    for job in 0..inner.jobs.len() as u32 {
+        retired |= core.state(job)?.drinking == RETIRED;
+    }
+    let is_over = inner.resumed && retired && inner.busy(&mut core)?.is_empty();
     drop(core);
     inner.commit(ticket)?;
     let bench = Bench { inner };
@@ -153,15 +159,15 @@ pub(crate) fn endless(inner: Arc<Inner>) -> Result<Bench, Error> {
 
 /// The first session of a job is begun by one turn, and given up, unless that was done before; `told` follows each call.
 fn give_up_first(handle: &mut ffi::Handle, job: u32, mut told: impl FnMut(&mut ffi::Handle) -> Result<(), Error>) -> Result<(), Error> {
-    let state = state_of(handle, job);
+    let state = state_of(handle, job)?;
     if state.session == 0 && state.sessions != 0 {
         // SAFETY: the handle is open, and nobody else has it; so below.
-        unsafe { ffi::lab_turn(handle, job, &mut ffi::Turned::default()) };
+        done(unsafe { ffi::lab_turn(handle, job, &mut ffi::Turned::default()) })?;
         told(handle)?;
     }
-    let state = state_of(handle, job);
+    let state = state_of(handle, job)?;
     if state.session == 1 && state.drinking == THIRSTY {
-        unsafe { ffi::lab_withdraw(handle, job) };
+        done(unsafe { ffi::lab_withdraw(handle, job) })?;
         told(handle)?;
     }
     Ok(())
@@ -174,7 +180,7 @@ impl Inner {
     }
 
     /// The script that the bench has become.
-    fn script_of(&self, core: &mut Core) -> String {
+    fn script_of(&self, core: &mut Core) -> Result<String, Error> {
         let mut text = format!("{}\n", core.head);
         for job in 0..self.jobs.len() as u32 {
             text += &format!("job {}\n", self.jobs[job as usize]);
@@ -182,53 +188,59 @@ impl Inner {
                 let what = core.seats[job as usize].sessions[number as usize - 1];
                 text += &if what.has_patience == 1 { format!("session patience {}\n", what.patience) } else { "session\n".to_string() };
                 for place in 0..what.commands as u32 {
-                    text += &self.command_line(core, job, number, place);
+                    text += &self.command_line(core, job, number, place)?;
                 }
                 text += "end\n";
             }
         }
-        text
+        Ok(text)
     }
 
-    fn command_line(&self, core: &mut Core, job: u32, session: u32, place: u32) -> String {
+    fn command_line(&self, core: &mut Core, job: u32, session: u32, place: u32) -> Result<String, Error> {
         let mut it = ffi::Planned::default();
         // SAFETY: the handle is open, and the mutex is held.
-        unsafe { ffi::lab_planned(&mut core.handle, job, session, place, &mut it) };
+        done(unsafe { ffi::lab_planned(&mut core.handle, job, session, place, &mut it) })?;
         let verb = [Verb::Set(it.number), Verb::Add(it.number)].get(it.verb as usize).copied().unwrap_or(Verb::Read);
-        verb.line(&self.instruments[it.instrument as usize])
+        Ok(verb.line(&self.instruments[it.instrument as usize]))
     }
 
     /// The jobs that are in a session or have one left, but for those whose session was left and holds.
-    pub(crate) fn busy(&self, core: &mut Core) -> Vec<u32> {
+    pub(crate) fn busy(&self, core: &mut Core) -> Result<Vec<u32>, Error> {
         let has_more = |seat: &Seat| seat.now != 0 || (seat.last as usize) < seat.sessions.len();
-        (0..self.jobs.len() as u32).filter(|job| has_more(&core.seats[*job as usize]) && !core.is_left(*job)).collect()
+        let mut found = Vec::new();
+        for job in 0..self.jobs.len() as u32 {
+            if has_more(&core.seats[job as usize]) && !core.is_left(job)? {
+                found.push(job);
+            }
+        }
+        Ok(found)
     }
 
     /// What a job is at, in words.
-    fn is_at(&self, core: &mut Core, job: u32) -> String {
+    fn is_at(&self, core: &mut Core, job: u32) -> Result<String, Error> {
         let seat = &core.seats[job as usize];
         if seat.now == 0 {
-            return "has sessions left to begin".into();
+            return Ok("has sessions left to begin".into());
         }
-        if HOLDS.contains(&core.state(job).drinking) {
+        if core.does_hold(job)? {
             let (names, keeper) = (self.names(core.seats[job as usize].needs()), self.holder(core, 0, job));
-            return format!("holds {}{}", names.join(", "), keeper.for_long());
+            return Ok(format!("holds {}{}", names.join(", "), keeper.for_long()));
         }
-        let all: Vec<String> = self.keepers(core, job).iter().map(|it| it.to_string()).collect();
-        format!("waits: {}", all.join(", "))
+        let all: Vec<String> = self.keepers(core, job)?.iter().map(|it| it.to_string()).collect();
+        Ok(format!("waits: {}", all.join(", ")))
     }
 
     /// Sleeps until nobody is in a session or has one left.
     fn is_quiet<'c>(&'c self, mut core: MutexGuard<'c, Core>, until: Option<Instant>) -> Result<MutexGuard<'c, Core>, Error> {
         loop {
-            let busy = self.busy(&mut core);
+            let busy = self.busy(&mut core)?;
             if busy.is_empty() {
-                members(core.left).try_for_each(|job| self.lapse(&mut core, job))?;
+                self.lapse_all(&mut core)?;
                 return Ok(core);
             }
             if until.is_some_and(|it| Instant::now() >= it) {
-                let at = busy.into_iter().map(|job| (self.jobs[job as usize].clone(), self.is_at(&mut core, job)));
-                return Err(Error::NotBack(at.collect()));
+                let at = busy.into_iter().map(|job| Ok((self.jobs[job as usize].clone(), self.is_at(&mut core, job)?)));
+                return Err(Error::NotBack(at.collect::<Result<_, Error>>()?));
             }
             core = self.doze(core, until)?;
         }
@@ -259,7 +271,9 @@ impl Inner {
         }
         for job in (0..self.jobs.len()).filter(|job| core.seats[*job].over) {
             // SAFETY: the handle is open, and nobody else has it.
-            unsafe { ffi::lab_retire(&mut opened.0, job as u32, 1, &mut ffi::Turned::default()) };
+            let status = unsafe { ffi::lab_retire(&mut opened.0, job as u32, 1, &mut ffi::Turned::default()) };
+            // (a text `bench 1` may say sessions of its own, which come again)
+            is_done(status, &[NOT_NOW, SESSIONS_LEFT])?;
             took(&mut opened.0)?;
         }
         Ok((opened, steps))
@@ -269,7 +283,7 @@ impl Inner {
     /// if something does, the bench goes on with the old page, as its journal has it.
     fn turned(&self, core: &mut Core) -> Result<Page, Error> {
         let script = core.bay.as_ref().map_or_else(|| text_of(&self.bay()).into_bytes(), |it| it.script.clone());
-        let became = self.script_of(core);
+        let became = self.script_of(core)?;
         let (mut opened, first) = self.open_page(core, &script)?;
         let closed = self.close_page(core, &script, &first);
         if let (Err(_), Some(log)) = (&closed, &self.log) {
@@ -277,7 +291,10 @@ impl Inner {
         }
         let (report, journal) = closed?;
         std::mem::swap(&mut core.handle, &mut opened.0);
-        self.begins_anew(core);
+        if let Err(fault) = self.begins_anew(core) {
+            core.closed = true;
+            return Err(fault);
+        }
         let (lapsed, taken) = (std::mem::take(&mut core.lapsed), std::mem::take(&mut core.taken));
         Ok(Page { report: Report { lapsed, taken, ..report }, script: became, journal })
     }
@@ -294,16 +311,16 @@ impl Inner {
     }
 
     /// The new page is open, and nothing has come to it yet.
-    fn begins_anew(&self, core: &mut Core) {
+    fn begins_anew(&self, core: &mut Core) -> Result<(), Error> {
         (core.waiting, core.left, core.page, core.head) = (0, 0, core.page + 1, "lab 2".into());
         core.by_hold.clear();
         for job in 0..self.jobs.len() as u32 {
-            let sessions = (1..=core.state(job).sessions).map(|number| core.session_of(job, number)).collect();
+            let sessions = core.sessions_of(job)?;
             let old = std::mem::replace(&mut core.seats[job as usize], Seat::new(sessions));
             // (one that was retired by its owner stays so)
             (core.seats[job as usize].over, core.seats[job as usize].fault) = (old.over, old.fault);
         }
-        core.comes_back();
+        core.comes_back()
     }
 
     /// Nobody turns the page any more: what waited for that may come.
@@ -347,7 +364,7 @@ impl Bench {
     /// The script that the bench has become, with the sessions that came; `labrun` reads it.
     pub fn script(&self) -> Result<String, Error> {
         let mut core = self.inner.open()?;
-        Ok(self.inner.script_of(&mut core))
+        self.inner.script_of(&mut core)
     }
 
     /// How much may still come before the bench is full: see [`Bench::turn_page`].

@@ -124,6 +124,11 @@ fn of_a_text() {
         held(&bench, "guest", &["scope"]).finish().unwrap();
         assert_eq!(bench.turn_page().unwrap().report.log("scope"), ["guest 2 1/1 set 7 = 7", "guest 3 1/1 read = 7"]);
     }
+    // (one that is retired has its own session again)
+    desks[1].begin().unwrap().unwrap().finish().unwrap();
+    job(&bench, "guest").retire().unwrap();
+    assert!(bench.turn_page().unwrap().report.finished);
+    assert_eq!(desks[1].begin().unwrap().map(|it| it.number()), Some(2));
     let fault = Bench::from_text(b"bench 1\njob a\nuses x y z\njob a\n").err();
     assert!(matches!(fault, Some(Error::Refused { line: 4, cause: 5 })));
 }
@@ -371,6 +376,54 @@ fn times_of_a_choice() {
     assert_eq!(bench.room().unwrap().sessions[3], ("host".to_string(), 999));
     drop(drive);
     assert_eq!(host.any_of(EITHER).begin().unwrap().number(), 2);
+}
+
+/// A limit on holding is kept for one that chooses, though nobody else waits.
+#[test]
+fn a_limit_for_one_that_chooses() {
+    let bench = bay(64);
+    let drive = job(&bench, "drive").hold(&["load-1", "load-2"]).limit(SHORT).begin().unwrap();
+    let begun = Instant::now();
+    let host = job(&bench, "host").any_of(EITHER).timeout(LONG).begin().unwrap();
+    assert_eq!((names(&host), drive.is_held()), (vec!["load-1".to_string()], false));
+    assert!(begun.elapsed() < LONG / 2);
+    drop(host);
+    assert_eq!(drive.finish(), Err(Error::TakenAway));
+    assert_eq!(closed(bench).taken, [("drive".to_string(), 2)]);
+}
+
+/// No more is taken away for it than it needs: the session whose time was over first. One that it doesn't need stays.
+#[test]
+fn no_more_is_taken_than_it_needs() {
+    let jobs = [("a", vec!["load-1"]), ("b", vec!["load-2"]), ("c", vec!["scope"]), ("host", vec!["load-1", "load-2"])];
+    let bench = Bench::new(jobs).unwrap();
+    let limited = |name: &str, instrument: &str| job(&bench, name).hold(&[instrument]).limit(SHORT).begin().unwrap();
+    let (c, b) = (limited("c", "scope"), limited("b", "load-2"));
+    thread::sleep(SHORT);
+    let a = limited("a", "load-1");
+    thread::sleep(2 * SHORT);
+    assert_eq!(names(&job(&bench, "host").any_of(EITHER).timeout(LONG).begin().unwrap()), ["load-2"]);
+    assert_eq!([&a, &b, &c].map(|it| it.is_held()), [true, false, true]);
+    drop((a, b, c));
+    assert_eq!(closed(bench).taken, [("b".to_string(), 2)]);
+}
+
+/// One that chooses already learns of a limit that comes later.
+#[test]
+fn a_limit_comes_later_for_one_that_chooses() {
+    let jobs = [("a", vec!["load-1"]), ("b", vec!["load-1"]), ("c", vec!["load-2"]), ("host", vec!["load-1", "load-2"])];
+    let bench = Options::new().overtakes(u32::MAX).for_jobs(jobs).unwrap();
+    let (a, _c) = (held(&bench, "a", &["load-1"]), held(&bench, "c", &["load-2"]));
+    thread::scope(|threads| {
+        let host = threads.spawn(|| names(&job(&bench, "host").any_of(EITHER).timeout(LONG).begin().unwrap()));
+        until(|| waits(&bench, "host"));
+        let b = threads.spawn(|| job(&bench, "b").hold(&["load-1"]).limit(SHORT).begin().unwrap());
+        until(|| waits(&bench, "b"));
+        drop(a);
+        let b = b.join().unwrap();
+        assert_eq!(host.join().unwrap(), ["load-1"]);
+        assert_eq!(b.finish(), Err(Error::TakenAway));
+    });
 }
 
 /// A session that is taken away wakes one that chooses.

@@ -299,11 +299,16 @@ fn what_comes_meanwhile() {
 #[cfg(all(target_os = "linux", target_env = "gnu"))]
 mod bad_disk {
     use super::*;
-    use std::cell::Cell;
+    use std::cell::{Cell, RefCell};
 
     thread_local! {
         /// Of the calls of this thread that change files: how many were made, and the first and the last that fail.
         static DISK: Cell<(u32, u32, u32)> = const { Cell::new((0, 0, 0)) };
+    }
+
+    thread_local! {
+        /// What this thread synced by `fsync`.
+        static SYNCED: RefCell<Vec<PathBuf>> = const { RefCell::new(Vec::new()) };
     }
 
     /// Of the calls that this thread makes from now on, those from the first to the last of these fail.
@@ -319,7 +324,7 @@ mod bad_disk {
     }
 
     mod calls {
-        use super::is_bad;
+        use super::{is_bad, SYNCED};
         use std::ffi::{c_char, c_int, c_void};
 
         extern "C" {
@@ -359,8 +364,11 @@ mod bad_disk {
             unless_bad(|| 0)
         }
         #[no_mangle]
-        extern "C" fn fsync(_: c_int) -> c_int {
-            unless_bad(|| 0)
+        extern "C" fn fsync(file: c_int) -> c_int {
+            unless_bad(|| {
+                SYNCED.with(|it| it.borrow_mut().push(std::fs::read_link(format!("/proc/self/fd/{file}")).unwrap_or_default()));
+                0
+            })
         }
         #[no_mangle]
         unsafe extern "C" fn rename(from: *const c_char, to: *const c_char) -> c_int {
@@ -380,6 +388,39 @@ mod bad_disk {
         job(&bench, "board").hold(&["scope", "supply"]).begin().unwrap().finish().unwrap();
         job(&bench, "guest").hold(&["scope"]).begin().unwrap().finish().unwrap();
         assert_eq!(dead.over(), done + 2);
+    }
+
+    /// A journal is begun: its name is on the disk before the open returns. If any one call that changes a file fails, that is told, and whoever
+    /// opens it then sees to the name again, since it finds the file there.
+    #[test]
+    fn the_name_is_on_the_disk() {
+        // (the file is cut, and written; then it is synced, and so is its folder)
+        for (to, points) in [(SyncTo::Memory, 2), (SyncTo::Disk, 4)] {
+            let bad: Vec<u32> = (1..).take_while(|bad| !begins(to, *bad)).collect();
+            assert_eq!(bad.len(), points);
+        }
+    }
+
+    /// Whether it comes through, because it needs fewer calls.
+    fn begins(to: SyncTo, bad: u32) -> bool {
+        let folder = Folder::new("name");
+        let script = b"lab 1\njob a\nsession\nx read\nend\n";
+        let opened = || {
+            SYNCED.with(|it| it.borrow_mut().clear());
+            let came = Options::new().journal(folder.file(), to).from_text(script).map(drop);
+            (came, SYNCED.with(|it| it.borrow().contains(&folder.0)))
+        };
+        disk(bad, bad);
+        let (came, is_there) = opened();
+        let is_through = DISK.with(Cell::get).0 < bad;
+        disk(0, 0);
+        if is_through {
+            assert_eq!((came, is_there), (Ok(()), to == SyncTo::Disk));
+        } else {
+            assert!(matches!(came, Err(Error::Journal { .. })) && !is_there, "{came:?}");
+        }
+        assert_eq!(opened(), (Ok(()), to == SyncTo::Disk));
+        is_through
     }
 
     /// Any one call that changes a file fails while a page is turned, or that one and all after it until the disk is well again. A turn that
@@ -509,6 +550,109 @@ fn without_room() {
     assert_eq!(bench.turn_page().unwrap().report.log("scope").len(), 2);
     assert_eq!(guest.hold(&["scope"]).begin().unwrap().number(), 2);
     finished(&folder, bench);
+}
+
+#[test]
+fn not_taken_away() {
+    alone("not_taken_away", a_taking_that_fails);
+}
+
+/// A session can't be taken away, because that can't be written: it is held as before, by its owner and nobody else, and for as long.
+fn a_taking_that_fails() {
+    let folder = Folder::new("taking");
+    let bench = folder.opened(64).unwrap();
+    let guest = job(&bench, "guest");
+    let mut held = guest.hold(&["scope"]).begin().unwrap();
+    thread::sleep(Duration::from_millis(50));
+    limit(folder.text().len() + 5);
+    assert!(matches!(bench.take_away("guest"), Err(Error::Journal { .. })));
+    limit(1 << 40);
+    assert!(held.is_held());
+    for other in [guest.begin().map(|it| it.is_some()), guest.resumed().map(|it| it.is_some())] {
+        assert!(matches!(other, Err(Error::NotNow(_))), "{other:?}");
+    }
+    assert!(matches!(job(&bench, "board").hold(&["scope"]).timeout(Duration::ZERO).begin().err(),
+        Some(Error::TimedOut(keepers)) if keepers[0].job == "guest" && keepers[0].held_for >= Some(Duration::from_millis(50))));
+    assert!(held.command().unwrap().is_some());
+    held.finish().unwrap();
+    // (and once it is written, it is taken)
+    let held = guest.hold(&["scope"]).begin().unwrap();
+    assert_eq!((bench.take_away("guest"), held.finish()), (Ok(true), Err(Error::TakenAway)));
+    let report = finished(&folder, bench);
+    assert_eq!((report.log("scope").len(), report.taken), (2, vec![("guest".to_string(), 3)]));
+}
+
+#[test]
+fn not_taken_from_nobody() {
+    alone("not_taken_from_nobody", a_taking_from_nobody_that_fails);
+}
+
+/// The same of one that was given up in line and came to hold: it is still nobody's, and lets go as soon as somebody waits.
+fn a_taking_from_nobody_that_fails() {
+    let folder = Folder::new("nobody");
+    let script = b"lab 1\njob a\nsession\nx read\nend\njob b\nsession\nx read\nend\njob c\nsession\nx read\nend\n";
+    let (bench, desks) = Options::new().overtakes(0).journal(folder.file(), SyncTo::Memory).from_text(script).unwrap();
+    let [mut a, mut b, mut c]: [_; 3] = desks.try_into().ok().unwrap();
+    let held = a.begin().unwrap().unwrap();
+    assert!(b.begin_within(Duration::ZERO).is_err());
+    assert!(!b.give_up());
+    held.finish().unwrap();
+    limit(folder.text().len() + 5);
+    assert!(matches!(bench.take_away("b"), Err(Error::Journal { .. })));
+    limit(1 << 40);
+    assert_eq!(c.begin_within(Duration::from_secs(20)).unwrap().map(|it| it.number()), Some(1));
+    let report = bench.close().unwrap();
+    assert_eq!((report.finished, report.lapsed, report.taken.len()), (true, vec![("b".to_string(), 1)], 0));
+}
+
+#[test]
+fn not_given_up() {
+    alone("not_given_up", a_giving_up_that_fails);
+}
+
+/// A desk goes, and that its session is given up can't be written: nobody comes for that session, so it keeps nobody waiting.
+fn a_giving_up_that_fails() {
+    let folder = Folder::new("giving-up");
+    let patient = "session patience 999999\nx read\nend\n";
+    let script = format!("lab 2\njob a\n{patient}job b\n{patient}job c\n{patient}");
+    let (bench, desks) = Options::new().overtakes(0).journal(folder.file(), SyncTo::Memory).from_text(script.as_bytes()).unwrap();
+    let [mut a, mut b, mut c]: [_; 3] = desks.try_into().ok().unwrap();
+    let held = a.begin().unwrap().unwrap();
+    assert!(b.begin_within(Duration::ZERO).is_err());
+    limit(folder.text().len() + 5);
+    drop(b);
+    limit(1 << 40);
+    held.finish().unwrap();
+    assert_eq!(c.begin_within(Duration::from_secs(20)).unwrap().map(|it| it.number()), Some(1));
+    let report = bench.close().unwrap();
+    assert_eq!((report.finished, report.lapsed), (true, vec![("b".to_string(), 1)]));
+}
+
+#[test]
+fn overtakes() {
+    alone("overtakes", as_often_after_a_write_that_failed);
+}
+
+/// By how many a session may be passed stays what it is when a write has failed.
+fn as_often_after_a_write_that_failed() {
+    for overtakes in [0, 64] {
+        let folder = Folder::new(&format!("overtakes-{overtakes}"));
+        let jobs = [("board", vec!["scope", "supply"]), ("guest", vec!["scope"]), ("drive", vec!["supply"])];
+        let bench = Options::new().overtakes(overtakes).journal(folder.file(), SyncTo::Memory).for_jobs(jobs).unwrap();
+        let guest = job(&bench, "guest").hold(&["scope"]).begin().unwrap();
+        limit(folder.text().len() + 5);
+        assert!(matches!(job(&bench, "drive").hold(&["supply"]).begin().err(), Some(Error::Journal { .. })));
+        limit(1 << 40);
+        thread::scope(|threads| {
+            threads.spawn(|| job(&bench, "board").hold(&["scope", "supply"]).begin().unwrap());
+            until(|| !bench.waits_for("board").unwrap().is_empty());
+            // (with 0 board stands in line, and keeps the supply)
+            let drive = job(&bench, "drive").hold(&["supply"]).timeout(Duration::from_millis(20)).begin();
+            assert_eq!(drive.is_ok(), overtakes != 0);
+            drop((drive, guest));
+        });
+        assert!(bench.close().unwrap().finished);
+    }
 }
 
 #[test]

@@ -274,6 +274,137 @@ fn left_outside() {
     assert!(bench.close().unwrap().lapsed.is_empty());
 }
 
+/// A session timed out outside, and only after the one before it has let go it is given up, by its owner or because its desk goes. It doesn't come
+/// to hold by that: nothing is logged, nobody holds, and the bench comes to its end. So with a third who waits meanwhile, or not.
+#[test]
+fn given_up_after_the_other_let_go() {
+    let patient = "job board\nsession patience 999999\nscope read\nend\n";
+    let other = "job other\nsession\nscope read\nend\n";
+    for (order, overtakes) in [([0, 1, 2], 64), ([1, 0, 2], 64), ([2, 1, 0], 1), ([0, 2, 1], u32::MAX)] {
+        for (is_dropped, third) in [(false, false), (false, true), (true, false), (true, true)] {
+            let (bench, desks) = opened(&Options::new().overtakes(overtakes), &order.map(|at| [RADIO, patient, other][at]));
+            let mut desks: Vec<Option<Desk>> = desks.into_iter().map(Some).collect();
+            let mut desk = |job: usize| desks[order.iter().position(|it| *it == job).unwrap()].take().unwrap();
+            let (mut radio, mut board, mut other) = (desk(0), desk(1), desk(2));
+            let held = radio.begin().unwrap();
+            assert!(matches!(board.begin_within(SHORT).err(), Some(Error::TimedOut(_))));
+            let gives_up = |mut board: Desk| is_dropped || board.give_up();
+            if third {
+                thread::scope(|threads| {
+                    let (tell, told) = channel::<()>();
+                    let waits = threads.spawn(move || {
+                        let session = other.begin().unwrap();
+                        told.recv_timeout(LONG).unwrap();
+                        drop(session);
+                    });
+                    until(|| !bench.waits_for("other").unwrap().is_empty());
+                    drop(held);
+                    assert!(gives_up(board));
+                    assert!(bench.waits_for("board").unwrap().is_empty());
+                    tell.send(()).unwrap();
+                    waits.join().unwrap();
+                });
+            } else {
+                drop(held);
+                assert!(gives_up(board));
+                drop(other.begin_within(LONG).unwrap().unwrap());
+            }
+            drop(radio.begin_within(LONG).unwrap().unwrap());
+            let report = bench.close().unwrap();
+            assert_eq!((report.log("scope").len(), report.log("scope").iter().any(|it| it.contains("board"))), (3, false));
+            assert!(report.finished && report.lapsed.is_empty() && report.text.contains("withdrawn 1"), "{}", report.text);
+        }
+    }
+}
+
+/// The same of one without a patience: it is as if it had never asked.
+#[test]
+fn given_up_without_a_patience() {
+    for is_dropped in [false, true] {
+        let (bench, mut radio, mut board, mut drive) = all_three(&Options::new());
+        let held = radio.begin().unwrap();
+        assert!(board.begin_within(SHORT).is_err());
+        drop(held);
+        if is_dropped {
+            drop(board);
+        } else {
+            assert!(!board.give_up());
+            assert_eq!(board.begin_within(LONG).unwrap().unwrap().number(), 1);
+        }
+        while drive.begin_within(LONG).unwrap().is_some() {}
+        drop(radio.begin_within(LONG).unwrap().unwrap());
+        let report = bench.close().unwrap();
+        assert_eq!((report.finished, report.lapsed.len(), report.log("scope").len()), (!is_dropped, 0, if is_dropped { 2 } else { 3 }));
+    }
+}
+
+/// Time-outs come at about the moment at which the other lets go: each session is held by its owner, or logs nothing.
+#[test]
+fn given_up_at_that_moment() {
+    let sessions = "session patience 999999\nscope read\nend\n".repeat(200);
+    let script = format!("lab 2\njob a\n{sessions}job b\n{sessions}");
+    for overtakes in [0, 64] {
+        let (bench, desks) = Options::new().overtakes(overtakes).from_text(script.as_bytes()).unwrap();
+        let [mut a, mut b]: [Desk; 2] = desks.try_into().ok().unwrap();
+        let micros = |below: u32| Duration::from_micros(below.into());
+        let held = thread::scope(|threads| {
+            let one = threads.spawn(move || {
+                let (mut held, mut below) = (0, chance(1));
+                loop {
+                    let came = b.begin_within(micros(below(300))).map(|it| it.map(drop));
+                    match came {
+                        Ok(None) => return (b, held),
+                        Ok(Some(())) => held += 1,
+                        Err(fault) => {
+                            assert!(matches!(fault, Error::TimedOut(_)));
+                            thread::sleep(micros(below(100)));
+                            b.give_up();
+                        }
+                    }
+                }
+            });
+            let mut below = chance(2);
+            while let Some(session) = a.begin().unwrap() {
+                thread::sleep(micros(below(300)));
+                drop(session);
+                thread::sleep(micros(below(300)));
+            }
+            let (b, held) = one.join().unwrap();
+            drop((a, b));
+            held
+        });
+        let report = bench.close().unwrap();
+        // (one in line may have come to hold before it is given up, and lapses)
+        assert!(overtakes == 0 || report.lapsed.is_empty(), "{:?}", report.lapsed);
+        let logged = report.log("scope").iter().filter(|it| it.starts_with("b ")).count();
+        assert_eq!((logged, report.finished), (held + report.lapsed.len(), true));
+    }
+}
+
+/// In line, too, nothing is held for nobody: one that came to hold before it is given up lets go at once, and one that came to hold after it when
+/// the bench is closed.
+#[test]
+fn given_up_in_line() {
+    for patience in ["", " patience 999999"] {
+        for is_first in [false, true] {
+            let board = format!("job board\nsession{patience}\nscope read\nend\n");
+            let (bench, desks) = opened(&Options::new().overtakes(0), &["job radio\nsession\nscope read\nend\n", &board]);
+            let [mut radio, mut board]: [Desk; 2] = desks.try_into().ok().unwrap();
+            let mut held = radio.begin().unwrap();
+            assert!(board.begin_within(Duration::ZERO).is_err());
+            if is_first {
+                held = None;
+            }
+            let is_withdrawn = board.give_up();
+            assert_eq!(is_withdrawn, !patience.is_empty() && !is_first);
+            drop(held);
+            let report = bench.close().unwrap();
+            assert!(report.finished, "{}", report.text);
+            assert_eq!(report.lapsed, if is_withdrawn { vec![] } else { vec![("board".to_string(), 1)] });
+        }
+    }
+}
+
 /// With a journal it is on the disk that a session was taken away, and how often one may be passed is kept from one process to the next.
 #[test]
 fn with_a_journal() {
