@@ -26,13 +26,13 @@ TellsAdded (Err HasRetired) told told' status = (status ≡ 14) × (told' ≡ to
 TellsAdded (Err (Fault fault)) told told' status = (status ≡ status_of (Err (Script fault))) × (told' ≡ told_of (Script fault))
 TellsAdded (Err (NoMemory added)) told told' status = (status ≡ 5) × (told' ≡ told_length added)
 
--- There is room for the steps of longer sessions, and the sessions of the text came, behind the others of the job. Or the lab keeps its steps and
--- stays as it is: some weren't taken yet (12), or there is no memory for more room (5)
+-- There is room for the steps of longer sessions, and the sessions of the text came, behind the others of the job. Or the lab keeps its steps, has too little
+-- room for theirs, and stays as it is: some weren't taken yet (12), or there is no memory for more room (5)
 unfoldable pub Comes : List ℕ → ℕ → LabView → LabView → Told → Told → ℕ → Type 0
 Comes text job a b told told' status =
-    ((c : LabView) × HasMoreRoom a c × ByJob (AddsText text) TellsAdded job c b told told' status)
-    ⊎ ((status ≡ 12) × IsWhyNoRoom a.world.kept HasSteps × (b ≡ a) × (told' ≡ told))
-    ⊎ ((status ≡ 5) × IsWhyNoRoom a.world.kept MemoryLacks × (b ≡ a) × (told' ≡ told_length 0))
+    ((c : LabView) × HasMoreRoom text a c × ByJob (AddsText text) TellsAdded job c b told told' status)
+    ⊎ ((status ≡ 12) × IsWhyNoRoom text a HasSteps × (b ≡ a) × (told' ≡ told))
+    ⊎ ((status ≡ 5) × IsWhyNoRoom text a MemoryLacks × (b ≡ a) × (told' ≡ told_length 0))
 
 -- ---- their lines, for the journal
 

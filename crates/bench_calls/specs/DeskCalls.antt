@@ -22,6 +22,7 @@ use Rattle.bench_hall.specs.declared.taken_desk.TakenDesk.{TakenDesk}
 use Rattle.bench_hall.specs.declared.at_desk.NotTaken.{NotTaken}
 use Rattle.bench_hall.specs.declared.at_desk.NotTaken.TheVariants.{NoJob, Out, NoMemory}
 use Rattle.bench_hall.specs.AtDesk.{Stays, GoesAlone}
+use Rattle.bench_hall.specs.Fresh.{IsFreshHall}
 use Rattle.c_tells.specs.declared.told.Told.{Told}
 use Rattle.c_tells.specs.Telling.{told_of}
 use Rattle.bench_hall.specs.declared.held.Held.{Held}
@@ -41,15 +42,16 @@ Bench = Arc Hall Global
 
 -- ---- opening
 
--- a bench of the plan that the script means now, and nothing is told
+-- a bench of the plan that the script means now, on which nothing was done yet, and nothing is told
 abbrev pub IsOpened : List ℕ → Inside → Told → Told → Type 0
-IsOpened script new told told' = (a : Bench) × (new ≡ Shared a) × ScriptMeans script (arc_value a).bench.plan × (told' ≡ told)
+IsOpened script new told told' =
+    (a : Bench) × (new ≡ Shared a) × ScriptMeans script (arc_value a).bench.plan × IsFreshHall (arc_value a) × (told' ≡ told)
 
 -- there is none because of this fault, which is told
 abbrev pub IsNotOpened : List ℕ → Told → ℕ → Type 0
 IsNotOpened script told' status = (fault : RunFault) × IsWhyNot script fault × (status ≡ status_of (Err fault)) × (told' ≡ told_of fault)
 
--- an empty handle has a bench of the plan that the script means now (0), or none was opened, the handle is as it was and the fault is
+-- an empty handle has such a bench now (0), or none was opened, the handle is as it was and the fault is
 -- told; or the handle is in use, and nothing changed (11)
 abbrev pub Opens : List ℕ → Option Inside → Option Inside → Told → Told → ℕ → Type 0
 Opens script (Some held) new told told' status = (status ≡ 11) × (new ≡ Some held) × (told' ≡ told)

@@ -5,5 +5,6 @@ pub mod Own
 pub mod Closing
 pub mod Places
 pub mod Rows
+pub mod Fresh
 pub mod AtDesk
 pub mod Resumed

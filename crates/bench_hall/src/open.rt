@@ -5,6 +5,7 @@ ghost use Rattle.script_reader.specs.Script.{ScriptMeans};
 ghost use Rattle.live_lab.specs.Labs.{IsWhyNot};
 ghost use Rattle.lab_journal.specs.Resumed.{IsNotResumed};
 ghost use Rattle.bench_hall.specs.Rows.{firsts};
+ghost use Rattle.bench_hall.specs.Fresh.{IsFreshHall};
 ghost use Rattle.bench_hall.specs.Resumed.{IsResumedHall};
 
 use crate::hall::Hall;
@@ -26,9 +27,9 @@ fn shared(alloc: Global, lab: Lab) -> Option<Arc<Hall, Global>>
 }
 
 impl Hall {
-    /// A hall for the plan of a script. The plan's memory is never given back.
+    /// A hall for the plan of a script, before its first event. The plan's memory is never given back.
     pub fn open(alloc: Global, script: &[u8]) -> Result<Arc<Hall, Global>, RunFault>
-        ensures opened { IfOk result (λ h. (length script.now ≤ 16777216) × ScriptMeans script.now (arc_value h).bench.plan) }
+        ensures opened { IfOk result (λ h. (length script.now ≤ 16777216) × ScriptMeans script.now (arc_value h).bench.plan × IsFreshHall (arc_value h)) }
         ensures refused { IfErr result (λ fault. IsWhyNot script.now fault) }
     {
         let lab = Lab::open(alloc, script)?;

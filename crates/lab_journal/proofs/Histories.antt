@@ -33,8 +33,8 @@ opened : (x : LabView) → IsOpenedKept x → IsWritten x.world.plan [] x.world
 opened x is = record {
   history = tt;
   same_plan = refl;
-  opening = ap (λ (v : LabView). v.world.opening) is.1;
-  past = ap (λ (v : LabView). v.world.past) is.1 ∙ sym (ap (λ (v : LabView). v.world.kept.events) is.1);
+  opening = ap (λ (v : LabView). v.world.opening) is.2;
+  past = ap (λ (v : LabView). v.world.past) is.2 ∙ sym (ap (λ (v : LabView). v.world.kept.events) is.2);
 }
 
 done : (plan : LabPlan) (parts : List Part) (v w : WorldView) (events : List Event) → IsWritten plan parts v → LeadsTo v events w → w.kept.whole ≡ true
@@ -163,15 +163,14 @@ added_all plan parts x j some is by there awake granted =
     )
 
 added_text : SessionsAreGranted → (plan : LabPlan) (parts : List Part) (x y : LabView) (text : List ℕ) (j : ℕ) → IsWritten plan parts x.world
-    → IsReachedBy x.world.plan x.world.opening x.world.past x.world.state x.world.counts → j < length x.world.plan.jobs → drinking x.world.state j ≢ Retired
-    → AddsText text j x (Ok tt) y
+    → IsReachedBy x.world.plan x.world.opening x.world.past x.world.state x.world.counts → j < length x.world.plan.jobs → AddsText text j x (Ok tt) y
     → (further : List SessionPlan) × IsWritten plan (parts ++ all_came j further) y.world
     × (parts_text plan (parts ++ all_came j further)
     ≡ parts_text plan parts ++ more_texts y.world.plan j (length (sessions x.world.plan j) + 1) (length further))
-added_text grant plan parts x y text j is by there awake adds =
+added_text grant plan parts x y text j is by there adds =
     let further = adds.0 in
-    let all = added_all plan parts x j further is by there awake (grant x.world.plan j text further by.is_plan there adds.1) in
-    let same = sym adds.2 in (
+    let all = added_all plan parts x j further is by there adds.1 (grant x.world.plan j text further by.is_plan there adds.2) in
+    let same = sym adds.3 in (
       further,
       subst (λ (z : LabView). IsWritten plan (parts ++ all_came j further) z.world) same all.0,
       all.1 ∙ ap (λ (z : LabView). parts_text plan parts ++ more_texts z.world.plan j (length (sessions x.world.plan j) + 1) (length further)) same,
@@ -242,14 +241,15 @@ resumed plan script parts text cut n x is =
       past = there.past ∙ ap (λ (l : List Event). events_in cut.first ++ l) (sym there.kept);
     }
 
-roomier : (plan : LabPlan) (parts : List Part) (x y : LabView) → IsWritten plan parts x.world → HasMoreRoom x y → IsWritten plan parts y.world
-roomier plan parts x y is (inl same) = subst (λ (z : LabView). IsWritten plan parts z.world) (sym same) is
-roomier plan parts x y is (inr more) =
-    subst (λ (z : LabView). IsWritten plan parts z.world) (sym more.5) (record {
+roomier : (plan : LabPlan) (parts : List Part) (text : List ℕ) (x y : LabView) → IsWritten plan parts x.world → HasMoreRoom text x y
+    → IsWritten plan parts y.world
+roomier plan parts text x y is (inl same) = subst (λ (z : LabView). IsWritten plan parts z.world) (sym same.0) is
+roomier plan parts text x y is (inr more) =
+    subst (λ (z : LabView). IsWritten plan parts z.world) (sym more.6) (record {
       history = is.history;
       same_plan = is.same_plan;
       opening = is.opening;
-      past = is.past ∙ ap (λ (l : List Event). events_in parts ++ l) more.3;
+      past = is.past ∙ ap (λ (l : List Event). events_in parts ++ l) more.4;
     })
 
 pub stays_written : SessionsAreGranted → StaysWritten

@@ -15,6 +15,7 @@ use Rattle.explaining.specs.Explanations.{events_from_opening}
 use Rattle.live_lab.specs.Labs.{LabView, lab_in}
 use Rattle.journal_texts.specs.Lines.{AreWholeLines}
 use Rattle.journal_texts.specs.Sums.{wrong_sum}
+use Rattle.lab_journal.specs.Rooms.{room_for}
 use Rattle.lab_journal.specs.Meaning.{JournalMeans}
 use Rattle.lab_journal.specs.Resumed.{HasIllegalStep, IsResumed}
 use Rattle.lab_journal.specs.Finishing.{Finishes, TakesSteps, IsReplayed, IsKeptIn}
@@ -48,21 +49,27 @@ replayed text plan steps seen old new same start means takes sums =
     }
 
 -- the lab keeps the commands that were in hand
-pub kept_in : (w old new : WorldView) (x : LabView) (room : ℕ) → 64 ≤ room → old ≡ record w { kept = record { room = room; events = []; whole = true } }
+pub kept_in : (w old new : WorldView) (x : LabView) (room : ℕ) → 64 ≤ room → room ≡ room_for w.plan 0 → old ≡ record w { kept = record { room = room; events = []; whole = true } }
     → Finishes 32 old new → ((j : ℕ) → IsJob new.plan j → drinking new.state j ≢ Reaching) → x ≡ lab_in new → IsKeptIn w x
-kept_in w old new x room wide start fin none is =
+kept_in w old new x room wide much start fin none is =
     subst (IsKeptIn w) (sym is) (record {
       acts = fin.acts;
       are_acts = fin.are_acts;
-      same_plan = fin.same_plan ∙ ap (λ (v : WorldView). v.plan) start;
+      same_plan = same;
       none_in_hand = none;
       opening = fin.goes_on.same_opening ∙ ap (λ (v : WorldView). v.opening) start;
       past = fin.goes_on.past ∙ ap (λ (v : WorldView). v.past ++ fin.acts) start;
       kept = ap (λ (k : TapeView). k.events) kept;
       whole = ap (λ (k : TapeView). k.whole) kept;
+      room = subst (λ (k : ℕ). room_for new.plan 0 ≤ k) (sym (ap (λ (k : TapeView). k.room) kept))
+          (subst (λ (p : LabPlan). room_for p 0 ≤ room) (sym same) (omega (arith, much)));
       clocks = refl;
+      line = refl;
     })
   where
+    same : new.plan ≡ w.plan
+    same = fin.same_plan ∙ ap (λ (v : WorldView). v.plan) start
+
     enough : (n room : ℕ) → n ≤ 32 → 64 ≤ room → 0 + n ≤ room
     enough n room h k = omega (arith, h, k)
 
@@ -85,5 +92,7 @@ resumed journal text n w x lines is re kept by = record {
   reached = by;
   kept = kept.kept;
   whole = kept.whole;
+  room = kept.room;
   clocks = kept.clocks;
+  line = kept.line;
 }

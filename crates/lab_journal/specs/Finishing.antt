@@ -13,9 +13,11 @@ use Rattle.legal_steps.specs.Run.{StopsAt}
 use Rattle.legal_steps.specs.Steps.{IsStepOf, step_events}
 use Rattle.interleaving.specs.World.{WorldView, GoesOnBy}
 use Rattle.explaining.specs.Explanations.{events_from_opening}
+use Rattle.late_thirst.specs.Outside.{nobody}
 use Rattle.live_lab.specs.Clocks.{no_clock}
 use Rattle.live_lab.specs.Labs.{LabView}
 use Rattle.journal_texts.specs.Sums.{wrong_sum}
+use Rattle.lab_journal.specs.Rooms.{room_for}
 use Rattle.lab_journal.specs.Meaning.{JournalMeans}
 use Rattle.lab_journal.specs.Resumed.{IsAct}
 
@@ -47,7 +49,7 @@ pub record IsReplayed (text : List ℕ) (w : WorldView) : Type 0 where
   pub opening : w.opening ≡ the_opening w.plan
   pub past : w.past ≡ events_from_opening w.plan steps
 
--- the lab in such a world, after the commands in hand
+-- the lab in such a world, after the commands in hand, with nobody outside
 pub record IsKeptIn (w : WorldView) (x : LabView) : Type 0 where
   pub acts : List Event
   pub are_acts : All IsAct acts
@@ -57,4 +59,6 @@ pub record IsKeptIn (w : WorldView) (x : LabView) : Type 0 where
   pub past : x.world.past ≡ w.past ++ acts
   pub kept : x.world.kept.events ≡ acts
   pub whole : x.world.kept.whole ≡ true
+  pub room : room_for x.world.plan 0 ≤ x.world.kept.room
   pub clocks : x.clocks ≡ replicate (length x.world.plan.jobs) no_clock
+  pub line : x.line ≡ nobody (length x.world.plan.jobs)

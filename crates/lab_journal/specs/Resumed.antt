@@ -1,5 +1,5 @@
 -- For readers: how a lab comes back from a journal, or why it doesn't.
-use Rattle.std.specs.Prelude.{◌≡◌, ◌≢◌, ◌⊎◌, ℕ, true, List, ◌++◌, length, map, take, replicate, slice_get, None, Some}
+use Rattle.std.specs.Prelude.{◌≡◌, ◌≢◌, ◌⊎◌, ◌≤◌, ℕ, true, List, ◌++◌, length, map, take, replicate, slice_get, None, Some}
 use Rattle.std.specs.List.{All}
 use Rattle.legal_steps.specs.declared.event.Event.{Event}
 use Rattle.legal_steps.specs.declared.event.Event.TheVariants.{Act}
@@ -16,10 +16,12 @@ use Rattle.script_reader.specs.Steps.{StepsRefuse}
 use Rattle.explaining.specs.Explanations.{events_from_opening}
 use Rattle.lab_program.specs.declared.faults.RunFault.{RunFault}
 use Rattle.lab_program.specs.declared.faults.RunFault.TheVariants.{Script, Step, NoMemory}
+use Rattle.late_thirst.specs.Outside.{nobody}
 use Rattle.live_lab.specs.Clocks.{no_clock}
 use Rattle.live_lab.specs.Labs.{LabView}
 use Rattle.journal_texts.specs.Lines.{AreWholeLines}
 use Rattle.journal_texts.specs.Sums.{wrong_sum}
+use Rattle.lab_journal.specs.Rooms.{room_for}
 use Rattle.lab_journal.specs.Meaning.{JournalMeans, HasBadAddition}
 
 -- ---- the lab
@@ -28,8 +30,8 @@ abbrev pub IsAct : Event → Type 0
 IsAct event = (j : ℕ) × (event ≡ Act j)
 
 -- The first n bytes of the journal were taken: a script with steps and sessions that came, whose sums are right. The steps were done, one after another, from
--- the initial state on, by the plan with these sessions, and then the commands in hand. Only these are kept, since the journal has the others; and each clock
--- is new
+-- the initial state on, by the plan with these sessions, and then the commands in hand. Only these are kept, since the journal has the others, with room for
+-- the steps of two calls; each clock is new; and nobody is outside, nor ever has to be: who was has to ask again, and the number of overtakes is 0
 pub record IsResumed (journal : List ℕ) (n : ℕ) (x : LabView) : Type 0 where
   pub lines : AreWholeLines journal n
   pub steps : List StepLine
@@ -43,7 +45,9 @@ pub record IsResumed (journal : List ℕ) (n : ℕ) (x : LabView) : Type 0 where
   pub reached : IsReachedBy x.world.plan x.world.opening x.world.past x.world.state x.world.counts
   pub kept : x.world.kept.events ≡ acts
   pub whole : x.world.kept.whole ≡ true
+  pub room : room_for x.world.plan 0 ≤ x.world.kept.room
   pub clocks : x.clocks ≡ replicate (length x.world.plan.jobs) no_clock
+  pub line : x.line ≡ nobody (length x.world.plan.jobs)
 
 -- ---- or the reason
 

@@ -1,9 +1,10 @@
 -- For readers: what a lab keeps, and what was taken of it.
-use Rattle.std.specs.Prelude.{◌≡◌, ℕ, ◌-◌, ◌*◌, Bool, true, false, leb, List, [], length, take}
+use Rattle.std.specs.Prelude.{◌≡◌, ℕ, ◌-◌, ◌*◌, ◌≤◌, Bool, true, false, leb, List, [], length, take}
 use Rattle.legal_steps.specs.declared.event.Event.{Event}
 use Rattle.interleaving.specs.Kept.{TapeView}
 use Rattle.interleaving.specs.World.{WorldView}
 use Rattle.live_lab.specs.Labs.{LabView, fresh_lab, with_kept}
+use Rattle.lab_journal.specs.Rooms.{room_for}
 use Rattle.lab_journal.specs.declared.written.NotTaken.{NotTaken}
 use Rattle.lab_journal.specs.declared.written.NotTaken.TheVariants.{NoMemory, NotKept, NotWhole}
 
@@ -15,9 +16,9 @@ taken w = take (length w.past - length w.kept.events) w.past
 abbrev pub without_kept : LabView → LabView
 without_kept x = with_kept x (record x.world.kept { events = [] })
 
--- a lab of the plan before its first event, with room for some events
+-- a lab of the plan before its first event, with room for the steps of two calls
 abbrev pub IsOpenedKept : LabView → Type 0
-IsOpenedKept x = (room : ℕ) × (x ≡ with_kept (fresh_lab x.world.plan) (record { room = room; events = []; whole = true }))
+IsOpenedKept x = (room : ℕ) × (room_for x.world.plan 0 ≤ room) × (x ≡ with_kept (fresh_lab x.world.plan) (record { room = room; events = []; whole = true }))
 
 -- at least half of the room is free
 abbrev pub has_room : TapeView → Bool

@@ -1,9 +1,7 @@
 -- For readers: what was written of a lab that keeps its journal.
-use Rattle.std.specs.Prelude.{◌≡◌, ◌≢◌, ℕ, zero, suc, ◌+◌, ◌<◌, true, List, [], ◌∷◌, ◌++◌, length, codes, Ok}
+use Rattle.std.specs.Prelude.{◌≡◌, ℕ, zero, suc, ◌+◌, ◌<◌, true, List, [], ◌∷◌, ◌++◌, length, codes, Ok}
 use Rattle.lab_plan.specs.LabPlan.{LabPlan, SessionPlan, sessions}
 use Rattle.legal_steps.specs.declared.event.Event.{Event}
-use Rattle.legal_steps.specs.declared.phase.Drinking.TheVariants.{Retired}
-use Rattle.legal_steps.specs.State.{drinking}
 use Rattle.legal_steps.specs.Opening.{the_opening}
 use Rattle.interleaving.specs.World.{WorldView, IsReachedBy, LeadsTo}
 use Rattle.interleaving.specs.Adding.{WorldAdds}
@@ -48,7 +46,8 @@ pub record StaysWritten : Type 0 where
   pub done : (plan : LabPlan) (parts : List Part) (v w : WorldView) (events : List Event) → IsWritten plan parts v → LeadsTo v events w → w.kept.whole ≡ true
       → IsWritten plan parts w
   -- nor does room that is made for more
-  pub roomier : (plan : LabPlan) (parts : List Part) (x y : LabView) → IsWritten plan parts x.world → HasMoreRoom x y → IsWritten plan parts y.world
+  pub roomier : (plan : LabPlan) (parts : List Part) (text : List ℕ) (x y : LabView) → IsWritten plan parts x.world → HasMoreRoom text x y
+      → IsWritten plan parts y.world
   -- a session that is added is one part more, with the text of `lab_more`
   pub added : (plan : LabPlan) (parts : List Part) (v w : WorldView) (j : ℕ) (session : SessionPlan) → IsWritten plan parts v → IsThere v
       → j < length v.plan.jobs → WorldAdds v j session (Ok tt) w
@@ -56,7 +55,7 @@ pub record StaysWritten : Type 0 where
       × (parts_text plan (parts ++ Came j session true ∷ []) ≡ parts_text plan parts ++ more_text w.plan j (length (sessions v.plan j) + 1))
   -- so is each session of a text, with its text by the plan that has them all
   pub added_text : (plan : LabPlan) (parts : List Part) (x y : LabView) (text : List ℕ) (j : ℕ) → IsWritten plan parts x.world → IsThere x.world
-      → j < length x.world.plan.jobs → drinking x.world.state j ≢ Retired → AddsText text j x (Ok tt) y
+      → j < length x.world.plan.jobs → AddsText text j x (Ok tt) y
       → (further : List SessionPlan) × IsWritten plan (parts ++ all_came j further) y.world
       × (parts_text plan (parts ++ all_came j further)
       ≡ parts_text plan parts ++ more_texts y.world.plan j (length (sessions x.world.plan j) + 1) (length further))

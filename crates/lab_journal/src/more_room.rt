@@ -1,5 +1,6 @@
 //! More room, before longer sessions come.
 ghost use Rattle.std.specs.Prelude.{◌≡◌, OnOk, IfErr, OnErr};
+ghost use Rattle.lab_journal.specs.Rooms.{longest_in};
 ghost use Rattle.lab_journal.specs.Room.{HasMoreRoom, IsWhyNoRoom};
 
 use crate::room::room_with;
@@ -17,25 +18,27 @@ pub enum NoRoom {
 }
 
 /// How many commands a session of the text has at most: the lines between two lines `end`.
-fn longest_in(text: &[u8]) -> usize {
+fn longest_in(text: &[u8]) -> usize
+    ensures { result ≡ longest_in text.now }
+{
     let mut longest = 0usize;
     let mut lines = 0usize;
     for line in text.lines() {
-        lines = if line == b"end".as_slice() {
-            0
+        if line == b"end".as_slice() {
+            longest = longest.max(lines);
+            lines = 0;
         } else {
-            lines.saturating_add(1)
-        };
-        longest = longest.max(lines);
+            lines += 1;
+        }
     }
-    longest
+    longest.max(lines)
 }
 
 /// Makes room for the steps of the sessions that a text has, if the lab keeps its steps, before they are added. There can be more room only while
 /// no step is kept.
 pub fn make_room(lab: &mut Lab, alloc: Global, text: &[u8]) -> Result<(), NoRoom>
-    ensures made { OnOk result (HasMoreRoom lab.old lab.new) }
-    ensures refused { IfErr result (IsWhyNoRoom lab.old.world.kept) }
+    ensures made { OnOk result (HasMoreRoom text.now lab.old lab.new) }
+    ensures refused { IfErr result (IsWhyNoRoom text.now lab.old) }
     ensures not_made { OnErr result (lab.new ≡ lab.old) }
 {
     let world = lab.world();

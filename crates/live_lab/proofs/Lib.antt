@@ -19,4 +19,5 @@ pub mod Staying
 mod Told
 mod Waited
 mod Counted
+mod Lacking
 pub mod LongerLabs

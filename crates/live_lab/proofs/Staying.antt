@@ -272,10 +272,10 @@ comes_stays : (j : ℕ) (plan : SessionPlan) (k : ℕ) (old : LabView) (answer :
 comes_stays j plan k old answer new (adds, clocks, line) = holds_same j old new (world_adds plan k old.world answer new.world adds)
 
 text_state : (text : List ℕ) (k : ℕ) (old : LabView) (answer : Result (Unit {0}) NotAdded) (new : LabView) → AddsText text k old answer new → new.world.state ≡ old.world.state
-text_state text k old (Ok done) new (further, reads, is) = ap (λ (x : LabView). x.world.state) is
+text_state text k old (Ok done) new (further, awake, reads, is) = ap (λ (x : LabView). x.world.state) is
 text_state text k old (Err LabRetired) new (retired, is) = ap (λ (x : LabView). x.world.state) is
 text_state text k old (Err (Fault fault)) new (reads, is) = ap (λ (x : LabView). x.world.state) is
-text_state text k old (Err (NoMemory added)) new (further, reads, fewer, is) = ap (λ (x : LabView). x.world.state) is
+text_state text k old (Err (NoMemory added)) new (further, awake, reads, fewer, is) = ap (λ (x : LabView). x.world.state) is
 
 pub holders_stay : HoldersStay
 holders_stay j = record {

@@ -1,5 +1,5 @@
 -- For readers: sessions that come while the lab is open.
-use Rattle.std.specs.Prelude.{◌≡◌, ℕ, ◌<◌, List, [], ◌∷◌, length, take, Result, Ok, Err}
+use Rattle.std.specs.Prelude.{◌≡◌, ◌≢◌, ℕ, ◌<◌, List, [], ◌∷◌, length, take, Result, Ok, Err}
 use Rattle.lab_plan.specs.LabPlan.{LabPlan, SessionPlan}
 use Rattle.lab_plan.specs.Longer.{with_one_more}
 use Rattle.legal_steps.specs.declared.phase.Drinking.TheVariants.{Retired as IsRetired}
@@ -29,12 +29,13 @@ abbrev pub AddsRead : List SessionPlan → ℕ → LabView → Result (Unit {0})
 AddsRead further j old (Ok _) new = new ≡ longer_by old j further
 AddsRead further j old (Err added) new = (added < length further) × (new ≡ longer_by old j (take added further))
 
--- The sessions that the text has for the job were added. Or nothing was: the job has retired, or the text has a fault. Or there was no memory, and
--- then so many of them were
+-- The job hasn't retired, and the sessions that the text has for it were added. Or nothing was: it has retired, or the text has a fault. Or it hasn't, but
+-- there was no memory, and then so many of them were
 abbrev pub AddsText : List ℕ → ℕ → LabView → Result (Unit {0}) NotAdded → LabView → Type 0
-AddsText text j old (Ok _) new = (further : List SessionPlan) × AnswersMore old.world.plan j text (Ok further) × (new ≡ longer_by old j further)
+AddsText text j old (Ok _) new =
+    (further : List SessionPlan) × (drinking old.world.state j ≢ IsRetired) × AnswersMore old.world.plan j text (Ok further) × (new ≡ longer_by old j further)
 AddsText text j old (Err HasRetired) new = (drinking old.world.state j ≡ IsRetired) × (new ≡ old)
 AddsText text j old (Err (Fault fault)) new = AnswersMore old.world.plan j text (Err fault) × (new ≡ old)
 AddsText text j old (Err (NoMemory added)) new =
-    (further : List SessionPlan) × AnswersMore old.world.plan j text (Ok further) × (added < length further)
+    (further : List SessionPlan) × (drinking old.world.state j ≢ IsRetired) × AnswersMore old.world.plan j text (Ok further) × (added < length further)
     × (new ≡ longer_by old j (take added further))

@@ -1,7 +1,8 @@
 -- For readers: who keeps a job waiting for an instrument.
 use Rattle.std.specs.Prelude.{◌≡◌, ◌⊎◌, ℕ, ◌+◌, ◌≤◌, ◌<◌, Bool, true, false, length, Option, Some, None}
 use Rattle.lab_plan.specs.LabPlan.{LabPlan, session_names}
-use Rattle.legal_steps.specs.State.{State, Has, IsDrinking, phase, session}
+use Rattle.legal_steps.specs.declared.phase.Drinking.TheVariants.{Thirsty}
+use Rattle.legal_steps.specs.State.{State, Has, IsDrinking, phase, drinking, session}
 use Rattle.legal_steps.specs.Legal.{IsJob, Needs, instrument_of}
 use Rattle.interleaving.specs.World.{WorldView}
 use Rattle.reasons.specs.Reasons.{Lacks, Keeps as KeepsBottle}
@@ -9,6 +10,7 @@ use Rattle.live_lab.specs.declared.keepers.Keepers.{Keepers}
 use Rattle.late_thirst.specs.declared.asker.Asker.{Asker}
 use Rattle.live_lab.specs.Labs.{LabView}
 use Rattle.live_lab.specs.Sets.{AreJobs}
+use Rattle.live_lab.specs.Rests.{IsAtRest}
 use Rattle.live_lab.specs.Admitting.{IsLeftOutside}
 
 -- bottle b of edge e is the instrument's, job j lacks it, and job k keeps it
@@ -51,3 +53,15 @@ AreKeepersAt x job i (Some r) =
     IsJob x.world.plan job × (i < length x.world.plan.instruments)
     × (((a : Asker) × IsLeftOutside x job a × AreUsers x.world job i r) ⊎ (((a : Asker) → ¬ IsLeftOutside x job a) × AreKeepers x.world job i r))
 AreKeepersAt x job i None = (length x.world.plan.jobs ≤ job) ⊎ (length x.world.plan.instruments ≤ i)
+
+-- ---- the law
+
+-- job j lacks a bottle of the instrument
+abbrev pub LacksOneOf : LabPlan → State → ℕ → ℕ → Type 0
+LacksOneOf plan s j i = (e : ℕ) × (b : ℕ) × (instrument_of plan e b ≡ i) × Lacks plan s j e b
+
+-- In a world at rest, as each settle leaves it: each instrument of which a thirsty job lacks a bottle has a keeper
+abbrev pub EachLackHasAKeeper : Type 0
+EachLackHasAKeeper =
+    (w : WorldView) → IsAtRest w → (j i : ℕ) → drinking w.state j ≡ Thirsty → LacksOneOf w.plan w.state j i
+    → (k : ℕ) × IsJob w.plan k × IsKeeper w.plan w.state j i k

@@ -2,6 +2,7 @@
 ghost use Rattle.live_lab.specs.Waited.{LettingsInAreWaited, SettlesAreWaited};
 ghost use Rattle.live_lab.specs.Staying.{HoldersStay};
 ghost use Rattle.live_lab.specs.Before.{FewAreLetInBefore};
+ghost use Rattle.live_lab.specs.Keepers.{EachLackHasAKeeper};
 
 /// All that a settle does to a job that it leaves outside are letting-ins, so it is passed by as `late_thirst::laws::is_passed_at_most` says: between its
 /// asking and its being let in, by at most as many sessions as the line's number says.
@@ -19,4 +20,9 @@ pub fn few_are_let_in_before()
 /// Who holds goes on to hold, in the same session, over every call that doesn't end that session: only an end of its own does.
 pub fn holders_stay()
     ensures { HoldersStay }
+{}
+
+/// Where a settle leaves the lab, each instrument that a job in line lacks has at least one keeper: a job that keeps a bottle of it that the job lacks.
+pub fn each_lack_has_a_keeper()
+    ensures { EachLackHasAKeeper }
 {}

@@ -1,5 +1,5 @@
 //! A settle: sessions begin that are waited for, and all is done that can be done without a word from an owner.
-ghost use Rattle.std.specs.Prelude.{◌≡◌, length};
+ghost use Rattle.std.specs.Prelude.{◌≡◌, ◌≤◌, length};
 ghost use Rattle.live_lab.specs.Counting.{AreTurnsCounted};
 ghost use Rattle.live_lab.specs.Settles.{Settles};
 
@@ -44,9 +44,11 @@ fn count_turns<A: Allocator>(clocks: &mut [Clock], world: &World<A>, waiting: u3
 impl Lab {
     /// Each job of `waiting` that may begin its next session asks, and those are let in that are due; then all is done that can be done without a word
     /// from an owner, until nothing is left to do anywhere. Sessions are given up whose patience was used up before. Bits beyond the plan's jobs say
-    /// nothing.
+    /// nothing. Looks aside there are few events: at most 129584 at first, and as many after each of at most 32 letting-ins, after sessions are given up and
+    /// after each of at most 32 letting-ins behind that, and at most 2080 beginnings and sessions given up.
     pub fn settle(&mut self, waiting: u32) -> Came
-        ensures { Settles waiting self.old result self.new }
+        ensures settles { Settles waiting self.old result self.new }
+        ensures few { result.deeds ≤ 8554624 }
     {
         let thirsty = jobs_of(&self.world, &self.clocks, waiting, Kind::Waits);
         let first = come_to_rest(&mut self.world, &mut self.due);

@@ -35,7 +35,7 @@ returns-then-came-eq0 c =
       omega (arith, c.loop-number-test.true),
       one_more_settled c.args.job l._number old l.self new l.deeds c.saturating_add-deeds.result came false l.invariant.0
           (subst (λ (s : Stage). IsStage Hold l.self.world c.args.job s) going c.stage-stage.ensures)
-          (subst (λ n. Settles n l.self came new) c.only-waiting.ensures c.settle-came.ensures) c.saturating_add-deeds.ensures
+          (subst (λ n. Settles n l.self came new) c.only-waiting.ensures c.settle-came.ensures.settles) c.saturating_add-deeds.ensures
           (sym (ap not (eq-eqb came.deeds 0 c.if-came-eq0.true))),
       c.of-then-came-eq0.ensures,
       c.stage.ensures,
@@ -48,7 +48,7 @@ loop-number-preserved c =
     let going : c.stage-stage.result ≡ OnTheWay = differs_false the_type tt _ _ (sym c.ne.ensures ∙ c.if-ne.false) in (
       one_more_settled c.args.job l._number old l.self new l.deeds c.saturating_add-deeds.result came true l.invariant.0
           (subst (λ (s : Stage). IsStage Hold l.self.world c.args.job s) going c.stage-stage.ensures)
-          (subst (λ n. Settles n l.self came new) c.only-waiting.ensures c.settle-came.ensures) c.saturating_add-deeds.ensures
+          (subst (λ n. Settles n l.self came new) c.only-waiting.ensures c.settle-came.ensures.settles) c.saturating_add-deeds.ensures
           (sym (ap not (ne_eqb came.deeds 0 c.if-came-eq0.false))),
-      subst (λ (p : LabPlan). IsJob p c.args.job) (sym c.settle-came.ensures.leads.same_plan) l.invariant.1,
+      subst (λ (p : LabPlan). IsJob p c.args.job) (sym c.settle-came.ensures.settles.leads.same_plan) l.invariant.1,
     )

@@ -65,8 +65,8 @@ invariant_of-self c =
       a4.line_of,
     )
 
-pub returns : goal.returns
-returns c =
+pub returns-clause-settles : goal.returns-clause-settles
+returns-clause-settles c =
     let x = c.self.inside in
     let w0 = x.world in let w1 = c.come_to_rest-first.new.world in let w3 = c.admit-second.new.world in
     let gives = c.give_up-third.ensures.gives in let w4 = gives.left in let w5 = c.give_up-third.new.world in
