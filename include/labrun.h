@@ -96,9 +96,10 @@ uint32_t lab_upgrade(const uint8_t *script, size_t length, uint8_t *report, size
 
    Nobody sleeps for nothing. Each two jobs that share an instrument have a share of it, their *bottle*. A job *keeps* an instrument from
    another that needs it and lacks its share, if it has that share, needs the instrument too, and holds or comes first. After `lab_settle`
-   answered 0, each job that it named is told in `came`, or waits for one that holds: a chain of jobs leads to that, each of which keeps an
-   instrument from the one before it; all but the last wait. (The first link of a job that is outside, as `lab_overtakes` has it, is a job in
-   a session that needs one of its instruments.) So whoever waits then, waits because somebody works.
+   answered 0, each job that it named is told in `came` (it holds, it gave its session up in this call, or it has none left), or waits for one
+   that holds: a chain of jobs leads to that, each of which keeps an instrument from the one before it; all but the last wait. (The first link
+   of a job that is outside, as `lab_overtakes` has it, is a job in a session that needs one of its instruments.) So whoever waits then, waits
+   because somebody works.
 
    The rules, beside those above:
 

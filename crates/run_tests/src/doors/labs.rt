@@ -53,7 +53,7 @@ fn take_and_come(rt: HostRuntime) {
 
 /// Each session can be given up.
 const PATIENT: &[u8] =
-    b"lab 2\njob a\nsession 9\nscale add 1\nend\njob b\nsession 9\nscale set 5\nend\nsession 9\nscale read\nend\n";
+    b"lab 2\njob a\nsession patience 9\nscale add 1\nend\njob b\nsession patience 9\nscale set 5\nend\nsession patience 9\nscale read\nend\n";
 
 /// The next session of a job outside is skipped, and the one behind it; none of a job that holds, or has none left.
 fn skips(rt: &impl Abort, lab: &mut Lab) {

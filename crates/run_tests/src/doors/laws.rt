@@ -11,6 +11,7 @@ fn laws(_rt: HostRuntime) {
     lab_laws::settles_are_waited();
     lab_laws::few_are_let_in_before();
     lab_laws::holders_stay();
+    lab_laws::each_lack_has_a_keeper();
     longer_plans::stays_legal();
     longer_plans::is_as_legal();
     longer_plans::still_fits();
