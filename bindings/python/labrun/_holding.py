@@ -16,15 +16,18 @@ from dataclasses import dataclass, field
 from typing import Any, Callable, Iterable, Mapping, NamedTuple, Optional, TypeVar, Union
 
 from . import _bench
-from ._bench import _FOREVER, _RETIRED, _STOPPED, _THIRSTY, _TRANQUIL, VERBS, Bench, Command, Job, Keeper, NotBack, Session, _freed, _now
+from ._bench import _FOREVER, _RETIRED, _STOPPED, _THIRSTY, _TRANQUIL, VERBS, Bench, Command, Job, Keeper, NotBack, Session, _now
 from ._bench import _Planned, _plans
 from ._faults import Full, JournalError, LabrunError, MayNotUse, Refused, Retired, TimeoutError, Withdrawn, WouldBlock
 from ._journal import MOST, MOST_STEPS, Journal, Kept, Path, Ticket
-from ._library import NO_MEMORY, REFUSED, RETIRED, Handle, Library, State, Told, Turned, library
+from ._library import NO_MEMORY, NOT_NOW, REFUSED, RETIRED, SESSIONS_LEFT, Handle, Library, State, Told, Turned, called, freed, library, unexpected
 from ._report import Report, told_fault, told_text
 
 # a command as `Job.hold` takes it
 Asked = Union[Command, tuple[str, str], tuple[str, str, int]]
+
+# the states of a session that held, and doesn't any more
+_OVER = ("finished", "lapsed", "taken")
 
 MOST_SESSIONS, MOST_COMMANDS, LARGEST = 1000, 100000, 999999
 _LIMIT_PASSED = 10  # the cause S10
@@ -133,7 +136,7 @@ class Hold(Session, Waiter):
             if ticket is not None:
                 self._is_kept(ticket)
         except BaseException as fault:
-            self._left_by(fault)
+            self._left_by(fault, False)
             raise
 
     def _is_kept(self, ticket: Ticket) -> None:
@@ -175,7 +178,7 @@ class Hold(Session, Waiter):
                         timer.cancel()
                 event.clear()
         except BaseException as fault:
-            self._left_by(fault)
+            self._left_by(fault, False)
             raise
         await super().acquire_async(None if until is None else max(0.0, until - _now()))
 
@@ -191,9 +194,10 @@ class Hold(Session, Waiter):
         text, size, job._adds = choices[0]
         job._how, self._adds = "hold", job._last + 1
         bench._torn = True
-        if call(bench._at, job.index, text, size, bench._told_at):
+        status = call(bench._at, job.index, text, size, bench._told_at)
+        if status:
             bench._torn = False
-            return False
+            raise _why_not(bench, job, status)
         plan.append(job._adds)
         if bench._journal is not None:
             tell_journal(bench, job)
@@ -276,8 +280,8 @@ class Hold(Session, Waiter):
             found += [Keeper(instrument, it.name, False, bench._behind(it, self.job._bit)) for it in users if not holders]
         return tuple(found)
 
-    def _asked(self, job: Job) -> bool:
-        return job.bench._leaves(job, self, True)
+    def _asked(self, job: Job) -> None:
+        job.bench._leaves(job, self)
 
     # without it
 
@@ -298,8 +302,8 @@ class Hold(Session, Waiter):
             raise LabrunError("the session isn't added yet")
         super().withdraw()
 
-    def _left_by(self, fault: BaseException) -> None:
-        """It is given up, also where it was just being added."""
+    def _left_by(self, fault: BaseException, was_held: bool) -> None:
+        """It is given up, also where it was just being added, or came to hold just now."""
         job = self.job
         bench = job.bench
         with bench._mutex, bench._mending:
@@ -308,11 +312,11 @@ class Hold(Session, Waiter):
                 return
             bench._look_over()
             number = self._adds
-            if number > len(job._plan) or number and job._in != number and self.state != "finished":  # (a write failed, and it is over)
+            if number > len(job._plan) or number and job._in != number and self.state not in _OVER:  # (a write failed, and it is over)
                 self.state = "withdrawn"
-            if job._in and job._in == number and self.state != "held":
+            if job._in and job._in == number and (self.state != "held" or not was_held and not isinstance(fault, LabrunError)):
                 if bench._outside_of(job) is not None or bench._state_of(job.index).session == number:
-                    bench._leaves(job, self, False)
+                    bench._leaves(job, self)
                 else:  # it was about to ask
                     bench._waiting &= ~job._bit
                     job._in, job._last = 0, number - 1
@@ -519,7 +523,7 @@ def _why_not(bench: Bench, job: Job, status: int) -> Exception:
 def _comes_next(job: Job, bench: Bench) -> None:
     """A job that is in a session, or has one to begin: one that was left is over now; else this raises. (With the mutex held.)"""
     if job._in and bench._left & job._bit and bench._holds(job):
-        _lapse(bench, job)
+        bench._lapses(job)
         bench._settle()
     if job._in:
         raise LabrunError(f"{job.name} is in a session, its {job._in}, and is in one at a time: threads that hold at once need a job each")
@@ -527,21 +531,10 @@ def _comes_next(job: Job, bench: Bench) -> None:
         raise LabrunError(f"{job.name} has sessions left to begin, from {job._last + 1} to {len(job._plan)}: they come first")
 
 
-def _lapse(bench: Bench, job: Job) -> None:
-    bench._torn = True
-    bench._call("lab_end", job.index, bench._turned_at)
-    bench._comes_to(job, False, "lapsed")
-
-
 def _skip(bench: Bench, job: Job) -> None:
-    """Gives up a session that is the next to begin: single turns begin it, and don't let it hold. (With the mutex held.)"""
-    bench._torn = True
-    number = job._last + 1
-    # (one turn, but for a meal that ends first)
-    while bench._state_of(job.index).session < number:
-        bench._call("lab_turn", job.index, bench._turned_at)
-    bench._call("lab_withdraw", job.index)
-    job._last = number
+    """Gives up a session that is the next to begin. (With the mutex held.)"""
+    bench._withdraws(job, job._last + 1)
+    job._last += 1
     bench._settle()
 
 
@@ -660,13 +653,13 @@ def _give_up_first(calls: Union[Library, Kept], at: Any, job: int) -> tuple[int,
     """The first session of a job is begun by one turn, and given up, unless that was done before. Which session it was in last, and whether it is in
     none."""
     state, turned = State(), Turned()
-    calls["lab_state"](at, job, ctypes.byref(state))
+    called(calls, "lab_state", at, job, ctypes.byref(state))
     if state.sessions and not state.session:
-        calls["lab_turn"](at, job, ctypes.byref(turned))
-        calls["lab_state"](at, job, ctypes.byref(state))
+        called(calls, "lab_turn", at, job, ctypes.byref(turned))
+        called(calls, "lab_state", at, job, ctypes.byref(state))
     if state.session == 1 and state.drinking == _THIRSTY:
-        calls["lab_withdraw"](at, job)
-        calls["lab_state"](at, job, ctypes.byref(state))
+        called(calls, "lab_withdraw", at, job)
+        called(calls, "lab_state", at, job, ctypes.byref(state))
     return state.session, state.drinking == _TRANQUIL
 
 
@@ -744,7 +737,7 @@ def _is_over(bench: Bench) -> None:
 def _turned(bench: Bench) -> Union[Page, Ticket]:
     """Turns the page, unless the journal is to be written before: then that ticket. (With the mutex held.)"""
     for job in bench._members(bench._left):
-        _lapse(bench, job)
+        bench._lapses(job)
     if bench._journal is not None and not bench._is_written():
         return bench._journal.ticket
     bench._torn = True
@@ -777,7 +770,7 @@ class Turning:
         self.handle = Handle()
         self.calls: Union[Library, Kept] = library()
         self.journal: Optional[Journal] = None
-        self.drops = weakref.finalize(self, _freed, library(), self.handle)
+        self.drops = weakref.finalize(self, freed, library(), self.handle)
         try:
             self.opens(bench)
         except BaseException:
@@ -797,7 +790,9 @@ class Turning:
                 _give_up_first(self.calls, at, job.index)
         for job in bench._jobs:
             if job._is_over:
-                self.calls["lab_retire"](at, job.index, 1, ctypes.byref(turned))
+                status = self.calls["lab_retire"](at, job.index, 1, ctypes.byref(turned))
+                if status not in (0, NOT_NOW, SESSIONS_LEFT):
+                    raise unexpected("lab_retire", status)
 
     def makes(self, bench: Bench, old: Journal) -> None:
         """The old page is closed, and the new one has its file."""
@@ -845,11 +840,12 @@ def _opened(script: bytes, handle: Handle) -> None:
 
 def _begins_anew(bench: Bench, calls: Union[Library, Kept], handle: Handle, script: bytes) -> None:
     # (should it be freed twice, the second call finds it empty)
-    bench._finalizer = weakref.finalize(bench, _freed, calls, handle)
+    bench._finalizer = weakref.finalize(bench, freed, calls, handle)
     bench._calls, bench._at, bench._script = calls, ctypes.byref(handle), script
     bench._lab_settle, bench._lab_end, bench._lab_add = calls.quick("lab_settle"), calls.quick("lab_end"), None
     bench._call("lab_overtakes", bench._overtakes)
     bench._waiting = bench._left = bench._limited = 0
+    bench._withdrawing = None
     bench._lapsed, bench._raised, bench._taken = [], [], []
     bench._has_patience = True
     for job, plan in zip(bench._jobs, _plans(script, bench.instruments)):

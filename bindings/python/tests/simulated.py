@@ -171,11 +171,12 @@ class Simulated:
         at(told).written = len(text)
         return 0
 
-    def lab_bench_free(self, handle: Any) -> None:
+    def lab_bench_free(self, handle: Any) -> int:
         if at(handle).at is None:
-            return
+            return 7
         self.runs[at(handle).at] = None
         self.kept.pop(at(handle).at, None)
+        return 0
 
     def lab_bench_size(self, handle: Any, size: Any) -> int:
         run = self.run(handle)

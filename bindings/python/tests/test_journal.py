@@ -540,7 +540,7 @@ class Failing(Journals):
         self.assertTrue(self.finished(bench).finished)
 
     def test_interrupted(self) -> None:
-        """What an interrupt keeps from being written, the next call writes."""
+        """What an interrupt keeps from being written, the next call writes. Nobody was told that the first session holds: so it let go."""
         bench = self.opened()
         session = self.asked(bench, "a")
         real = _journal._pwrite
@@ -551,8 +551,12 @@ class Failing(Journals):
 
         with mock.patch.object(_journal, "_pwrite", interrupted), self.assertRaises(KeyboardInterrupt):
             session.acquire()
-        self.assertTrue(session.held)
-        session.release()
+        self.assertEqual((session.state, bench.lapsed), ("lapsed", (("a", 1),)))
+        session = self.asked(bench, "a")
+        session.acquire()
+        with mock.patch.object(_journal, "_pwrite", interrupted), self.assertRaises(KeyboardInterrupt):
+            session.release()
+        self.assertEqual((session.number, session.state), (2, "finished"))
         report = self.finished(bench)
         self.assertTrue(report.finished)
         self.assertEqual(self.opened().close().text, report.text)
