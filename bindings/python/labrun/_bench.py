@@ -1282,6 +1282,8 @@ class Bench:
         for other in self._members(self._waiting):
             if self._needs_of(other, job):
                 self._rouse(other)
+        if self._others:
+            self._rouse_others()
 
     def _needs_of(self, job: Job, other: Job) -> bool:
         """Whether a job asked for an instrument of another's session."""

@@ -11,6 +11,8 @@ from __future__ import annotations
 import asyncio
 import ctypes
 import errno
+import math
+import threading
 import weakref
 from dataclasses import dataclass, field
 from typing import Any, Callable, Iterable, Mapping, NamedTuple, Optional, TypeVar, Union
@@ -90,7 +92,7 @@ class Hold(Session, Waiter):
     """A session of `Job.hold`: it is added when it is entered, or acquired. Before, `number` is 0; with `any_of`, `instruments` are then none. One
     whose time is over is given up. Else it is as any session."""
 
-    __slots__ = ("_choices", "_limit", "_seconds", "_passed", "_since", "_adds")
+    __slots__ = ("_choices", "_limit", "_seconds", "_passed", "_since", "_adds", "_wakes")
 
     def __init__(self, job: Job, choices: tuple[Kind, ...], timeout: Optional[float], patience: Optional[float], limit: Optional[float]) -> None:
         self.job = job
@@ -103,6 +105,8 @@ class Hold(Session, Waiter):
         self._limit = limit
         self._seconds = patience
         self._since = 0.0
+        # until when it sleeps, if it isn't added yet
+        self._wakes = math.inf
         if len(choices) == 1:
             self.instruments, self.commands, self.patience = choices[0][2]
         else:
@@ -217,6 +221,8 @@ class Hold(Session, Waiter):
         if job._in or job._last < len(job._plan):
             _comes_next(job, bench)
         kind = self._choice(bench)
+        if kind is None and bench._limited and self._takes_overdue(bench):
+            kind = self._choice(bench)
         if kind is None:
             if any(isinstance(other, Hold) and other is not self and other.job is job for other in bench._others):
                 raise LabrunError(f"another thread waits for a session of {job.name}")
@@ -251,7 +257,33 @@ class Hold(Session, Waiter):
     def is_ready(self, bench: Bench) -> bool:
         if bench._used is None:
             bench._used = _used(bench)
-        return self._choice(bench, bench._used) is not None
+        if self._choice(bench, bench._used) is not None:
+            return True
+        # (or it has to wake earlier than it is going to)
+        return bool(bench._limited) and self._by_limits(bench, _now())[0] < self._wakes
+
+    def _by_limits(self, bench: Bench, now: float) -> tuple[float, list[Job]]:
+        """When the limits on holding let one of its choices be free, and who holds it until then; of several that would be free at the same time,
+        or now, the first. One that somebody holds without a limit, or is in line for, has no such time."""
+        found: tuple[float, list[Job]] = math.inf, []
+        users = _users(bench)
+        for kind in self._choices:
+            its = [job for job in users if not set(kind.plan[0]).isdisjoint(job._plan[job._in - 1][0])]
+            ends = max((max(now, job._due) if bench._limited & job._bit else math.inf for job in its), default=math.inf)
+            if ends < found[0]:
+                found = ends, its
+        return found
+
+    def _takes_overdue(self, bench: Bench) -> bool:
+        """Takes away what has been held for longer than its limit, if one of its choices is free by that. Whether it did."""
+        now = _now()
+        ends, jobs = self._by_limits(bench, now)
+        if ends > now:
+            return False
+        for job in jobs:
+            bench._take_away(job)
+        bench._settle()
+        return True
 
     def passed_by(self, instruments: tuple[str, ...]) -> None:
         if len(self._choices) > 1:
@@ -266,7 +298,10 @@ class Hold(Session, Waiter):
         if until is not None and now >= until:
             raise TimeoutError(self, self._kept(bench))
         ends = [it for it in (until, None if self._seconds is None else self._since + self._seconds) if it is not None]
-        return min(ends) - now if ends else -1
+        if bench._limited:
+            ends.append(self._by_limits(bench, now)[0])
+        self._wakes = min(ends, default=math.inf)
+        return -1 if self._wakes == math.inf else min(max(0.0, self._wakes - now), threading.TIMEOUT_MAX)
 
     def _kept(self, bench: Bench) -> tuple[Keeper, ...]:
         """Who keeps its choices from it."""
@@ -325,14 +360,15 @@ class Hold(Session, Waiter):
                 self.state = "withdrawn"
 
 
+def _users(bench: Bench) -> list[Job]:
+    """The jobs that are in line, or hold. (With the mutex held.)"""
+    # (one that was left and holds lets go as soon as somebody waits)
+    return [it for it in bench._jobs if it._in and bench._outside_of(it) is None and not (bench._left & it._bit and bench._holds(it))]
+
+
 def _used(bench: Bench) -> set[str]:
-    """The instruments that aren't free: those of jobs that are in line, or hold. (With the mutex held.)"""
-    used: set[str] = set()
-    for job in bench._jobs:
-        # (one that was left and holds lets go as soon as somebody waits)
-        if job._in and bench._outside_of(job) is None and not (bench._left & job._bit and bench._holds(job)):
-            used.update(job._plan[job._in - 1][0])
-    return used
+    """The instruments that aren't free. (With the mutex held.)"""
+    return {name for job in _users(bench) for name in job._plan[job._in - 1][0]}
 
 
 class _More(Waiter):
