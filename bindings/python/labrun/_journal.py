@@ -112,7 +112,8 @@ class Journal:
             self._begins()
         try:
             self._write()
-            if self._syncs and not is_there:
+            # (also where it was there: whoever began it may have died before this)
+            if self._syncs:
                 _sync_folder(self.path)
         except OSError as fault:
             freed(calls, handle)
