@@ -139,8 +139,8 @@ class Session:
     `number` counts the job's sessions from 1, `instruments` are the names of those that it needs, in the order in which the script first
     names them, `commands` what it does with them, `patience` is the script's, in turns, None if it has none. `state` is `new`; `waiting`, for
     its instruments; `held`; `finished`, with its commands logged; `withdrawn`, with none; `asked`: a time limit passed, and it keeps its place
-    in the line; `left`: it was given up but may not be withdrawn; `lapsed`: it was left, its turn came while somebody waited, and so its
-    commands were logged though nobody did its work; `taken`: it was ended for its owner. `done` is how many of its commands are done;
+    in the line; `left`: it was given up but may not be withdrawn; `lapsed`: it was given up, but held by then or came to hold later, and so it
+    let go, and its commands were logged though nobody did its work; `taken`: it was ended for its owner. `done` is how many of its commands are done;
     `resumed`, whether it held its instruments when the process died that had the journal before: then it is held as it is offered."""
 
     __slots__ = ("job", "number", "timeout", "instruments", "commands", "patience", "state", "done", "resumed")
@@ -177,8 +177,8 @@ class Session:
         After `timeout` seconds it raises TimeoutError, which says who keeps it waiting. The session keeps its place in the line, and may
         come to its instruments meanwhile (unless it is still outside): acquire it again, or `give_up`. Withdrawn: its patience ran out.
         TakenAway: it was ended for its owner. WouldBlock: it would have to wait, and a loop of asyncio runs on this thread. Any other exception
-        that comes before this returns, KeyboardInterrupt among them, gives it up (`give_up`). If it came to hold just then, it lets go at once:
-        its commands are logged, and `Bench.lapsed` names it."""
+        that comes before this returns, KeyboardInterrupt among them, gives it up, as `give_up` does; if it came to hold just then, it lapses at
+        once. (One that held before the call goes on to hold.)"""
         job, was_held = self.job, self.state == "held"
         bench = job.bench
         try:
@@ -374,11 +374,15 @@ class Session:
         return TakenAway(self)
 
     def give_up(self) -> None:
-        """Gives the session up, if it asked and isn't held or over. It is withdrawn if it has a patience: it logs nothing.
+        """Gives the session up, if it asked and isn't held or over. By that it never comes to hold. It is withdrawn if it has a patience: it logs
+        nothing.
 
         One without patience that is still outside is `new` again, as if it had never asked. In line, it can't leave. It is `left` then: nobody
-        comes for it, but its turn may come; if somebody waits then, its commands are logged, though nobody did its work, and it lets go
-        (`lapsed`, and `Bench.lapsed` names it). Acquired before, it is as any other."""
+        comes for it, but its turn may come. Once somebody waits then, or at the close, it lapses: it lets go, its commands are logged, though
+        nobody did its work, and `Bench.lapsed` names it. Acquired before, it is as any other.
+
+        One whose turn in the line came before this call, while nobody looked, can't be withdrawn, with a patience or without: it lapses at
+        once."""
         ticket = self._give_up()
         if ticket is not None:
             self.job.bench._commit(ticket)
@@ -416,8 +420,9 @@ class Session:
         return Entry(job.name, entry.session, entry.place, entry.length, verb, number, entry.value)
 
     def withdraw(self) -> None:
-        """Gives the session up while it waits, and wakes who waits for it; only if it has a patience. NotHeld says that it may not be: it
-        holds, it never asked, or it has no patience (`give_up` is for that)."""
+        """Gives the session up while it waits, and wakes who waits for it; only if it has a patience. By that it never comes to hold. NotHeld says
+        that it may not be: it holds, it never asked, or it has no patience (`give_up` is for that). One that holds though nobody was told, since
+        its turn in the line came while nobody looked, goes on to hold: acquire it, or give it up."""
         job = self.job
         bench = job.bench
         with bench._mutex, bench._mending:
@@ -635,12 +640,14 @@ class Job:
         `commands=[("scope", "set", 5), ("supply", "read")]`; instruments that these don't name are read.
 
         It waits as any session does. After `timeout` seconds TimeoutError says who keeps it waiting, after `patience` seconds Withdrawn does;
-        in both cases, and by any other exception while it waits, it is given up: it is `withdrawn`, and logs nothing. `limit` is one on
-        holding, as in `next_session`.
+        in both cases, and by any other exception while it waits, it is given up: it is `withdrawn`, and logs nothing. If such an exception comes
+        just as it comes to hold, a cancelled task among them, it lets go at once: it is `lapsed`, and its commands are logged. `limit` is one
+        on holding, as in `next_session`.
 
         `any_of=[("load-1",), ("load-2",)]` takes the first of these that is free, and its `instruments` say which it took. If none is free it
         waits until one is; and once so many sessions as `Bench.overtakes` says have come to hold instruments of one of them meanwhile, it
-        asks for that one alone.
+        asks for that one alone. Of sessions that are over their limit on holding it takes away those that keep a choice from it, the first
+        choice that is free by that.
 
         A job is in one session at a time: threads that hold at once need a job each. MayNotUse, Retired and Full say why a session can't be
         added.
@@ -859,8 +866,8 @@ class Bench:
 
     @property
     def lapsed(self) -> tuple[tuple[str, int], ...]:
-        """The sessions, as (job, number), that were given up without a patience and whose turn came: their commands are in the logs, and
-        nobody did their work."""
+        """The sessions, as (job, number), that were given up in line, and whose turn came, or that held already as they were given up: their
+        commands are in the logs, and nobody did their work."""
         with self._mutex:
             return tuple(self._lapsed)
 
@@ -997,7 +1004,7 @@ class Bench:
 
     def close(self) -> Report:
         """Closes the bench, and gives its report. A session that is held then stays unfinished in it, and held in the journal, if there is
-        one. A second call gives the report again."""
+        one; one that was left, and holds, lapses. A second call gives the report again."""
         while True:
             with self._mutex:
                 if self._stands != _CLOSED:

@@ -118,7 +118,7 @@ class Hold(Session, Waiter):
 
     def acquire(self, timeout: Optional[float] = None) -> None:
         """Adds the session, and blocks until it holds all its instruments. After `timeout` seconds TimeoutError says who keeps it waiting, and it
-        is given up; so it is by any other exception that comes while it waits."""
+        is given up; so it is by any other exception that comes before this returns."""
         if self.number:
             return super().acquire(timeout)
         job = self.job
