@@ -394,7 +394,10 @@ class Session:
             if bench._stands > _STOPPED:
                 return None
             bench._look_over()
-            if job._in != self.number or self.state == "held" and not also_held:
+            # (one that is told that it holds, and whose thread isn't awake yet, is held: that thread is about to work)
+            one = job._session
+            is_held = one is not None and one.number == self.number and (one.state == "held" or one.state == "waiting" and bool(job._outcome))
+            if job._in != self.number or is_held and not (also_held and one is self):
                 return None
             bench._leaves(job, self)
             return bench._ticket()

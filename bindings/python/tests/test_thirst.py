@@ -755,11 +755,11 @@ class GivenUp(unittest.TestCase):
                     pass
             self.assertTrue(bench.report.finished)
 
-    def test_given_up_by_another_just_as_it_holds(self) -> None:
-        """And taken away: its thread isn't awake yet, and is told what became of it."""
+    def test_another_comes_just_as_it_holds(self) -> None:
+        """Its thread is told that it holds, and isn't awake yet. Who gives it up comes too late; if it is taken away, its thread is told that."""
 
-        async def main(ends: Callable[[labrun.Session], object], kind: type[BaseException], state: str) -> None:
-            for bench in (labrun.Bench.from_text(self.SCRIPTS["new"]), labrun.Bench.new({"a": ["scale"], "b": ["scale"]})):
+        async def main(ends: Callable[[labrun.Session], object], is_taken: bool) -> None:
+            for bench in (labrun.Bench.from_text(self.SCRIPTS["withdrawn"]), labrun.Bench.new({"a": ["scale"], "b": ["scale"]})):
                 with bench:
                     first, second = (bench.jobs[name].hold("scale") if bench._is_endless else asked(bench, name) for name in "ab")
                     first.acquire()
@@ -768,12 +768,31 @@ class GivenUp(unittest.TestCase):
                         await asyncio.sleep(0)
                     first.release()
                     ends(second)
-                    with self.assertRaises(kind):
+                    if is_taken:
+                        with self.assertRaises(labrun.TakenAway):
+                            await task
+                        self.assertEqual((second.state, second.job.state.holds), ("taken", False))
+                    else:
                         await task
-                    self.assertEqual((second.state, second.job.state.holds), (state, False))
+                        self.assertTrue(second.held and second.job.state.holds)
+                        second.release()
 
-        asyncio.run(main(labrun.Session.give_up, labrun.NotHeld, "lapsed"))
-        asyncio.run(main(lambda session: session.job.bench.take_away("b"), labrun.TakenAway, "taken"))
+        def withdraws(session: labrun.Session) -> None:
+            with self.assertRaisesRegex(labrun.NotHeld, "session [12] of b is held: it can't be withdrawn"):
+                session.withdraw()
+
+        asyncio.run(main(labrun.Session.give_up, False))
+        asyncio.run(main(withdraws, False))
+        asyncio.run(main(lambda session: session.job.bench.take_away("b"), True))
+
+    def test_one_that_was_offered_twice(self) -> None:
+        """Of two that are the same session, the one that never asked isn't the other's to give up."""
+        with labrun.Bench.from_text(TWO) as bench:
+            first, second = asked(bench, "a"), asked(bench, "a")
+            first.acquire()
+            second.give_up()
+            self.assertTrue(first.held and bench.jobs["a"].state.holds)
+            first.release()
 
 
 if __name__ == "__main__":
