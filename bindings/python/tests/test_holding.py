@@ -480,8 +480,11 @@ class AnyOf(OnBay):
                 drive = self.held(bench, "drive", "load-1", "load-2", limit=0.05)
                 time.sleep(pause)
                 self.assertTrue(drive.held)
-                with bench.job("host").hold(any_of=self.either, timeout=LIMIT) as session:
-                    self.assertEqual((session.instruments, bench.taken, drive.state), (("load-1",), (("drive", 2),), "taken"))
+                # (it has no time limit, at which it would look again)
+                session = bench.job("host").hold(any_of=self.either)
+                back(in_thread(session.acquire))
+                self.assertEqual((session.instruments, bench.taken, drive.state), (("load-1",), (("drive", 2),), "taken"))
+                session.release()
                 with self.assertRaises(labrun.TakenAway):
                     drive.release()
             self.assertTrue(bench.report.finished)
@@ -490,8 +493,10 @@ class AnyOf(OnBay):
         async def main() -> None:
             with self.bay() as bench:
                 drive = self.held(bench, "drive", "load-1", "load-2", limit=0.05)
-                async with bench.job("host").hold(any_of=self.either, timeout=LIMIT) as session:
-                    self.assertEqual((session.instruments, bench.taken, drive.state), (("load-1",), (("drive", 2),), "taken"))
+                session = bench.job("host").hold(any_of=self.either)
+                await asyncio.wait_for(session.acquire_async(), LIMIT)
+                self.assertEqual((session.instruments, bench.taken, drive.state), (("load-1",), (("drive", 2),), "taken"))
+                session.release()
                 with self.assertRaises(labrun.TakenAway):
                     drive.release()
 
