@@ -548,7 +548,10 @@ class GivenUp(unittest.TestCase):
     """Sessions that are given up, also where their instruments have come free, or are theirs already."""
 
     # three jobs, one instrument; b's session may be withdrawn, or not
-    SCRIPTS = {state: "lab 2\njob a\nsession\nscale add 5\nend\njob b\n" + line + "\nscale add 7\nend\njob c\nsession\nscale read\nend\n" for state, line in (("withdrawn", "session patience 999999"), ("new", "session"))}
+    SCRIPTS = {
+        state: f"lab 2\njob a\nsession\nscale add 5\nend\njob b\n{session}\nscale add 7\nend\njob c\nsession\nscale read\nend\n"
+        for state, session in (("withdrawn", "session patience 999999"), ("new", "session"))
+    }
 
     def asked_in_vain(self, script: str, overtakes: int = 9) -> tuple[labrun.Bench, labrun.Session]:
         """b has asked for the scale while a held it, and a has let go."""
@@ -784,6 +787,29 @@ class GivenUp(unittest.TestCase):
         asyncio.run(main(labrun.Session.give_up, False))
         asyncio.run(main(withdraws, False))
         asyncio.run(main(lambda session: session.job.bench.take_away("b"), True))
+
+    def test_taken_away_by_one_who_is_interrupted(self) -> None:
+        """Its thread was told that it holds, and isn't awake yet: it doesn't go to work."""
+
+        async def main() -> None:
+            with labrun.Bench.new({"a": ["x"], "b": ["x"]}) as bench:
+                first, second = bench.jobs["a"].hold("x"), bench.jobs["b"].hold("x")
+                first.acquire()
+                task = asyncio.create_task(second.acquire_async())
+                while second.state != "waiting":
+                    await asyncio.sleep(0)
+                first.release()
+
+                def interrupted(*given: Any) -> None:
+                    raise KeyboardInterrupt
+
+                with mock.patch.object(bench, "_comes_to", interrupted), self.assertRaises(KeyboardInterrupt):
+                    bench.take_away("b")
+                with self.assertRaises(labrun.TakenAway):
+                    await task
+                self.assertEqual((second.state, bench.taken, bench.jobs["b"].state.holds), ("taken", (("b", 2),), False))
+
+        asyncio.run(main())
 
     def test_one_that_was_offered_twice(self) -> None:
         """Of two that are the same session, the one that never asked isn't the other's to give up."""
