@@ -22,8 +22,8 @@ from typing import Any, Awaitable, Callable, Iterable, Iterator, Mapping, Option
 
 from ._faults import Closed, JournalError, LabrunError, NotHeld, OtherProcess, StillHeld, Stopped, TakenAway, TimeoutError, Withdrawn, WouldBlock
 from ._journal import Journal, Kept, Path, Ticket
-from ._library import NO_SUCH, NOT_NOW, SESSIONS_LEFT, Came, Entered, Handle, Keepers, Library, Outside, Planned, SessionOf, Size, State, Told, Turned
-from ._library import library
+from ._library import NOT_NOW, SESSIONS_LEFT, Came, Entered, Handle, Keepers, Library, Outside, Planned, SessionOf, Size, State, Told, Turned
+from ._library import freed, library, unexpected
 from ._report import Entry, Report, Text, as_bytes, told_bytes, told_fault, told_text
 
 VERBS = ("set", "add", "read")
@@ -35,6 +35,9 @@ _HOLDS = (_DRINKING, _REACHING)
 # While sessions with a patience wait, one of them settles the bench after so many seconds, so that it does run out. Patience is in these,
 # and those of all who begin or let go: it is no measure of time.
 _TICK = 0.1
+
+# no session takes more turns until it is begun, if its job is in none (it takes three at most)
+_TURNS = 8
 
 # as a patience in turns: the largest that a script may have, which nobody counts to
 _FOREVER = 999999
@@ -136,8 +139,8 @@ class Session:
     `number` counts the job's sessions from 1, `instruments` are the names of those that it needs, in the order in which the script first
     names them, `commands` what it does with them, `patience` is the script's, in turns, None if it has none. `state` is `new`; `waiting`, for
     its instruments; `held`; `finished`, with its commands logged; `withdrawn`, with none; `asked`: a time limit passed, and it keeps its place
-    in the line; `left`: it was given up but may not be withdrawn; `lapsed`: it was left, its turn came while somebody waited, and so its
-    commands were logged though nobody did its work; `taken`: it was ended for its owner. `done` is how many of its commands are done;
+    in the line; `left`: it was given up but may not be withdrawn; `lapsed`: it was given up, but held by then or came to hold later, and so it
+    let go, and its commands were logged though nobody did its work; `taken`: it was ended for its owner. `done` is how many of its commands are done;
     `resumed`, whether it held its instruments when the process died that had the journal before: then it is held as it is offered."""
 
     __slots__ = ("job", "number", "timeout", "instruments", "commands", "patience", "state", "done", "resumed")
@@ -174,8 +177,9 @@ class Session:
         After `timeout` seconds it raises TimeoutError, which says who keeps it waiting. The session keeps its place in the line, and may
         come to its instruments meanwhile (unless it is still outside): acquire it again, or `give_up`. Withdrawn: its patience ran out.
         TakenAway: it was ended for its owner. WouldBlock: it would have to wait, and a loop of asyncio runs on this thread. Any other exception
-        that comes while it waits, KeyboardInterrupt among them, gives it up."""
-        job = self.job
+        that comes before this returns, KeyboardInterrupt among them, gives it up, as `give_up` does; if it came to hold just then, it lapses at
+        once. (One that held before the call goes on to hold.)"""
+        job, was_held = self.job, self.state == "held"
         bench = job.bench
         try:
             until = None if timeout is None else _now() + timeout
@@ -187,7 +191,7 @@ class Session:
             if ticket is not None:
                 self._is_kept(ticket)
         except BaseException as fault:
-            self._left_by(fault)
+            self._left_by(fault, was_held)
             raise
 
     def _is_kept(self, ticket: Ticket) -> None:
@@ -198,7 +202,8 @@ class Session:
         """Sleeps until the session holds, or has an end in another way."""
         if asyncio._get_running_loop() is not None and timeout != 0:
             with bench._mutex:
-                if not self._came(job) and self._asked(job):
+                if not self._came(job):
+                    self._asked(job)
                     raise WouldBlock(self)
                 return bench._ticket()
         while True:
@@ -215,7 +220,7 @@ class Session:
     async def acquire_async(self, timeout: Optional[float] = None) -> None:
         """As `acquire`, for a task of asyncio: other tasks go on meanwhile. A task that is cancelled while it waits leaves the session as
         KeyboardInterrupt does."""
-        job = self.job
+        job, was_held = self.job, self.state == "held"
         bench = job.bench
         until = None if timeout is None else _now() + timeout
         loop, event = asyncio.get_running_loop(), asyncio.Event()
@@ -246,7 +251,7 @@ class Session:
             if ticket is not None:
                 self._is_kept(ticket)
         except BaseException as fault:
-            self._left_by(fault)
+            self._left_by(fault, was_held)
             raise
 
     def _span(self, until: Optional[float]) -> float:
@@ -280,19 +285,17 @@ class Session:
                     return True
             # (outside the library doesn't count it)
             if bench._settles - job._settles >= self.patience and bench._outside_of(job) is not None:
-                bench._leaves(job, self, True)
+                bench._leaves(job, self)
                 return self._came(job)
         if bench._limited and bench._takes_overdue() and self._came(job):
             return True
         if job._patience is not None and _now() >= job._asked + job._patience:
             keepers = bench._keepers(job)
-            if not bench._leaves(job, self, True):
-                return self._came(job)
+            bench._leaves(job, self)
             raise Withdrawn(self, job._patience, keepers)
         if until is not None and _now() >= until:
             keepers = bench._keepers(job)
-            if not self._asked(job):
-                return self._came(job)
+            self._asked(job)
             raise TimeoutError(self, keepers)
         return False
 
@@ -306,22 +309,20 @@ class Session:
             return True
         if job._untold is self:
             raise self._taken_away()
-        if self.state in ("left", "new"):
+        if self.state in ("left", "new", "lapsed"):
             raise NotHeld(f"session {self.number} of {job.name} was given up")
         self.state = "withdrawn"
         raise Withdrawn(self)
 
-    def _asked(self, job: Job) -> bool:
-        """It waits no longer, and keeps its place in the line. Whether it waits no longer: one of a kind that is given up may come to hold by
-        that."""
+    def _asked(self, job: Job) -> None:
+        """It waits no longer, and keeps its place in the line."""
         self.state = "asked"
         job.bench._waiting &= ~job._bit
-        return True
 
-    def _left_by(self, fault: BaseException) -> None:
-        """Gives the session up, but for a fault that says itself what became of it."""
+    def _left_by(self, fault: BaseException, was_held: bool) -> None:
+        """Gives the session up, also where it came to hold just now, but for a fault that says itself what became of it."""
         if not isinstance(fault, LabrunError) or isinstance(fault, Stopped):
-            self._give_up()
+            self._give_up(not was_held)
 
     def release(self) -> None:
         """Logs the session's commands that are left, and lets its instruments go. NotHeld if it doesn't hold them."""
@@ -335,9 +336,10 @@ class Session:
                     if job._in != self.number or self.state == "finished":
                         raise self._not_held()
                     bench._torn = True
-                    if bench._lab_end(bench._at, job.index, bench._turned_at):
+                    status = bench._lab_end(bench._at, job.index, bench._turned_at)
+                    if status:
                         bench._torn = False
-                        raise self._not_held()
+                        raise self._not_held() if status == NOT_NOW else unexpected("lab_end", status)
                     job._in = 0
                     self.state, self.done = "finished", len(self.commands)
                     if bench._limited:
@@ -372,25 +374,32 @@ class Session:
         return TakenAway(self)
 
     def give_up(self) -> None:
-        """Gives the session up, if it asked and isn't held or over. It is withdrawn if it has a patience: it logs nothing.
+        """Gives the session up, if it asked and isn't held or over. By that it never comes to hold. It is withdrawn if it has a patience: it logs
+        nothing.
 
         One without patience that is still outside is `new` again, as if it had never asked. In line, it can't leave. It is `left` then: nobody
-        comes for it, but its turn may come; if somebody waits then, its commands are logged, though nobody did its work, and it lets go
-        (`lapsed`, and `Bench.lapsed` names it). Acquired before, it is as any other."""
+        comes for it, but its turn may come. Once somebody waits then, or at the close, it lapses: it lets go, its commands are logged, though
+        nobody did its work, and `Bench.lapsed` names it. Acquired before, it is as any other.
+
+        One whose turn in the line came before this call, while nobody looked, can't be withdrawn, with a patience or without: it lapses at
+        once."""
         ticket = self._give_up()
         if ticket is not None:
             self.job.bench._commit(ticket)
 
-    def _give_up(self) -> Optional[Ticket]:
+    def _give_up(self, also_held: bool = False) -> Optional[Ticket]:
         job = self.job
         bench = job.bench
         with bench._mutex, bench._mending:
             if bench._stands > _STOPPED:
                 return None
             bench._look_over()
-            if job._in != self.number or self.state == "held":
+            # (one that is told that it holds, and whose thread isn't awake yet, is held: that thread is about to work)
+            one = job._session
+            is_held = one is not None and one.number == self.number and (one.state == "held" or one.state == "waiting" and bool(job._outcome))
+            if job._in != self.number or is_held and not (also_held and one is self):
                 return None
-            bench._leaves(job, self, False)
+            bench._leaves(job, self)
             return bench._ticket()
 
     def command(self) -> Optional[Entry]:
@@ -401,7 +410,7 @@ class Session:
             bench._look_over()
             if job._in != self.number:
                 raise self._not_held()
-            if bench._call("lab_command", job.index, ctypes.byref(entry)) == NOT_NOW:
+            if not bench._may("lab_command", job.index, ctypes.byref(entry)):
                 if bench._state_of(job.index).drinking not in _HOLDS:
                     raise self._not_held()
                 return None
@@ -414,15 +423,17 @@ class Session:
         return Entry(job.name, entry.session, entry.place, entry.length, verb, number, entry.value)
 
     def withdraw(self) -> None:
-        """Gives the session up while it waits, and wakes who waits for it; only if it has a patience. NotHeld says that it may not be: it
-        holds, it never asked, or it has no patience (`give_up` is for that)."""
+        """Gives the session up while it waits, and wakes who waits for it; only if it has a patience. By that it never comes to hold. NotHeld says
+        that it may not be: it holds, it never asked, or it has no patience (`give_up` is for that). One that holds though nobody was told, since
+        its turn in the line came while nobody looked, goes on to hold: acquire it, or give it up."""
         job = self.job
         bench = job.bench
         with bench._mutex, bench._mending:
             bench._look_over()
-            waits = job._in == self.number and not bench._holds(job) and self.patience is not None
-            if not (waits and bench._leaves(job, self, True)):
-                raise NotHeld(f"session {self.number} of {job.name} is {self.state}: it can't be withdrawn")
+            holds = job._in == self.number and bench._holds(job)
+            if job._in != self.number or holds or self.patience is None:
+                raise NotHeld(f"session {self.number} of {job.name} is {'held' if holds else self.state}: it can't be withdrawn")
+            bench._leaves(job, self)
             ticket = bench._ticket()
         if ticket is not None:
             bench._commit(ticket)
@@ -454,9 +465,8 @@ class Session:
         try:
             self.acquire(self.timeout)
             return self
-        except KeyboardInterrupt:
-            if self.held:
-                self.release()
+        except BaseException as fault:
+            self._not_entered(fault)
             raise
 
     def __exit__(self, kind: Optional[type[BaseException]], fault: Optional[BaseException], at: Optional[TracebackType]) -> None:
@@ -467,9 +477,18 @@ class Session:
         elif self.job._untold is self:
             raise self._taken_away()
 
+    def _not_entered(self, fault: BaseException) -> None:
+        """The block isn't entered, so nobody is at work in it."""
+        if self.held and not isinstance(fault, LabrunError):
+            self.release()
+
     async def __aenter__(self) -> Session:
-        await self.acquire_async(self.timeout)
-        return self
+        try:
+            await self.acquire_async(self.timeout)
+            return self
+        except BaseException as fault:
+            self._not_entered(fault)
+            raise
 
     async def __aexit__(self, kind: Optional[type[BaseException]], fault: Optional[BaseException], at: Optional[TracebackType]) -> None:
         self.__exit__(kind, fault, at)
@@ -627,12 +646,14 @@ class Job:
         `commands=[("scope", "set", 5), ("supply", "read")]`; instruments that these don't name are read.
 
         It waits as any session does. After `timeout` seconds TimeoutError says who keeps it waiting, after `patience` seconds Withdrawn does;
-        in both cases, and by any other exception while it waits, it is given up: it is `withdrawn`, and logs nothing. `limit` is one on
-        holding, as in `next_session`.
+        in both cases, and by any other exception while it waits, it is given up: it is `withdrawn`, and logs nothing. If such an exception comes
+        just as it comes to hold, a cancelled task among them, it lets go at once: it is `lapsed`, and its commands are logged. `limit` is one
+        on holding, as in `next_session`.
 
         `any_of=[("load-1",), ("load-2",)]` takes the first of these that is free, and its `instruments` say which it took. If none is free it
         waits until one is; and once so many sessions as `Bench.overtakes` says have come to hold instruments of one of them meanwhile, it
-        asks for that one alone.
+        asks for that one alone. Of sessions that are over their limit on holding it takes away those that keep a choice from it, the first
+        choice that is free by that.
 
         A job is in one session at a time: threads that hold at once need a job each. MayNotUse, Retired and Full say why a session can't be
         added.
@@ -719,7 +740,7 @@ class Bench:
         else:
             self._journal = Journal(journal, given, sync, _new_lock)
             calls, self.resumed = self._journal.open(library(), handle)
-        self._finalizer = weakref.finalize(self, _freed, calls, handle)
+        self._finalizer = weakref.finalize(self, freed, calls, handle)
         self._process = os.getpid()
         self._calls = calls
         self._at = ctypes.byref(handle)
@@ -739,6 +760,8 @@ class Bench:
         self._left = 0
         # the jobs that hold with a limit
         self._limited = 0
+        # the session that is being withdrawn, as its job and its number
+        self._withdrawing: Optional[tuple[Job, int]] = None
         self._ticked = 0.0
         self._settles = 0
         self._lapsed: list[tuple[str, int]] = []
@@ -849,8 +872,8 @@ class Bench:
 
     @property
     def lapsed(self) -> tuple[tuple[str, int], ...]:
-        """The sessions, as (job, number), that were given up without a patience and whose turn came: their commands are in the logs, and
-        nobody did their work."""
+        """The sessions, as (job, number), that were given up in line, and whose turn came, or that held already as they were given up: their
+        commands are in the logs, and nobody did their work."""
         with self._mutex:
             return tuple(self._lapsed)
 
@@ -987,11 +1010,12 @@ class Bench:
 
     def close(self) -> Report:
         """Closes the bench, and gives its report. A session that is held then stays unfinished in it, and held in the journal, if there is
-        one. A second call gives the report again."""
+        one; one that was left, and holds, lapses. A second call gives the report again."""
         while True:
             with self._mutex:
                 if self._stands != _CLOSED:
                     self._look_over()
+                    self._ends_left()
                     # (one may owe a meal, for which it needs forks that others give once they have let go)
                     while not _holding.goes_on(self) and any([self._retire(job) for job in self._jobs]):
                         pass
@@ -1037,14 +1061,18 @@ class Bench:
     def _is_written(self) -> bool:
         return self._journal is not None and self._journal.is_written()
 
-    def _call(self, name: str, *given: Any) -> int:
-        """A call that answers 0 or 8; another status is an exception."""
+    def _call(self, name: str, *given: Any) -> None:
+        """A call that is to be done; every status but 0 is an exception."""
         status = self._calls[name](self._at, *given)
-        if status in (0, NOT_NOW):
-            return status
-        if status == NO_SUCH:
-            raise IndexError(f"{name}: no such job, session or instrument")
-        raise LabrunError(f"{name}: status {status}")
+        if status:
+            raise unexpected(name, status)
+
+    def _may(self, name: str, *given: Any) -> bool:
+        """A call that may answer 8, that it can't be done now; whether it was done. Another status is an exception."""
+        status = self._calls[name](self._at, *given)
+        if status not in (0, NOT_NOW):
+            raise unexpected(name, status)
+        return status == 0
 
     def _name(self, call: str, index: int) -> str:
         name, written = ctypes.create_string_buffer(16), ctypes.c_size_t()
@@ -1082,8 +1110,9 @@ class Bench:
             job._in = job._last = session.number
         job._session = session
         self._torn = True
-        if self._lab_settle(self._at, self._waiting | job._bit, self._came_at):
-            raise LabrunError("lab_settle: a status that it doesn't have")
+        status = self._lab_settle(self._at, self._waiting | job._bit, self._came_at)
+        if status:
+            raise unexpected("lab_settle", status)
         holds = self._came.holds
         self._settles += 1
         if holds & job._bit and not (holds & (self._waiting | self._left) or self._has_patience and self._came.given_up):
@@ -1139,12 +1168,17 @@ class Bench:
         job._in = job._last = number
         return False
 
+    def _does_all(self, waiting: int) -> None:
+        """`lab_settle`."""
+        status = self._lab_settle(self._at, waiting, self._came_at)
+        if status:
+            raise unexpected("lab_settle", status)
+
     def _settle(self) -> None:
         """All that can be done is done, and those are woken whose sessions came to hold by it."""
         self._torn = True
         self._settles += 1
-        if self._lab_settle(self._at, self._waiting, self._came_at):
-            raise LabrunError("lab_settle: a status that it doesn't have")
+        self._does_all(self._waiting)
         self._tell()
 
     def _tell(self) -> None:
@@ -1159,10 +1193,8 @@ class Bench:
             if not (holds & self._left and self._waiting):
                 break
             for job in self._members(holds & self._left):
-                self._call("lab_end", job.index, self._turned_at)
-                self._comes_to(job, False, "lapsed")
-            if self._lab_settle(self._at, self._waiting, self._came_at):
-                raise LabrunError("lab_settle: a status that it doesn't have")
+                self._lapses(job)
+            self._does_all(self._waiting)
         self._torn = False
         if self._others:
             self._rouse_others()
@@ -1194,41 +1226,62 @@ class Bench:
         self._call("lab_outside", job.index, ctypes.byref(self._outside))
         return self._outside.passed if self._outside.is_outside else None
 
-    def _leaves(self, job: Job, session: Session, unless_held: bool) -> bool:
-        """A session that asked and doesn't hold is given up. One with a patience is withdrawn: if it is outside, it is let in for that, it
-        alone. Whether it left: `unless_held`, it doesn't if it came to hold by that."""
+    def _leaves(self, job: Job, session: Session) -> None:
+        """A session that asked is given up, and doesn't come to hold by that. One that holds already lets go at once."""
+        state, number = self._state_of(job.index), session.number
+        is_begun, holds = state.session == number, state.drinking in _HOLDS
         self._torn = True
         job._session = session
-        if session.patience is not None and self._outside_of(job) is not None:
-            self._call("lab_overtakes", 0)
-            try:
-                if self._lab_settle(self._at, job._bit, self._came_at):
-                    raise LabrunError("lab_settle: a status that it doesn't have")
-            finally:
-                self._call("lab_overtakes", self._overtakes)
-            holds = self._came.holds & job._bit
-            if not unless_held:
-                self._waiting &= ~job._bit
-            self._tell()
-            if holds and unless_held:
-                return False
-            if job._in != session.number:  # a patience of no turns was used up by that
-                return True
-            self._torn = True
-        is_outside = session.patience is None and self._outside_of(job) is not None
-        if self._call("lab_withdraw", job.index) == NOT_NOW:
+        if is_begun and holds:
             self._comes_to(job, False, "left")
+            self._lapses(job)
+        elif is_begun and session.patience is None:
+            self._comes_to(job, False, "left")
+        elif session.patience is None:
+            # (8 where it was about to ask)
+            self._may("lab_withdraw", job.index)
+            self._comes_to(job, False, "new")
         else:
-            self._comes_to(job, False, "new" if is_outside else "withdrawn")
+            self._withdraws(job, number)
+            self._comes_to(job, False, "withdrawn")
         self._settle()
-        return True
+
+    def _withdraws(self, job: Job, number: int) -> None:
+        """A session that has a patience, and doesn't hold, is withdrawn. If it isn't begun, single turns begin it: with them it can't hold. (It takes
+        one, but for a meal that has to end first.) If an exception comes between, `_mend` goes on with it. `_settle` comes next."""
+        self._torn, self._withdrawing = True, (job, number)
+        if self._outside_of(job) is not None:
+            self._call("lab_withdraw", job.index)
+        turns = 0
+        while self._state_of(job.index).session < number:
+            if turns == _TURNS:
+                raise LabrunError(f"session {number} of {job.name} isn't begun after {turns} turns")
+            self._call("lab_turn", job.index, self._turned_at)
+            turns += 1
+        if self._state.drinking == _THIRSTY:
+            self._call("lab_withdraw", job.index)
+        self._withdrawing = None
+
+    def _lapses(self, job: Job) -> None:
+        """A session that was left holds: it lets go, and its commands are logged. `_settle` comes next."""
+        self._torn = True
+        self._call("lab_end", job.index, self._turned_at)
+        self._limited &= ~job._bit
+        self._comes_to(job, False, "lapsed")
+
+    def _ends_left(self) -> None:
+        """Nobody comes any more for the sessions that were left: those that hold let go, and others of them may hold by that."""
+        while found := [job for job in self._members(self._left) if self._holds(job)]:
+            for job in found:
+                self._lapses(job)
+            self._settle()
 
     def _take_away(self, job: Job) -> None:
         """Ends the session that a job holds. `_settle` comes next."""
         number, session = job._in, job._session
         self._torn = True
         job._untold = session if session is not None and session.number == number else Session(job, number, None)
-        if self._call("lab_end", job.index, self._turned_at):
+        if not self._may("lab_end", job.index, self._turned_at):
             job._untold = None
             raise NotHeld(f"{job.name} holds nothing")
         self._taken.append((job.name, number))
@@ -1242,6 +1295,8 @@ class Bench:
         for other in self._members(self._waiting):
             if self._needs_of(other, job):
                 self._rouse(other)
+        if self._others:
+            self._rouse_others()
 
     def _needs_of(self, job: Job, other: Job) -> bool:
         """Whether a job asked for an instrument of another's session."""
@@ -1293,7 +1348,8 @@ class Bench:
             self._call("lab_overtakes", self._overtakes)
             self._went_back(JournalError(self._journal.path, "a write failed while it waited"))
             return
-        self._call("lab_overtakes", self._overtakes)
+        if self._withdrawing is not None:
+            self._withdraws(*self._withdrawing)
         for job in self._jobs:
             is_outside = self._outside_of(job) is not None
             state, session = self._state_of(job.index), job._session
@@ -1313,8 +1369,10 @@ class Bench:
                 continue
             is_over = job._in != session.number and job._last >= session.number
             if session.state == "waiting":
-                if job._outcome is None and (is_over or holds):
-                    job._outcome = holds
+                if is_over:
+                    job._outcome = False
+                elif job._outcome is None and holds:
+                    job._outcome = True
                 if job._outcome is not None:
                     self._waiting &= ~job._bit
             elif is_over and session.state in ("held", "asked", "left"):
@@ -1343,7 +1401,7 @@ class Bench:
 
     def _went_back(self, fault: JournalError) -> None:
         """The bench is an earlier one: each session is what it was, and whoever waits gets this fault."""
-        self._left = 0
+        self._left, self._withdrawing = 0, None
         for job in self._jobs:
             state, session = self._state_of(job.index), job._session
             holds = state.drinking in _HOLDS
@@ -1448,7 +1506,7 @@ class Bench:
             return False
         status = self._calls["lab_retire"](self._at, job.index, 1, self._turned_at)
         if status not in (0, NOT_NOW, SESSIONS_LEFT):
-            raise LabrunError(f"lab_retire: status {status}")
+            raise unexpected("lab_retire", status)
         job._is_retired = status == 0
         return job._is_retired
 
@@ -1539,10 +1597,6 @@ def _members(numbers: int) -> list[int]:
         numbers ^= bit
         found.append(bit.bit_length() - 1)
     return found
-
-
-def _freed(calls: Union[Library, Kept], handle: Handle) -> None:
-    calls["lab_bench_free"](ctypes.byref(handle))
 
 
 # the benches of this process

@@ -11,20 +11,25 @@ from __future__ import annotations
 import asyncio
 import ctypes
 import errno
+import math
+import threading
 import weakref
 from dataclasses import dataclass, field
 from typing import Any, Callable, Iterable, Mapping, NamedTuple, Optional, TypeVar, Union
 
 from . import _bench
-from ._bench import _FOREVER, _RETIRED, _STOPPED, _THIRSTY, _TRANQUIL, VERBS, Bench, Command, Job, Keeper, NotBack, Session, _freed, _now
+from ._bench import _FOREVER, _RETIRED, _STOPPED, _THIRSTY, _TRANQUIL, VERBS, Bench, Command, Job, Keeper, NotBack, Session, _now
 from ._bench import _Planned, _plans
 from ._faults import Full, JournalError, LabrunError, MayNotUse, Refused, Retired, TimeoutError, Withdrawn, WouldBlock
 from ._journal import MOST, MOST_STEPS, Journal, Kept, Path, Ticket
-from ._library import NO_MEMORY, REFUSED, RETIRED, Handle, Library, State, Told, Turned, library
+from ._library import NO_MEMORY, NOT_NOW, REFUSED, RETIRED, SESSIONS_LEFT, Handle, Library, State, Told, Turned, called, freed, library, unexpected
 from ._report import Report, told_fault, told_text
 
 # a command as `Job.hold` takes it
 Asked = Union[Command, tuple[str, str], tuple[str, str, int]]
+
+# the states of a session that held, and doesn't any more
+_OVER = ("finished", "lapsed", "taken")
 
 MOST_SESSIONS, MOST_COMMANDS, LARGEST = 1000, 100000, 999999
 _LIMIT_PASSED = 10  # the cause S10
@@ -87,7 +92,7 @@ class Hold(Session, Waiter):
     """A session of `Job.hold`: it is added when it is entered, or acquired. Before, `number` is 0; with `any_of`, `instruments` are then none. One
     whose time is over is given up. Else it is as any session."""
 
-    __slots__ = ("_choices", "_limit", "_seconds", "_passed", "_since", "_adds")
+    __slots__ = ("_choices", "_limit", "_seconds", "_passed", "_since", "_adds", "_wakes")
 
     def __init__(self, job: Job, choices: tuple[Kind, ...], timeout: Optional[float], patience: Optional[float], limit: Optional[float]) -> None:
         self.job = job
@@ -100,6 +105,8 @@ class Hold(Session, Waiter):
         self._limit = limit
         self._seconds = patience
         self._since = 0.0
+        # until when it sleeps, if it isn't added yet
+        self._wakes = math.inf
         if len(choices) == 1:
             self.instruments, self.commands, self.patience = choices[0][2]
         else:
@@ -111,7 +118,7 @@ class Hold(Session, Waiter):
 
     def acquire(self, timeout: Optional[float] = None) -> None:
         """Adds the session, and blocks until it holds all its instruments. After `timeout` seconds TimeoutError says who keeps it waiting, and it
-        is given up; so it is by any other exception that comes while it waits."""
+        is given up; so it is by any other exception that comes before this returns."""
         if self.number:
             return super().acquire(timeout)
         job = self.job
@@ -133,7 +140,7 @@ class Hold(Session, Waiter):
             if ticket is not None:
                 self._is_kept(ticket)
         except BaseException as fault:
-            self._left_by(fault)
+            self._left_by(fault, False)
             raise
 
     def _is_kept(self, ticket: Ticket) -> None:
@@ -175,7 +182,7 @@ class Hold(Session, Waiter):
                         timer.cancel()
                 event.clear()
         except BaseException as fault:
-            self._left_by(fault)
+            self._left_by(fault, False)
             raise
         await super().acquire_async(None if until is None else max(0.0, until - _now()))
 
@@ -191,9 +198,10 @@ class Hold(Session, Waiter):
         text, size, job._adds = choices[0]
         job._how, self._adds = "hold", job._last + 1
         bench._torn = True
-        if call(bench._at, job.index, text, size, bench._told_at):
+        status = call(bench._at, job.index, text, size, bench._told_at)
+        if status:
             bench._torn = False
-            return False
+            raise _why_not(bench, job, status)
         plan.append(job._adds)
         if bench._journal is not None:
             tell_journal(bench, job)
@@ -213,6 +221,8 @@ class Hold(Session, Waiter):
         if job._in or job._last < len(job._plan):
             _comes_next(job, bench)
         kind = self._choice(bench)
+        if kind is None and bench._limited and self._takes_overdue(bench):
+            kind = self._choice(bench)
         if kind is None:
             if any(isinstance(other, Hold) and other is not self and other.job is job for other in bench._others):
                 raise LabrunError(f"another thread waits for a session of {job.name}")
@@ -247,7 +257,33 @@ class Hold(Session, Waiter):
     def is_ready(self, bench: Bench) -> bool:
         if bench._used is None:
             bench._used = _used(bench)
-        return self._choice(bench, bench._used) is not None
+        if self._choice(bench, bench._used) is not None:
+            return True
+        # (or it has to wake earlier than it is going to)
+        return bool(bench._limited) and self._by_limits(bench, _now())[0] < self._wakes
+
+    def _by_limits(self, bench: Bench, now: float) -> tuple[float, list[Job]]:
+        """When the limits on holding let one of its choices be free, and who holds it until then; of several that would be free at the same time,
+        or now, the first. One that somebody holds without a limit, or is in line for, has no such time."""
+        found: tuple[float, list[Job]] = math.inf, []
+        users = _users(bench)
+        for kind in self._choices:
+            its = [job for job in users if not set(kind.plan[0]).isdisjoint(job._plan[job._in - 1][0])]
+            ends = max((max(now, job._due) if bench._limited & job._bit else math.inf for job in its), default=math.inf)
+            if ends < found[0]:
+                found = ends, its
+        return found
+
+    def _takes_overdue(self, bench: Bench) -> bool:
+        """Takes away what has been held for longer than its limit, if one of its choices is free by that. Whether it did."""
+        now = _now()
+        ends, jobs = self._by_limits(bench, now)
+        if ends > now:
+            return False
+        for job in jobs:
+            bench._take_away(job)
+        bench._settle()
+        return True
 
     def passed_by(self, instruments: tuple[str, ...]) -> None:
         if len(self._choices) > 1:
@@ -262,7 +298,10 @@ class Hold(Session, Waiter):
         if until is not None and now >= until:
             raise TimeoutError(self, self._kept(bench))
         ends = [it for it in (until, None if self._seconds is None else self._since + self._seconds) if it is not None]
-        return min(ends) - now if ends else -1
+        if bench._limited:
+            ends.append(self._by_limits(bench, now)[0])
+        self._wakes = min(ends, default=math.inf)
+        return -1 if self._wakes == math.inf else min(max(0.0, self._wakes - now), threading.TIMEOUT_MAX)
 
     def _kept(self, bench: Bench) -> tuple[Keeper, ...]:
         """Who keeps its choices from it."""
@@ -276,8 +315,8 @@ class Hold(Session, Waiter):
             found += [Keeper(instrument, it.name, False, bench._behind(it, self.job._bit)) for it in users if not holders]
         return tuple(found)
 
-    def _asked(self, job: Job) -> bool:
-        return job.bench._leaves(job, self, True)
+    def _asked(self, job: Job) -> None:
+        job.bench._leaves(job, self)
 
     # without it
 
@@ -298,8 +337,8 @@ class Hold(Session, Waiter):
             raise LabrunError("the session isn't added yet")
         super().withdraw()
 
-    def _left_by(self, fault: BaseException) -> None:
-        """It is given up, also where it was just being added."""
+    def _left_by(self, fault: BaseException, was_held: bool) -> None:
+        """It is given up, also where it was just being added, or came to hold just now."""
         job = self.job
         bench = job.bench
         with bench._mutex, bench._mending:
@@ -308,11 +347,11 @@ class Hold(Session, Waiter):
                 return
             bench._look_over()
             number = self._adds
-            if number > len(job._plan) or number and job._in != number and self.state != "finished":  # (a write failed, and it is over)
+            if number > len(job._plan) or number and job._in != number and self.state not in _OVER:  # (a write failed, and it is over)
                 self.state = "withdrawn"
-            if job._in and job._in == number and self.state != "held":
+            if job._in and job._in == number and (self.state != "held" or not was_held and not isinstance(fault, LabrunError)):
                 if bench._outside_of(job) is not None or bench._state_of(job.index).session == number:
-                    bench._leaves(job, self, False)
+                    bench._leaves(job, self)
                 else:  # it was about to ask
                     bench._waiting &= ~job._bit
                     job._in, job._last = 0, number - 1
@@ -321,14 +360,15 @@ class Hold(Session, Waiter):
                 self.state = "withdrawn"
 
 
+def _users(bench: Bench) -> list[Job]:
+    """The jobs that are in line, or hold. (With the mutex held.)"""
+    # (one that was left and holds lets go as soon as somebody waits)
+    return [it for it in bench._jobs if it._in and bench._outside_of(it) is None and not (bench._left & it._bit and bench._holds(it))]
+
+
 def _used(bench: Bench) -> set[str]:
-    """The instruments that aren't free: those of jobs that are in line, or hold. (With the mutex held.)"""
-    used: set[str] = set()
-    for job in bench._jobs:
-        # (one that was left and holds lets go as soon as somebody waits)
-        if job._in and bench._outside_of(job) is None and not (bench._left & job._bit and bench._holds(job)):
-            used.update(job._plan[job._in - 1][0])
-    return used
+    """The instruments that aren't free. (With the mutex held.)"""
+    return {name for job in _users(bench) for name in job._plan[job._in - 1][0]}
 
 
 class _More(Waiter):
@@ -519,7 +559,7 @@ def _why_not(bench: Bench, job: Job, status: int) -> Exception:
 def _comes_next(job: Job, bench: Bench) -> None:
     """A job that is in a session, or has one to begin: one that was left is over now; else this raises. (With the mutex held.)"""
     if job._in and bench._left & job._bit and bench._holds(job):
-        _lapse(bench, job)
+        bench._lapses(job)
         bench._settle()
     if job._in:
         raise LabrunError(f"{job.name} is in a session, its {job._in}, and is in one at a time: threads that hold at once need a job each")
@@ -527,21 +567,10 @@ def _comes_next(job: Job, bench: Bench) -> None:
         raise LabrunError(f"{job.name} has sessions left to begin, from {job._last + 1} to {len(job._plan)}: they come first")
 
 
-def _lapse(bench: Bench, job: Job) -> None:
-    bench._torn = True
-    bench._call("lab_end", job.index, bench._turned_at)
-    bench._comes_to(job, False, "lapsed")
-
-
 def _skip(bench: Bench, job: Job) -> None:
-    """Gives up a session that is the next to begin: single turns begin it, and don't let it hold. (With the mutex held.)"""
-    bench._torn = True
-    number = job._last + 1
-    # (one turn, but for a meal that ends first)
-    while bench._state_of(job.index).session < number:
-        bench._call("lab_turn", job.index, bench._turned_at)
-    bench._call("lab_withdraw", job.index)
-    job._last = number
+    """Gives up a session that is the next to begin. (With the mutex held.)"""
+    bench._withdraws(job, job._last + 1)
+    job._last += 1
     bench._settle()
 
 
@@ -660,13 +689,13 @@ def _give_up_first(calls: Union[Library, Kept], at: Any, job: int) -> tuple[int,
     """The first session of a job is begun by one turn, and given up, unless that was done before. Which session it was in last, and whether it is in
     none."""
     state, turned = State(), Turned()
-    calls["lab_state"](at, job, ctypes.byref(state))
+    called(calls, "lab_state", at, job, ctypes.byref(state))
     if state.sessions and not state.session:
-        calls["lab_turn"](at, job, ctypes.byref(turned))
-        calls["lab_state"](at, job, ctypes.byref(state))
+        called(calls, "lab_turn", at, job, ctypes.byref(turned))
+        called(calls, "lab_state", at, job, ctypes.byref(state))
     if state.session == 1 and state.drinking == _THIRSTY:
-        calls["lab_withdraw"](at, job)
-        calls["lab_state"](at, job, ctypes.byref(state))
+        called(calls, "lab_withdraw", at, job)
+        called(calls, "lab_state", at, job, ctypes.byref(state))
     return state.session, state.drinking == _TRANQUIL
 
 
@@ -744,7 +773,7 @@ def _is_over(bench: Bench) -> None:
 def _turned(bench: Bench) -> Union[Page, Ticket]:
     """Turns the page, unless the journal is to be written before: then that ticket. (With the mutex held.)"""
     for job in bench._members(bench._left):
-        _lapse(bench, job)
+        bench._lapses(job)
     if bench._journal is not None and not bench._is_written():
         return bench._journal.ticket
     bench._torn = True
@@ -777,7 +806,7 @@ class Turning:
         self.handle = Handle()
         self.calls: Union[Library, Kept] = library()
         self.journal: Optional[Journal] = None
-        self.drops = weakref.finalize(self, _freed, library(), self.handle)
+        self.drops = weakref.finalize(self, freed, library(), self.handle)
         try:
             self.opens(bench)
         except BaseException:
@@ -797,7 +826,9 @@ class Turning:
                 _give_up_first(self.calls, at, job.index)
         for job in bench._jobs:
             if job._is_over:
-                self.calls["lab_retire"](at, job.index, 1, ctypes.byref(turned))
+                status = self.calls["lab_retire"](at, job.index, 1, ctypes.byref(turned))
+                if status not in (0, NOT_NOW, SESSIONS_LEFT):
+                    raise unexpected("lab_retire", status)
 
     def makes(self, bench: Bench, old: Journal) -> None:
         """The old page is closed, and the new one has its file."""
@@ -845,11 +876,12 @@ def _opened(script: bytes, handle: Handle) -> None:
 
 def _begins_anew(bench: Bench, calls: Union[Library, Kept], handle: Handle, script: bytes) -> None:
     # (should it be freed twice, the second call finds it empty)
-    bench._finalizer = weakref.finalize(bench, _freed, calls, handle)
+    bench._finalizer = weakref.finalize(bench, freed, calls, handle)
     bench._calls, bench._at, bench._script = calls, ctypes.byref(handle), script
     bench._lab_settle, bench._lab_end, bench._lab_add = calls.quick("lab_settle"), calls.quick("lab_end"), None
     bench._call("lab_overtakes", bench._overtakes)
     bench._waiting = bench._left = bench._limited = 0
+    bench._withdrawing = None
     bench._lapsed, bench._raised, bench._taken = [], [], []
     bench._has_patience = True
     for job, plan in zip(bench._jobs, _plans(script, bench.instruments)):

@@ -15,7 +15,7 @@ import weakref
 from typing import Any, Callable, Optional, Union
 
 from ._faults import CAUSES, JournalError
-from ._library import JOURNAL_FULL, NO_MEMORY, NO_ROOM, REFUSED, Handle, Library, Told
+from ._library import JOURNAL_FULL, NO_MEMORY, NO_ROOM, REFUSED, Handle, Library, Told, freed
 from ._report import told_fault
 
 Path = Union[str, "os.PathLike[str]"]
@@ -112,10 +112,11 @@ class Journal:
             self._begins()
         try:
             self._write()
-            if self._syncs and not is_there:
+            # (also where it was there: whoever began it may have died before this)
+            if self._syncs:
                 _sync_folder(self.path)
         except OSError as fault:
-            calls["lab_bench_free"](ctypes.byref(handle))
+            freed(calls, handle)
             raise JournalError(self.path, f"a write failed ({fault.strerror})") from fault
         return Kept(calls, self._take), is_there
 
@@ -265,7 +266,7 @@ class Journal:
         failures, length = self._stands
         told, handle = Told(), Handle()
         self._resume(self._text(length), handle, told)
-        self._calls["lab_bench_free"](self._at)
+        freed(self._calls, self._handle)
         self._handle.at, self._handle.live = handle.at, handle.live
         self._ends[failures:] = [length]
         self._added.clear()

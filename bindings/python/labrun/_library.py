@@ -7,6 +7,8 @@ import ctypes.util
 import os
 from typing import Any, Callable, Optional
 
+from ._faults import LabrunError
+
 REFUSED, NO_SUCH, WAITS, TOO_LONG, NO_MEMORY, NO_ROOM, NOT_OPEN, NOT_NOW, NO_SESSION, SESSIONS_LEFT, IN_USE = range(1, 12)
 JOURNAL_FULL = 12
 RETIRED = 14
@@ -198,6 +200,27 @@ class Library:
         call.restype = _WORD
         quick: Callable[..., int] = call
         return quick
+
+
+def unexpected(call: str, status: int) -> Exception:
+    """The exception of a status that a call can't have here."""
+    if status == NO_SUCH:
+        return IndexError(f"{call}: no such job, session or instrument")
+    return MemoryError() if status == NO_MEMORY else LabrunError(f"{call}: status {status}")
+
+
+def called(calls: Any, name: str, *given: Any) -> None:
+    """A call that is to be done; every status but 0 is an exception."""
+    status = calls[name](*given)
+    if status:
+        raise unexpected(name, status)
+
+
+def freed(calls: Any, handle: Handle) -> None:
+    """What the handle has is given back. (It may be empty.)"""
+    status = calls["lab_bench_free"](ctypes.byref(handle))
+    if status not in (0, NOT_OPEN):
+        raise unexpected("lab_bench_free", status)
 
 
 def library_path() -> str:

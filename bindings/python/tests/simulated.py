@@ -19,7 +19,7 @@ sys.path.insert(0, os.path.join(TOP, "bench"))
 import simulate  # type: ignore[import]  # noqa: E402
 
 # the calls that take steps
-KEPT = ("lab_turn", "lab_settle", "lab_command", "lab_end", "lab_withdraw", "lab_retire", "lab_overtakes", "lab_nobody_outside")
+KEPT = ("lab_turn", "lab_settle", "lab_command", "lab_end", "lab_withdraw", "lab_retire", "lab_nobody_outside")
 
 DINING = (simulate.THINKING, simulate.HUNGRY, simulate.EATING)
 DRINKING = (simulate.TRANQUIL, simulate.THIRSTY, simulate.DRINKING, simulate.REACHING, simulate.RETIRED)
@@ -52,18 +52,18 @@ class Simulated:
 
     def keeping(self, name: str, call: Callable[..., Any]) -> Callable[..., Any]:
         def keeps(handle: Any, *given: Any) -> Any:
-            before = self.run(handle).overtakes
             status = call(handle, *given)
             kept = self.kept.get(at(handle).at)
             did = at(given[-1]).deeds or self.run(handle).line if name == "lab_settle" else status == 0
-            did = did and name != "lab_overtakes" or name == "lab_overtakes" and before != self.run(handle).overtakes
             if did and kept is not None:
-                kept.append(" ".join([name, *(str(it) for it in given if isinstance(it, int))]))
+                more = [str(self.run(handle).overtakes)] if name == "lab_settle" else []
+                kept.append(" ".join([name, *(str(it) for it in given if isinstance(it, int)), *more]))
             return status
 
         return keeps
 
-    # (its steps are the calls themselves, each a line, and a checksum behind each batch)
+    # (its steps are the calls themselves, each a line, that of `lab_settle` with the number of `lab_overtakes`; and a checksum behind each
+    # batch)
 
     def lab_bench_open_kept(self, script: bytes, length: int, handle: Any, told: Any) -> int:
         status = self.lab_bench_open(script, length, handle, told)
@@ -124,6 +124,7 @@ class Simulated:
         self.kept[at(handle).at].clear()
         if self.run(handle).line:
             self["lab_nobody_outside"](handle)
+        self.run(handle).overtakes = 0
         at(told).written = len(whole)
         return status
 
@@ -134,10 +135,12 @@ class Simulated:
 
     def is_done_again(self, handle: Any, words: list[str]) -> bool:
         name, *given = words
-        if name not in KEPT or not all(it.isdigit() for it in given) or len(given) != {"lab_retire": 2, "lab_nobody_outside": 0}.get(name, 1):
+        if name not in KEPT or not all(it.isdigit() for it in given) or len(given) != {"lab_retire": 2, "lab_settle": 2, "lab_nobody_outside": 0}.get(name, 1):
             return False
+        if name == "lab_settle":
+            self.run(handle).overtakes = int(given.pop())
         none: list[Any] = []
-        told = {"lab_settle": [pointer(Came())], "lab_command": [pointer(Entered())], "lab_withdraw": none, "lab_overtakes": none}
+        told = {"lab_settle": [pointer(Came())], "lab_command": [pointer(Entered())], "lab_withdraw": none}
         told["lab_nobody_outside"] = none
         try:
             return getattr(self, name)(handle, *map(int, given), *told.get(name, [pointer(Turned())])) == 0
@@ -171,11 +174,12 @@ class Simulated:
         at(told).written = len(text)
         return 0
 
-    def lab_bench_free(self, handle: Any) -> None:
+    def lab_bench_free(self, handle: Any) -> int:
         if at(handle).at is None:
-            return
+            return 7
         self.runs[at(handle).at] = None
         self.kept.pop(at(handle).at, None)
+        return 0
 
     def lab_bench_size(self, handle: Any, size: Any) -> int:
         run = self.run(handle)

@@ -11,7 +11,7 @@ import labrun
 from labrun import _bench, _journal
 from tests.gates import Gates, Stuck
 from tests.load import Counting, load_script
-from tests.test_bench import LIMIT
+from tests.test_bench import LIMIT, PATIENT, TWO
 from tests.test_simulated import OnDefinitions
 
 # all need x; and a ring of three
@@ -256,6 +256,43 @@ class Interrupts(Gated):
             for at in range(most):
                 with self.subTest(at=at):
                     self.interrupted(script, at, sometimes(at % 7, 0.05))
+
+
+    def given_up(self, script: str, at: int) -> tuple[bool, labrun.Bench, labrun.Session]:
+        """One comes to whoever gives up a session that is outside, and whose instrument is free by now; who does it again then. Whether one came."""
+        gates, came = Gates(once(-1)), []
+        with mock.patch.object(_bench, "_new_lock", gates.lock):
+            bench = labrun.Bench.from_text(script, overtakes=9)
+        first, second = (job.next_session() for job in bench.jobs)
+        assert first and second
+
+        def station() -> None:
+            first.acquire()
+            with self.assertRaises(labrun.TimeoutError):
+                second.acquire(timeout=0)
+            first.release()
+            gates.mine, gates.interrupt = 0, at
+            try:
+                second.give_up()
+            except KeyboardInterrupt:
+                came.append(gates.where)
+                second.give_up()
+
+        gates.run([station], LIMIT)
+        return bool(came), bench, second
+
+    def test_given_up(self) -> None:
+        """It never holds by that, at whatever line the interrupt comes."""
+        for script, state in ((TWO, "new"), (PATIENT, "withdrawn")):
+            at, came = 0, True
+            while came:
+                with self.subTest(state, at=at):
+                    came, bench, session = self.given_up(script, at)
+                    self.assertEqual((session.state, bench.jobs[1].state.holds, bench.jobs[1].state.withdrawn), (state, False, int(state == "withdrawn")))
+                    self.assertEqual((bench._torn, bench._waiting, bench._left, bench._withdrawing, bench.lapsed), (False, 0, 0, None, ()))
+                    self.assertEqual([it.job for it in bench.close().log("scale")], ["a"])
+                at += 1
+            self.assertGreater(at, 20)
 
 
 if __name__ == "__main__":

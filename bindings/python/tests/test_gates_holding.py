@@ -95,6 +95,27 @@ class WakeUps(Gated):
             with self.subTest(seed):
                 self.assertTrue(self.gated(Gates(sometimes(seed, 0.2)), (RING, EITHER)[seed % 2], station, seed % 3).close().finished)
 
+    def test_limits(self) -> None:
+        """Each holds until somebody wants what it has, as its limit is 0; some choose. Each session has one end, and nobody sleeps on."""
+        for seed in range(100):
+            chance, ends = random.Random(seed), []
+
+            def station(job: labrun.Job, counting: Counting) -> None:
+                for _ in range(3):
+                    one: dict[str, Any] = {"any_of": job.instruments} if chance.random() < 0.7 else {}
+                    session = job.hold(*(() if one else job.instruments), limit=chance.choice((0.0, None)), **one)
+                    try:
+                        with session:
+                            pass
+                    except labrun.TakenAway:
+                        pass
+                    ends.append(session.state)
+
+            with self.subTest(seed):
+                bench = self.gated(Gates(sometimes(seed, (0.02, 0.2, 0.7)[seed // 2 % 3])), (RING, EITHER)[seed % 2], station)
+                self.assertEqual((ends.count("taken"), len(ends)), (len(bench.taken), ends.count("taken") + ends.count("finished")))
+                self.assertTrue(bench.close().finished)
+
     def test_added_for_others(self) -> None:
         """One adds, another takes, until the job is retired."""
         for seed in range(60):

@@ -7,6 +7,7 @@ import subprocess
 import sys
 import tempfile
 import threading
+import time
 import unittest
 from typing import Any, Optional
 from unittest import mock
@@ -470,6 +471,92 @@ class AnyOf(OnBay):
             first.release()
             back(thread)
             self.assertEqual(bench.lapsed, (("b", 1),))
+
+
+    def test_limit(self) -> None:
+        """Whoever chooses takes what was held for too long: at once, if it comes later than that; else when the limit passes. Nobody else waits."""
+        for pause in (0.1, 0.0):
+            with self.subTest(pause), self.bay() as bench:
+                drive = self.held(bench, "drive", "load-1", "load-2", limit=0.05)
+                time.sleep(pause)
+                self.assertTrue(drive.held)
+                # (it has no time limit, at which it would look again)
+                session = bench.job("host").hold(any_of=self.either)
+                back(in_thread(session.acquire))
+                self.assertEqual((session.instruments, bench.taken, drive.state), (("load-1",), (("drive", 2),), "taken"))
+                session.release()
+                with self.assertRaises(labrun.TakenAway):
+                    drive.release()
+            self.assertTrue(bench.report.finished)
+
+    def test_limit_in_a_loop(self) -> None:
+        async def main() -> None:
+            with self.bay() as bench:
+                drive = self.held(bench, "drive", "load-1", "load-2", limit=0.05)
+                session = bench.job("host").hold(any_of=self.either)
+                await asyncio.wait_for(session.acquire_async(), LIMIT)
+                self.assertEqual((session.instruments, bench.taken, drive.state), (("load-1",), (("drive", 2),), "taken"))
+                session.release()
+                with self.assertRaises(labrun.TakenAway):
+                    drive.release()
+
+        asyncio.run(main())
+
+    def test_limit_that_comes_later(self) -> None:
+        """It sleeps already when whoever holds gets a limit."""
+        with self.bay() as bench:
+            self.held(bench, "drive", "load-1", "load-2")
+            thread = self.waits(bench.job("host").hold(any_of=self.either))
+            again = bench.job("drive").next_session(limit=0.05)
+            assert again and again.held
+            again.acquire()
+            back(thread)
+            self.assertEqual(bench.taken, (("drive", 2),))
+
+    def test_limit_of_a_choice(self) -> None:
+        """No more is taken away than lets one of the choices be free, and nothing that lets none be."""
+        with labrun.Bench.new({"a": ["w"], "b": ["x"], "c": ["y", "z"], "host": ["w", "x", "y", "z"]}) as bench:
+            first, second, third = self.held(bench, "a", "w", limit=0.0), self.held(bench, "b", "x", limit=0.0), self.held(bench, "c", "y", "z")
+            with bench.job("host").hold(any_of=[("z",), ("x",), ("w",)], timeout=LIMIT) as session:
+                self.assertEqual((session.instruments, bench.taken), (("x",), (("b", 2),)))
+            chooses = bench.job("host").hold(any_of=[("w", "z"), ("w", "y")])
+            thread = self.waits(chooses)
+            self.assertEqual((bench.taken, chooses.number, first.state), ((("b", 2),), 0, "held"))
+            third.release()
+            back(thread)
+            self.assertEqual((chooses.instruments, bench.taken, first.state), (("w", "z"), (("b", 2), ("a", 2)), "taken"))
+            self.assertEqual(second.state, "taken")
+        self.assertTrue(bench.report.finished)
+
+    def test_limit_while_a_page_is_turned(self) -> None:
+        """Who waits for the new page, and who turns it, wait for one that is over its limit."""
+        with self.bay() as bench:
+            pages: list[labrun.Page] = []
+            self.held(bench, "drive", "load-1", "load-2", limit=0.05)
+            turner = in_thread(lambda: pages.append(bench.turn_page()))
+            until(lambda: bench._turner is not None)
+            with bench.job("host").hold("load-2", timeout=LIMIT) as session:
+                self.assertEqual((session.number, bench.taken), (2, ()))
+            back(turner)
+            self.assertEqual((pages[0].taken, pages[0].report.finished), ((("drive", 2),), True))
+
+    def test_cancelled_as_it_is_free(self) -> None:
+        """One step of the loop: a choice comes free, and the task that chooses is cancelled. Nothing is added."""
+
+        async def main() -> None:
+            drive, session = self.held(bench, "drive", "load-1", "load-2"), bench.job("host").hold(any_of=self.either)
+            task = asyncio.ensure_future(session.acquire_async())
+            while session not in bench._others:
+                await asyncio.sleep(0)
+            drive.release()
+            task.cancel()
+            with self.assertRaises(asyncio.CancelledError):
+                await task
+            self.assertEqual((bench.job("host").state.sessions, bench.job("host").state.holds, bench._others), (1, False, {}))
+
+        with self.bay() as bench:
+            asyncio.run(main())
+        self.assertTrue(bench.report.finished)
 
 
 class New(OnBay):

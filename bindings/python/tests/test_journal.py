@@ -96,6 +96,46 @@ class Files(Journals):
         self.assertEqual(again.close().text, report.text)
         self.assertEqual(self.text().decode(), text)
 
+    def folder_syncs(self) -> Any:
+        """The folder's syncs, each with what the journal's file had then, and whether that was synced before."""
+        real, real_data, seen, is_synced = os.fsync, os.fdatasync, [], []
+
+        def fsync(file: int) -> None:
+            real(file)
+            if os.path.samestat(os.fstat(file), os.stat(os.path.dirname(self.path))):
+                seen.append((self.text(), bool(is_synced)))
+
+        def fdatasync(file: int) -> None:
+            real_data(file)
+            is_synced.append(os.path.samestat(os.fstat(file), os.stat(self.path)))
+
+        patch = mock.patch.multiple(os, fsync=fsync, fdatasync=fdatasync)
+        patch.start()
+        self.addCleanup(patch.stop)
+        return seen
+
+    def test_its_name_is_on_the_disk(self) -> None:
+        """Once a bench is open, its journal is there even if the machine stops: the folder was synced behind the file."""
+        seen = self.folder_syncs()
+        bench = self.opened()
+        self.assertEqual(seen, [(self.text(), True)])
+        self.assertTrue(self.text().startswith(TWO.encode() + b"steps\n"))
+        self.dropped(bench)
+        # (whoever had it before may have synced nothing)
+        self.dropped(self.opened())
+        self.assertEqual(seen[1:], [(self.text(), True)])
+        os.unlink(self.path)
+        self.dropped(self.opened(sync="none"))
+        self.assertEqual(len(seen), 2)
+
+    def test_its_name_can_not_be_synced(self) -> None:
+        def fails(file: int) -> None:
+            raise OSError(5, "Input/output error")
+
+        with mock.patch.object(os, "fsync", fails), self.assertRaisesRegex(labrun.JournalError, r"a write failed \(Input/output error\)"):
+            self.opened()
+        self.assertTrue(self.finished(self.opened()).finished)
+
     def test_what_has_returned_is_there(self) -> None:
         """After each call the file has what it did."""
         bench, seen = self.opened(BOTH), [len(self.text())]
@@ -471,6 +511,23 @@ class Failing(Journals):
         self.assertTrue(report.finished)
         self.assertEqual(self.opened(script).close().text, report.text)
 
+    def test_overtakes_after_a_failure(self) -> None:
+        """Whoever asks then stays outside, as before; and the number is the bench's own."""
+        for name in ("_pwrite", "_sync"):
+            bench = self.opened(overtakes=3)
+            first, second = self.asked(bench, "a"), self.asked(bench, "b")
+            first.acquire()
+            with self.failing(name), self.assertRaises(labrun.JournalError):
+                first.release()
+            for _ in range(2):
+                with self.assertRaises(labrun.TimeoutError):
+                    second.acquire(timeout=0)
+                self.assertTrue(bench.jobs["b"].state.outside)
+                second.give_up()
+                self.assertEqual(second.state, "new")
+            self.assertTrue(self.finished(bench).finished)
+            os.unlink(self.path)
+
     def test_no_room(self) -> None:
         """The system's own answer: a file may not grow any further."""
         bench = self.opened()
@@ -540,7 +597,7 @@ class Failing(Journals):
         self.assertTrue(self.finished(bench).finished)
 
     def test_interrupted(self) -> None:
-        """What an interrupt keeps from being written, the next call writes."""
+        """What an interrupt keeps from being written, the next call writes. Nobody was told that the first session holds: so it let go."""
         bench = self.opened()
         session = self.asked(bench, "a")
         real = _journal._pwrite
@@ -551,8 +608,12 @@ class Failing(Journals):
 
         with mock.patch.object(_journal, "_pwrite", interrupted), self.assertRaises(KeyboardInterrupt):
             session.acquire()
-        self.assertTrue(session.held)
-        session.release()
+        self.assertEqual((session.state, bench.lapsed), ("lapsed", (("a", 1),)))
+        session = self.asked(bench, "a")
+        session.acquire()
+        with mock.patch.object(_journal, "_pwrite", interrupted), self.assertRaises(KeyboardInterrupt):
+            session.release()
+        self.assertEqual((session.number, session.state), (2, "finished"))
         report = self.finished(bench)
         self.assertTrue(report.finished)
         self.assertEqual(self.opened().close().text, report.text)

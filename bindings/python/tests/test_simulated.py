@@ -75,6 +75,10 @@ class Limits(OnDefinitions, test_thirst.Limits):
     """Limits on holding, and patience in seconds."""
 
 
+class GivenUp(OnDefinitions, test_thirst.GivenUp):
+    """Sessions that are given up."""
+
+
 class Coming(OnDefinitions, test_holding.Coming):
     """Sessions that come."""
 

@@ -6,9 +6,11 @@ import itertools
 import os
 import re
 import tempfile
+import threading
 import time
 import unittest
 from typing import Any, Callable, Optional
+from unittest import mock
 
 import labrun
 from tests.test_bench import LIMIT, PATIENT, SOON, TWO, back, in_thread, until
@@ -540,6 +542,283 @@ class Limits(unittest.TestCase):
             except labrun.Withdrawn:
                 break
         self.assertEqual(second.state, "withdrawn")
+
+
+class GivenUp(unittest.TestCase):
+    """Sessions that are given up, also where their instruments have come free, or are theirs already."""
+
+    # three jobs, one instrument; b's session may be withdrawn, or not
+    SCRIPTS = {
+        state: f"lab 2\njob a\nsession\nscale add 5\nend\njob b\n{session}\nscale add 7\nend\njob c\nsession\nscale read\nend\n"
+        for state, session in (("withdrawn", "session patience 999999"), ("new", "session"))
+    }
+
+    def asked_in_vain(self, script: str, overtakes: int = 9) -> tuple[labrun.Bench, labrun.Session]:
+        """b has asked for the scale while a held it, and a has let go."""
+        bench = labrun.Bench.from_text(script, overtakes=overtakes)
+        self.addCleanup(bench.close)
+        first, second = asked(bench, "a"), asked(bench, "b")
+        first.acquire()
+        in_vain(second)
+        first.release()
+        return bench, second
+
+    def leaves_loop(self, script: str) -> tuple[labrun.Bench, labrun.Session]:
+        bench = labrun.Bench.from_text(script, overtakes=9)
+        self.addCleanup(bench.close)
+        first = asked(bench, "a")
+        first.acquire()
+        for session in bench.jobs["b"].sessions(timeout=0):
+            with contextlib.suppress(labrun.TimeoutError):
+                with session:
+                    self.fail("it holds")
+            first.release()
+            break
+        return bench, session
+
+    def is_over(self, bench: labrun.Bench, session: labrun.Session, state: str, waits: bool) -> None:
+        """It didn't hold, nobody did its command, and the others go on."""
+        self.assertEqual((session.state, bench.jobs["b"].state.holds, bench.jobs["b"].state.done, bench.lapsed), (state, False, 0, ()))
+        self.assertEqual(bench.jobs["b"].state.withdrawn, int(state == "withdrawn"))
+        if waits:
+            with asked(bench, "c"):
+                pass
+        self.assertEqual([str(it) for it in bench.close().log("scale")], ["a 1 1/1 add 5 = 5", "c 1 1/1 read = 5"][: 1 + waits])
+        self.assertEqual(bench.lapsed, ())
+        self.assertEqual(bench.report.job("b").retired, state == "withdrawn")
+        self.assertEqual(bench.report.finished, state == "withdrawn" and waits)
+
+    def test_the_holder_lets_go_first(self) -> None:
+        for state, script in self.SCRIPTS.items():
+            for waits in (False, True):
+                with self.subTest(state, waits=waits):
+                    bench, session = self.asked_in_vain(script)
+                    session.give_up()
+                    self.is_over(bench, session, state, waits)
+                    self.is_over(*self.leaves_loop(script), state, waits)
+                    if state == "withdrawn":
+                        bench, session = self.asked_in_vain(script)
+                        session.withdraw()
+                        self.is_over(bench, session, state, waits)
+
+    def test_a_station_that_ends(self) -> None:
+        """It asked in vain, and is over after the holder has let go."""
+        for state, script in self.SCRIPTS.items():
+            with self.subTest(state), labrun.Bench.from_text(script, overtakes=9) as bench:
+                first, asks, lets_go = asked(bench, "a"), threading.Event(), threading.Event()
+                first.acquire()
+
+                def station(job: labrun.Job) -> None:
+                    if job.name == "a":
+                        asks.wait(LIMIT)
+                        first.release()
+                        lets_go.set()
+                    elif job.name == "b":
+                        in_vain(asked(bench, "b"))
+                        asks.set()
+                        lets_go.wait(LIMIT)
+
+                bench.run(station, timeout=LIMIT)
+                self.assertEqual((bench.jobs["b"].state.holds, bench.jobs["b"].state.withdrawn, bench.lapsed), (False, int(state == "withdrawn"), ()))
+            self.assertEqual([str(it) for it in bench.report.log("scale")], ["a 1 1/1 add 5 = 5"])
+
+    def test_no_meals(self) -> None:
+        """Who asks in vain and gives up makes no neighbour give way for it."""
+        with labrun.Bench.new({"a": ["x"], "b": ["x"]}) as bench:
+            with bench.jobs["a"].hold("x"):
+                for _ in range(20):
+                    with self.assertRaises(labrun.TimeoutError):
+                        with bench.jobs["b"].hold("x", timeout=0):
+                            pass
+            self.assertEqual((bench.jobs["b"].state.meals, bench.jobs["b"].state.withdrawn), (0, 21))
+        self.assertEqual((bench.report.job("b").meals, bench.report.job("b").done, bench.report.finished), (0, 0, True))
+
+    def test_its_turn_came_before(self) -> None:
+        """In line it came to hold while nobody looked: as it is given up, it lets go, and is named."""
+        for state, script in self.SCRIPTS.items():
+            for waits in (False, True):
+                with self.subTest(state, waits=waits):
+                    bench, session = self.asked_in_vain(script, overtakes=0)
+                    self.assertEqual((session.state, bench.jobs["b"].state.holds), ("asked", True))
+                    with self.assertRaisesRegex(labrun.NotHeld, "session 1 of b is held: it can't be withdrawn"):
+                        session.withdraw()
+                    session.give_up()
+                    self.assertEqual((session.state, bench.jobs["b"].state.holds, bench.lapsed), ("lapsed", False, (("b", 1),)))
+                    with self.assertRaises(labrun.NotHeld):
+                        session.acquire()
+                    if waits:
+                        with asked(bench, "c"):
+                            pass
+                    self.assertEqual(bench.close().finished, waits)
+                    self.assertEqual((bench.report.job("b").done, bench.lapsed), (1, (("b", 1),)))
+
+    def test_left_at_the_close(self) -> None:
+        """What was left, and then came to hold while nobody waited, lets go at the close."""
+        bench = labrun.Bench.from_text("lab 1\n" + "".join(f"job {name}\nsession\nscale add 1\nend\n" for name in "abc"), overtakes=0)
+        first = asked(bench, "a")
+        first.acquire()
+        left = [asked(bench, "b"), asked(bench, "c")]
+        for session in left:
+            in_vain(session)
+            session.give_up()
+        self.assertEqual([session.state for session in left], ["left", "left"])
+        first.release()
+        self.assertEqual(bench.lapsed, ())
+        self.assertTrue(bench.close().finished)
+        self.assertEqual((sorted(bench.lapsed), [session.state for session in left]), ([("b", 1), ("c", 1)], ["lapsed", "lapsed"]))
+
+    def just_as_it_holds(self, bench: labrun.Bench, first: labrun.Session, second: labrun.Session) -> None:
+        """The thread of the second is interrupted between the moment that it is told and the moment that it knows."""
+
+        class Interrupted:
+            def acquire(self, blocking: bool = True, timeout: float = -1) -> bool:
+                if blocking:
+                    first.release()
+                    raise KeyboardInterrupt
+                return False
+
+        with mock.patch.object(second.job, "_sleep", Interrupted()), self.assertRaises(KeyboardInterrupt):
+            with second:
+                self.fail("it is entered")
+        self.let_go(bench, second)
+
+    def let_go(self, bench: labrun.Bench, session: labrun.Session) -> None:
+        job, number = session.job, session.number
+        self.assertEqual((session.state, job.state.holds, job.state.waits, bench.lapsed), ("lapsed", False, False, ((job.name, number),)))
+        self.assertEqual((bench._left, bench._waiting, bench._limited, bench._torn), (0, 0, 0, False))
+
+    def test_interrupted_just_as_it_holds(self) -> None:
+        for script in self.SCRIPTS.values():
+            for overtakes in (0, 9):
+                with self.subTest(script, overtakes=overtakes), labrun.Bench.from_text(script, overtakes=overtakes) as bench:
+                    first = asked(bench, "a")
+                    first.acquire()
+                    self.just_as_it_holds(bench, first, asked(bench, "b", limit=9))
+                    with asked(bench, "c"):
+                        pass
+                self.assertTrue(bench.report.finished)
+        for overtakes in (0, 9):
+            with self.subTest(overtakes=overtakes), labrun.Bench.new({"a": ["x"], "b": ["x"]}, overtakes=overtakes) as bench:
+                first = bench.jobs["a"].hold("x")
+                first.acquire()
+                self.just_as_it_holds(bench, first, bench.jobs["b"].hold("x", limit=9))
+                with bench.jobs["b"].hold("x"):
+                    pass
+            self.assertEqual((bench.report.finished, bench.report.job("b").done), (True, 2))
+
+    def test_interrupted_once_it_holds(self) -> None:
+        """It is told that it holds, and the exception comes before the call is back. One that held before goes on to hold."""
+        for kind in (KeyboardInterrupt, SystemExit):
+            with labrun.Bench.new({"a": ["x"], "b": ["x"]}) as bench:
+                asked_ = bench._ask
+
+                def interrupted(*given: Any) -> bool:
+                    self.assertTrue(asked_(*given))
+                    raise kind
+
+                first, second = bench.jobs["a"].hold("x"), bench.jobs["a"].hold("x")
+                with mock.patch.object(bench, "_ask", interrupted), self.assertRaises(kind):
+                    first.acquire()
+                self.let_go(bench, first)
+                second.acquire()
+                with mock.patch.object(bench, "_ask", interrupted), self.assertRaises(kind):
+                    second.acquire()
+                self.assertTrue(second.held)
+                second.release()
+            self.assertTrue(bench.report.finished)
+
+    def test_cancelled_just_as_it_holds(self) -> None:
+        """One step of the loop: the holder lets go, and the task that waits is cancelled."""
+
+        async def enters(session: labrun.Session) -> None:
+            async with session:
+                self.fail("it is entered")
+
+        async def cancelled(bench: labrun.Bench, first: labrun.Session, second: labrun.Session) -> None:
+            await first.acquire_async()
+            task = asyncio.create_task(enters(second))
+            while second.state != "waiting":
+                await asyncio.sleep(0)
+            first.release()
+            task.cancel()
+            with self.assertRaises(asyncio.CancelledError):
+                await task
+            self.let_go(bench, second)
+
+        for overtakes in (0, 9):
+            for script in self.SCRIPTS.values():
+                with self.subTest(script, overtakes=overtakes), labrun.Bench.from_text(script, overtakes=overtakes) as bench:
+                    asyncio.run(cancelled(bench, asked(bench, "a"), asked(bench, "b", limit=9)))
+                    with asked(bench, "c"):
+                        pass
+                self.assertTrue(bench.report.finished)
+            with self.subTest(overtakes=overtakes), labrun.Bench.new({"a": ["x"], "b": ["x"]}, overtakes=overtakes) as bench:
+                asyncio.run(cancelled(bench, bench.jobs["a"].hold("x"), bench.jobs["b"].hold("x", limit=9)))
+                with bench.jobs["b"].hold("x"):
+                    pass
+            self.assertTrue(bench.report.finished)
+
+    def test_another_comes_just_as_it_holds(self) -> None:
+        """Its thread is told that it holds, and isn't awake yet. Who gives it up comes too late; if it is taken away, its thread is told that."""
+
+        async def main(ends: Callable[[labrun.Session], object], is_taken: bool) -> None:
+            for bench in (labrun.Bench.from_text(self.SCRIPTS["withdrawn"]), labrun.Bench.new({"a": ["scale"], "b": ["scale"]})):
+                with bench:
+                    first, second = (bench.jobs[name].hold("scale") if bench._is_endless else asked(bench, name) for name in "ab")
+                    first.acquire()
+                    task = asyncio.create_task(second.acquire_async())
+                    while second.state != "waiting":
+                        await asyncio.sleep(0)
+                    first.release()
+                    ends(second)
+                    if is_taken:
+                        with self.assertRaises(labrun.TakenAway):
+                            await task
+                        self.assertEqual((second.state, second.job.state.holds), ("taken", False))
+                    else:
+                        await task
+                        self.assertTrue(second.held and second.job.state.holds)
+                        second.release()
+
+        def withdraws(session: labrun.Session) -> None:
+            with self.assertRaisesRegex(labrun.NotHeld, "session [12] of b is held: it can't be withdrawn"):
+                session.withdraw()
+
+        asyncio.run(main(labrun.Session.give_up, False))
+        asyncio.run(main(withdraws, False))
+        asyncio.run(main(lambda session: session.job.bench.take_away("b"), True))
+
+    def test_taken_away_by_one_who_is_interrupted(self) -> None:
+        """Its thread was told that it holds, and isn't awake yet: it doesn't go to work."""
+
+        async def main() -> None:
+            with labrun.Bench.new({"a": ["x"], "b": ["x"]}) as bench:
+                first, second = bench.jobs["a"].hold("x"), bench.jobs["b"].hold("x")
+                first.acquire()
+                task = asyncio.create_task(second.acquire_async())
+                while second.state != "waiting":
+                    await asyncio.sleep(0)
+                first.release()
+
+                def interrupted(*given: Any) -> None:
+                    raise KeyboardInterrupt
+
+                with mock.patch.object(bench, "_comes_to", interrupted), self.assertRaises(KeyboardInterrupt):
+                    bench.take_away("b")
+                with self.assertRaises(labrun.TakenAway):
+                    await task
+                self.assertEqual((second.state, bench.taken, bench.jobs["b"].state.holds), ("taken", (("b", 2),), False))
+
+        asyncio.run(main())
+
+    def test_one_that_was_offered_twice(self) -> None:
+        """Of two that are the same session, the one that never asked isn't the other's to give up."""
+        with labrun.Bench.from_text(TWO) as bench:
+            first, second = asked(bench, "a"), asked(bench, "a")
+            first.acquire()
+            second.give_up()
+            self.assertTrue(first.held and bench.jobs["a"].state.holds)
+            first.release()
 
 
 if __name__ == "__main__":
