@@ -1416,6 +1416,17 @@ struct core {
         return false;
     }
 
+    // The same where a call failed, which is told in any case: nobody has it, though it may hold.
+    void forsake(std::uint32_t job, std::uint32_t number, std::uint64_t ask) {
+        if (is_closed || seats[job].in != number || seats[job].asks != ask) return;
+        left |= bit(job);
+        try {
+            give_up(job);
+            settle();
+        } catch (const std::exception &) {
+        }
+    }
+
     // Gives up a session that is the next to begin: single turns begin it, and don't let it hold.
     void skip(std::uint32_t job) {
         const std::uint32_t number = seats[job].last + 1;
@@ -1800,10 +1811,14 @@ class session {
         try {
             how = core->comes_of(guard, job, times);
             comes_anew();
-        } catch (...) {
+        } catch (const timed_out &) {
             comes_anew();
             if (!passes || !core->pass(job, number, mine)) throw;
             how = detail::asked::holds;
+        } catch (...) {
+            comes_anew();
+            if (passes) core->forsake(job, number, mine);
+            throw;
         }
         if (how == detail::asked::withdrawn) throw withdrawn();
         if (how == detail::asked::failed && !(passes && core->pass(job, number, mine)))

@@ -33,8 +33,11 @@ template <class Call> static Call *real(const char *name) {
     std::memcpy(&call, &found, sizeof call);
     return call;
 }
+static const char *who = ""; // which that was
 template <class Call, class... Given> static std::uint32_t answer(const char *name, Given... given) {
-    return ++made == strange ? STRANGE : real<Call>(name)(given...);
+    if (++made != strange) return real<Call>(name)(given...);
+    who = name;
+    return STRANGE;
 }
 
 #define CALL1(name, A) \
@@ -121,25 +124,29 @@ static void runs() {
     labrun::upgrade(script);
 }
 
+// Longer than anybody waits in what follows, unless something strange keeps others from letting go.
+static const auto ENOUGH = 1s;
+
 // Sessions of a script, in line and outside: held, late, given up, taken away.
 static void of_a_script(std::uint32_t overtakes) {
     bench of(script, "", labrun::sync::data, overtakes);
     labrun::desk &a = of.desks()[0], &b = of.desks()[1];
     {
-        auto held = a.begin(300s);
+        auto held = a.begin(ENOUGH);
         held->command();
         is_so("late", throws<labrun::timed_out>([&] { b.begin(1ms); }));
         is_so("waits", !of.waits_for("b").empty());
         b.patience(1ms);
-        is_so("withdrawn", throws<labrun::withdrawn>([&] { b.begin(300s); }));
+        is_so("withdrawn", throws<labrun::withdrawn>([&] { b.begin(ENOUGH); }));
         b.patience(std::nullopt);
         is_so("late", throws<labrun::timed_out>([&] { b.begin(1ms); }));
         b.give_up();
         is_so("late", throws<labrun::timed_out>([&] { b.begin(1ms); }));
+        held->finish();
     }
-    b.begin(300s);
-    auto held = a.begin(300s);
-    is_so("taken", of.take_away("a") && !b.begin(300s));
+    b.begin(ENOUGH)->finish();
+    auto held = a.begin(ENOUGH);
+    is_so("taken", of.take_away("a") && !b.begin(ENOUGH));
     is_so("told", throws<labrun::taken_away>([&] { held->finish(); }));
     is_so("finished", of.close().finished);
 }
@@ -149,12 +156,13 @@ static void that_lapses() {
     bench of(script, "", labrun::sync::data, 0);
     labrun::desk &a = of.desks()[0], &b = of.desks()[1];
     {
-        auto held = b.begin(300s);
+        auto held = b.begin(ENOUGH);
         is_so("late", throws<labrun::timed_out>([&] { a.begin(1ms); }));
         a.give_up();
     }
-    b.begin(300s);
-    a.begin(300s);
+    // (who goes can't tell it: the next begin does)
+    b.begin(ENOUGH)->finish();
+    a.begin(ENOUGH)->finish();
     is_so("none left", !a.begin() && !b.begin());
     const labrun::report report = of.close();
     is_so("lapsed", report.finished && report.lapsed.size() == 1);
@@ -165,15 +173,19 @@ static void that_come(const std::string &journal) {
     bench of = bench::create({{"a", {"x", "y"}}, {"b", {"x"}}, {"c", {"y"}}}, journal, labrun::sync::none);
     const labrun::job a = of.job("a"), b = of.job("b"), c = of.job("c");
     {
-        labrun::session held = a.hold({"x"}, asking().limit(1ms));
+        labrun::session held = a.hold({"x"});
         is_so("late", throws<labrun::timed_out>([&] { b.hold({"x"}, asking().timeout(0s)); }));
         is_so("withdrawn", throws<labrun::withdrawn>([&] { b.hold({"x"}, asking().patience(0s)); }));
-        c.hold({"y"}, asking().timeout(300s)).finish();
-        b.hold({"x"}, asking().timeout(300s)).finish();
+        held.finish();
+    }
+    {
+        labrun::session held = a.hold({"x"}, asking().limit(1ms));
+        c.hold({"y"}, asking().timeout(ENOUGH)).finish();
+        b.hold({"x"}, asking().timeout(ENOUGH)).finish();
         is_so("told", throws<labrun::taken_away>([&] { held.finish(); }));
     }
     labrun::session held = c.hold({"y"});
-    a.any_of({{"y"}, {"x"}}, asking().timeout(300s)).finish();
+    a.any_of({{"y"}, {"x"}}, asking().timeout(ENOUGH)).finish();
     {
         labrun::session other = b.hold({"x"});
         is_so("late", throws<labrun::timed_out>([&] { a.any_of({{"y"}, {"x"}}, asking().timeout(1ms)); }));
@@ -207,14 +219,9 @@ static void with_a_journal() {
         labrun::session held = of.job("a").hold({"x"});
         held.note("4.998 V");
         limit(static_cast<rlim_t>(std::ifstream(path, std::ios::ate | std::ios::binary).tellg()) + 5);
-        try {
-            b.hold({"x"}, asking().timeout(1ms));
-        } catch (const labrun::journal_error &) {
-        } catch (...) {
-            limit(RLIM_INFINITY);
-            throw;
-        }
+        const bool is_told = throws<labrun::journal_error>([&] { held.note("5.002 V"); });
         limit(RLIM_INFINITY);
+        is_so("not written", is_told);
         // (a bench that can't go back is closed, which whoever comes next is told)
         held.command();
         is_so("late", throws<labrun::timed_out>([&] { b.hold({"x"}, asking().timeout(1ms)); }));
@@ -246,7 +253,7 @@ static void each_is_told(const std::string &name, const std::function<void()> &c
             expect(name + ": " + told, told.empty() && at > 4);
             return;
         }
-        expect(name + ": call " + std::to_string(at) + " of " + std::to_string(made), !told.empty());
+        expect(name + ": call " + std::to_string(at) + " of " + std::to_string(made) + ", " + who, !told.empty());
     }
 }
 

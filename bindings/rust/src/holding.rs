@@ -544,6 +544,14 @@ impl Inner {
         self.settle(core).map(|()| false)
     }
 
+    /// The same where a call failed, which is told in any case: nobody has it, though it may hold.
+    pub(crate) fn forsake(&self, core: &mut Core, job: u32, number: u32, ask: u64) {
+        if !core.closed && core.seats[job as usize].is_in(number, ask) {
+            core.left |= 1 << job;
+            let _ = self.give_up(core, job).and_then(|_| self.settle(core));
+        }
+    }
+
     /// Gives up a session that is the next to begin: single turns begin it, and don't let it hold.
     fn skip(&self, core: &mut Core, job: u32) -> Result<(), Error> {
         let number = core.seats[job as usize].last + 1;

@@ -870,7 +870,9 @@ impl Inner {
         // (if it came anew, it has another number by now)
         let seat = &core.seats[job as usize];
         let number = if seat.ask == ask { seat.asks_for } else { number };
-        if passes && ended.is_err() && self.pass(&mut core, job, number, ask)? {
+        if passes && matches!(ended, Err(Error::Status(_) | Error::NoMemory)) {
+            self.forsake(&mut core, job, number, ask);
+        } else if passes && ended.is_err() && self.pass(&mut core, job, number, ask)? {
             ended = Ok(());
         }
         let (seat, ticket) = (&mut core.seats[job as usize], self.ticket());

@@ -11,6 +11,8 @@ use std::thread;
 use std::time::{Duration, Instant};
 
 const LONG: Duration = Duration::from_secs(300);
+/// Longer than anybody waits in what follows, unless something strange keeps others from letting go.
+const ENOUGH: Duration = Duration::from_secs(1);
 const SHORT: Duration = Duration::from_millis(1);
 
 thread_local! {
@@ -67,12 +69,12 @@ fn runs() -> Result<(), Error> {
 /// Sessions of a script, in line and outside: held, late, given up, taken away.
 fn of_a_script(overtakes: u32) -> Result<(), Error> {
     let (bench, mut a, mut b) = two(Options::new().overtakes(overtakes).from_text(SCRIPT)?);
-    let mut held = a.begin_within(LONG)?.unwrap();
+    let mut held = a.begin_within(ENOUGH)?.unwrap();
     held.command()?;
     is_late(b.begin_within(SHORT))?;
     assert!(!bench.waits_for("b")?.is_empty());
     b.set_patience(Some(SHORT));
-    match b.begin_within(LONG) {
+    match b.begin_within(ENOUGH) {
         Err(Error::Withdrawn) => {}
         came => return came.map(|_| panic!("it holds")),
     }
@@ -80,11 +82,10 @@ fn of_a_script(overtakes: u32) -> Result<(), Error> {
     is_late(b.begin_within(SHORT))?;
     b.give_up();
     is_late(b.begin_within(SHORT))?;
-    drop(held);
-    a.set_limit(Some(SHORT));
-    drop(b.begin_within(LONG)?.unwrap());
-    let held = a.begin_within(LONG)?.unwrap();
-    assert!(bench.take_away("a")? && b.begin_within(LONG)?.is_none());
+    held.finish()?;
+    b.begin_within(ENOUGH)?.unwrap().finish()?;
+    let held = a.begin_within(ENOUGH)?.unwrap();
+    assert!(bench.take_away("a")? && b.begin_within(ENOUGH)?.is_none());
     assert_eq!(held.finish(), Err(Error::TakenAway));
     assert!(bench.close()?.finished);
     Ok(())
@@ -93,12 +94,13 @@ fn of_a_script(overtakes: u32) -> Result<(), Error> {
 /// One in line that can't be withdrawn: it lapses.
 fn that_lapses() -> Result<(), Error> {
     let (bench, mut a, mut b) = two(Options::new().overtakes(0).from_text(SCRIPT)?);
-    let held = b.begin_within(LONG)?.unwrap();
+    let held = b.begin_within(ENOUGH)?.unwrap();
     is_late(a.begin_within(SHORT))?;
     a.give_up();
     drop(held);
-    drop(b.begin_within(LONG)?.unwrap());
-    drop(a.begin_within(LONG)?.unwrap());
+    // (a drop can't tell it: the next begin does)
+    b.begin_within(ENOUGH)?.unwrap().finish()?;
+    a.begin_within(ENOUGH)?.unwrap().finish()?;
     let report = bench.close()?;
     assert_eq!((report.finished, report.lapsed), (true, vec![("a".to_string(), 1)]));
     Ok(())
@@ -109,14 +111,19 @@ fn that_come(options: &Options) -> Result<(), Error> {
     let bench = options.for_jobs([("a", vec!["x", "y"]), ("b", vec!["x"]), ("c", vec!["y"])])?;
     let job = |name: &str| bench.job(name).unwrap();
     let (a, b, c): (Job, Job, Job) = (job("a"), job("b"), job("c"));
-    let held = a.hold(&["x"]).limit(SHORT).begin()?;
+    let held = a.hold(&["x"]).begin()?;
     is_late(b.hold(&["x"]).timeout(Duration::ZERO).begin())?;
-    assert_eq!(b.hold(&["x"]).patience(Duration::ZERO).begin().err(), Some(Error::Withdrawn));
-    c.hold(&["y"]).timeout(LONG).begin()?.finish()?;
-    b.hold(&["x"]).timeout(LONG).begin()?.finish()?;
+    match b.hold(&["x"]).patience(Duration::ZERO).begin() {
+        Err(Error::Withdrawn) => {}
+        came => return came.map(|_| panic!("it holds")),
+    }
+    held.finish()?;
+    let held = a.hold(&["x"]).limit(SHORT).begin()?;
+    c.hold(&["y"]).timeout(ENOUGH).begin()?.finish()?;
+    b.hold(&["x"]).timeout(ENOUGH).begin()?.finish()?;
     assert_eq!(held.finish(), Err(Error::TakenAway));
     let held = c.hold(&["y"]).begin()?;
-    a.any_of(&[&["y"], &["x"]]).timeout(LONG).begin()?.finish()?;
+    a.any_of(&[&["y"], &["x"]]).timeout(ENOUGH).begin()?.finish()?;
     let other = b.hold(&["x"]).begin()?;
     is_late(a.any_of(&[&["y"], &["x"]]).timeout(SHORT).begin())?;
     other.finish()?;
@@ -144,30 +151,25 @@ fn of_a_text() -> Result<(), Error> {
 
 /// With a journal: a write that fails, and another process.
 fn with_a_journal(file: &Path) -> Result<(), Error> {
-    let _ = std::fs::remove_file(file);
-    let _ = std::fs::remove_file(file.with_extension("journal.1"));
+    for it in ["journal", "journal.1", "more", "more.1"] {
+        let _ = std::fs::remove_file(file.with_extension(it));
+    }
     let opened = || Options::new().journal(file, SyncTo::Memory).for_jobs([("a", vec!["x", "y"]), ("b", vec!["x"])]);
     let bench = opened()?;
     let (a, b) = (bench.job("a")?, bench.job("b")?);
     let mut held = a.hold(&["x"]).begin()?;
     held.note("4.998 V")?;
     limit(std::fs::metadata(file).unwrap().len() as usize + 5);
-    let came = is_late(b.hold(&["x"]).timeout(SHORT).begin());
+    let came = held.note("5.002 V");
     limit(1 << 40);
-    match came {
-        Err(Error::Journal { .. }) => {}
-        came => return came.map(|()| panic!("it is written")),
-    }
+    assert!(matches!(came, Err(Error::Journal { .. })));
     // (a bench that can't go back is closed, which whoever comes next is told)
     held.command()?;
     is_late(b.hold(&["x"]).timeout(SHORT).begin())?;
     b.add(&["x"])?;
     bench.close()?;
     drop((bench_of(opened()?, &["a"])?, held));
-    that_come(&Options::new().journal(file.with_extension("more"), SyncTo::Memory))?;
-    let _ = std::fs::remove_file(file.with_extension("more"));
-    let _ = std::fs::remove_file(file.with_extension("more.1"));
-    Ok(())
+    that_come(&Options::new().journal(file.with_extension("more"), SyncTo::Memory))
 }
 
 /// What was held lets go, and what was added is done.
@@ -206,7 +208,9 @@ fn statuses() {
         each_is_told("that come", &|| that_come(&Options::new()));
         each_is_told("of a text", &of_a_text);
         each_is_told("with a journal", &|| with_a_journal(&file));
-        let _ = std::fs::remove_file(&file);
+        for it in ["journal", "more", "more.1"] {
+            let _ = std::fs::remove_file(file.with_extension(it));
+        }
     });
 }
 

@@ -617,8 +617,10 @@ fn a_giving_up_that_fails() {
     let script = format!("lab 2\njob a\n{patient}job b\n{patient}job c\n{patient}");
     let (bench, desks) = Options::new().overtakes(0).journal(folder.file(), SyncTo::Memory).from_text(script.as_bytes()).unwrap();
     let [mut a, mut b, mut c]: [_; 3] = desks.try_into().ok().unwrap();
-    let held = a.begin().unwrap().unwrap();
+    let mut held = a.begin().unwrap().unwrap();
     assert!(b.begin_within(Duration::ZERO).is_err());
+    // (so that the file has that b waits)
+    held.note("4.998 V").unwrap();
     limit(folder.text().len() + 5);
     drop(b);
     limit(1 << 40);
