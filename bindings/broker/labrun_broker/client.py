@@ -88,7 +88,7 @@ class NotHeld(_Told, labrun.NotHeld):
 
 
 class TakenAway(_Told, labrun.TakenAway):
-    """The session was ended for its owner. Others may be at its instruments by now."""
+    """The session was ended for its owner, or the broker hasn't answered for so long that it may be. Others may be at its instruments soon."""
 
 
 class MayNotUse(_Told, labrun.MayNotUse):
@@ -218,7 +218,7 @@ class _Stream:
             while (told := await self._call.read()) is not grpc.aio.EOF:
                 self.is_open, kind = True, told.WhichOneof("told")
                 self._is_told(kind, getattr(told, kind))
-        except grpc.RpcError:
+        except (grpc.RpcError, asyncio.CancelledError):  # (the latter if the call was cancelled here)
             pass
         self._call.cancel()
         self._lost = _Lost(await self._call.code(), str(await self._call.details()))
@@ -354,7 +354,7 @@ class Lab:
         seconds TimeoutError says who keeps it waiting, and it is given up. `waits` is called with a line whenever it is known for whom it waits."""
         choices = [pb.Instruments(names=(it,) if isinstance(it, str) else tuple(it)) for it in any_of]
         wish = pb.Wish(instruments=instruments, any_of=choices, station=self.station if station is None else station, by=self.by)
-        wish.wants_waits = waits is not None
+        wish.wants_waits, wish.pings = waits is not None, True
         return Held(self, wish, timeout, waits)
 
     def status(self) -> dict[str, Any]:
@@ -487,6 +487,11 @@ class Held:
     def held(self) -> bool:
         """Whether nobody else can hold its instruments."""
         return self.state == "held" and _clock() < self._until
+
+    @property
+    def is_released_if_gone(self) -> bool:
+        """Whether the broker lets it go by itself once it hasn't heard from this client for a while (`gone = "release"`)."""
+        return self._lease is not None or self._grace is not None
 
     def acquire(self) -> None:
         """Blocks until the session holds all its instruments."""
@@ -664,7 +669,7 @@ class Held:
         """The session goes on to hold, on another stream, or is over. It is tried while the broker keeps the session, or for so long as an
         owner waits who asked for something."""
         until = None if self._grace is None or self._lease is not None else loop.time() + self._grace
-        wish = pb.Wish(ticket=self._wish.ticket, by=self._wish.by, comes_back=True)
+        wish = pb.Wish(ticket=self._wish.ticket, by=self._wish.by, comes_back=True, pings=True)
         while True:
             stream, sent = _Stream(self.lab), _clock()
             stream.session = self

@@ -77,7 +77,8 @@ class Owner(Protocol):
 
 @dataclass(frozen=True)
 class Wish:
-    """What a client asks for. With `comes_back` it held before, and wants no other session than that of its ticket."""
+    """What a client asks for. With `comes_back` it held before, and wants no other session than that of its ticket. With `pings` it says again
+    and again that it is there, while it holds."""
 
     instruments: tuple[str, ...] = ()
     any_of: tuple[tuple[str, ...], ...] = ()
@@ -86,6 +87,7 @@ class Wish:
     timeout: Optional[float] = None
     ticket: str = ""
     comes_back: bool = False
+    pings: bool = False
 
 
 @dataclass(eq=False)
@@ -374,7 +376,7 @@ class Keeping:
         try:
             ticket = hashed(wish.ticket)
             if ticket and (held := await self._seat_of(ticket)) is not None:
-                return self._comes_back(held, owner)
+                return self._comes_back(held, wish, owner)
             if wish.comes_back:
                 raise self._why_unknown(ticket)
             self._check(wish)
@@ -395,6 +397,7 @@ class Keeping:
             raise
         if seat.owner is not owner:
             raise Ended("taken", "the session was taken away before its client was told that it holds")
+        self.heard(seat, owner, wish.pings)
         return seat
 
     async def _seat_of(self, ticket: str) -> Optional[Seat]:
@@ -683,13 +686,14 @@ class Keeping:
             return fault.errno not in (errno.ENOSPC, errno.EDQUOT)
         return True
 
-    def _comes_back(self, seat: Seat, owner: Owner) -> Seat:
+    def _comes_back(self, seat: Seat, wish: Wish, owner: Owner) -> Seat:
         if seat.owner is not None:
             seat.owner.taken("another connection came for the session")
         if seat.timer is not None:
             seat.timer.cancel()
         seat.state, seat.owner, seat.gone_at, seat.timer, seat.back_at = "holding", owner, None, None, self._now()
-        self.heard(seat, owner)
+        seat.heard_at = None
+        self.heard(seat, owner, wish.pings)
         self._record("back", seat)
         return seat
 

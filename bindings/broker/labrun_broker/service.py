@@ -166,7 +166,7 @@ class Client:
             raise BadWish(f"{len(asked.any_of)} choices; {MOST_CHOICES} are the most")
         any_of = tuple(tuple(it.names) for it in asked.any_of)
         ticket = asked.ticket or secrets.token_urlsafe()
-        wish = Wish(tuple(asked.instruments), any_of, asked.station, asked.by, _seconds(asked), ticket, asked.comes_back)
+        wish = Wish(tuple(asked.instruments), any_of, asked.station, asked.by, _seconds(asked), ticket, asked.comes_back, asked.pings)
         seats: list[Seat] = []
         self._waiting = self._starts(self._holds(wish, seats))
         if asked.wants_waits:
