@@ -171,8 +171,15 @@ class _Stream:
 
     async def _writes(self, ask: Any) -> None:
         async with self._writing:
-            with contextlib.suppress(grpc.RpcError, asyncio.InvalidStateError):  # (whoever reads sees that, too)
+            try:
                 await self._call.write(ask)
+            except (grpc.RpcError, asyncio.InvalidStateError):
+                pass  # (whoever reads sees that, too)
+            except asyncio.CancelledError:
+                # (so it ends, too, if the call was cancelled here, and not whoever asks)
+                task = asyncio.current_task()
+                if task is None or task.cancelling():
+                    raise
 
     async def pings(self) -> None:
         """Says that the client is there; the session is told of the answer."""
@@ -402,12 +409,16 @@ class Lab:
             atexit.unregister(self._at_exit)
 
     async def _close(self, lets_go: bool) -> None:
+        fault: Optional[labrun.LabrunError] = None
         # (a broker that doesn't answer keeps what was held for whoever has its ticket)
         with contextlib.suppress(builtins.TimeoutError):
             async with asyncio.timeout(ANSWER):
                 for held in list(self._held):
-                    if lets_go:
-                        await held._let_go(None)
+                    try:
+                        if lets_go:
+                            await held._let_go(None)
+                    except labrun.LabrunError as it:  # (the others are let go all the same)
+                        fault = fault or it
                     for task in (held._returns, held._beats):
                         if task is not None:
                             task.cancel()
@@ -415,6 +426,8 @@ class Lab:
         with contextlib.suppress(builtins.TimeoutError):
             async with asyncio.timeout(CLOSING):
                 await self._channel.close()
+        if fault is not None:
+            raise fault
 
     def _at_exit(self) -> None:
         self.close(lets_go=False)
@@ -636,8 +649,6 @@ class Held:
             if self._stream is not None and self._returns is None and not self._asked and (ping is None or ping.done()):
                 ping = asyncio.create_task(self._stream.pings())
             await asyncio.sleep(min(left, lease / BEATS))
-        if ping is not None:
-            ping.cancel()
         self._looks_at_the_time()
 
     def _looks_at_the_time(self) -> None:
@@ -649,16 +660,15 @@ class Held:
         if returns is None and stream is not None:
             self._is_taken(stream, fault)
             return
-        self._is_over("taken", fault)
         if returns is not None:
             returns.cancel()
+        self._is_over("taken", fault)
 
     def _is_taken(self, stream: _Stream, fault: Exception) -> None:
-        is_asked = bool(self._asked)
-        if is_asked:
+        if self._asked:
             stream.ends(fault)
-        self._is_over("taken", None if is_asked else fault)
         stream.cancel()
+        self._is_over("taken", fault)
 
     def _is_cut(self) -> None:
         """The stream ended. A session that is held comes back on another one, while its owner works."""
@@ -676,6 +686,7 @@ class Held:
             try:
                 kind, told = await stream.asks(wish=wish)
                 if self.state != "held":  # it was taken away just now
+                    stream.cancel()
                     return
                 if kind == "held" and not stream.is_lost:
                     self._returns = None
@@ -743,6 +754,9 @@ class Held:
                 await asyncio.sleep(pause)
                 pause = min(2 * pause, 1.0)
                 continue
+            except labrun.LabrunError:
+                self._raises_taken()
+                raise
             if kind == "fault":
                 raise _raised(told)
             if kind == "gone":

@@ -26,7 +26,7 @@ from labrun import LabrunError, MayNotUse, NotHeld, TakenAway
 from .bay import MOST_COMMANDS, MOST_SESSIONS, Bay
 from .journals import GIVES, TAKES, Given, SessionsGiven, gives, is_own, records_of_journal, sessions_given, takes
 from .records import Disk, Record, Records, hashed
-from .sessions import ENDS, parsed
+from .sessions import ENDS, Fault, parsed
 
 KEPT_IN_MEMORY = 1000  # records, and ends of tickets
 # a page is turned before the bench is full: at so many sessions of a seat, commands of all, and bytes of the journal
@@ -327,7 +327,8 @@ class Keeping:
         left = [key for key in given if key not in ended]
         if not left:
             return
-        with open(self._journal, encoding="utf-8", errors="replace", newline="\n") as lines:
+        let_go: dict[tuple[str, int], Record] = {}
+        with contextlib.suppress(Fault), open(self._journal, encoding="utf-8", errors="replace", newline="\n") as lines:
             let_go = {(it["station"], it["session"]): it for it in records_of_journal(lines) if it["what"] == "let_go"}
         for key in left:
             it, of = given[key], let_go.get(key, held.get(key, {}))
