@@ -88,7 +88,7 @@ class NotHeld(_Told, labrun.NotHeld):
 
 
 class TakenAway(_Told, labrun.TakenAway):
-    """The session was ended for its owner. Others may be at its instruments by now."""
+    """The session was ended for its owner, or the broker hasn't answered for so long that it may be. Others may be at its instruments soon."""
 
 
 class MayNotUse(_Told, labrun.MayNotUse):
@@ -171,8 +171,15 @@ class _Stream:
 
     async def _writes(self, ask: Any) -> None:
         async with self._writing:
-            with contextlib.suppress(grpc.RpcError, asyncio.InvalidStateError):  # (whoever reads sees that, too)
+            try:
                 await self._call.write(ask)
+            except (grpc.RpcError, asyncio.InvalidStateError):
+                pass  # (whoever reads sees that, too)
+            except asyncio.CancelledError:
+                # (so it ends, too, if the call was cancelled here, and not whoever asks)
+                task = asyncio.current_task()
+                if task is None or task.cancelling():
+                    raise
 
     async def pings(self) -> None:
         """Says that the client is there; the session is told of the answer."""
@@ -218,7 +225,7 @@ class _Stream:
             while (told := await self._call.read()) is not grpc.aio.EOF:
                 self.is_open, kind = True, told.WhichOneof("told")
                 self._is_told(kind, getattr(told, kind))
-        except grpc.RpcError:
+        except (grpc.RpcError, asyncio.CancelledError):  # (the latter if the call was cancelled here)
             pass
         self._call.cancel()
         self._lost = _Lost(await self._call.code(), str(await self._call.details()))
@@ -354,7 +361,7 @@ class Lab:
         seconds TimeoutError says who keeps it waiting, and it is given up. `waits` is called with a line whenever it is known for whom it waits."""
         choices = [pb.Instruments(names=(it,) if isinstance(it, str) else tuple(it)) for it in any_of]
         wish = pb.Wish(instruments=instruments, any_of=choices, station=self.station if station is None else station, by=self.by)
-        wish.wants_waits = waits is not None
+        wish.wants_waits, wish.pings = waits is not None, True
         return Held(self, wish, timeout, waits)
 
     def status(self) -> dict[str, Any]:
@@ -402,12 +409,16 @@ class Lab:
             atexit.unregister(self._at_exit)
 
     async def _close(self, lets_go: bool) -> None:
+        fault: Optional[labrun.LabrunError] = None
         # (a broker that doesn't answer keeps what was held for whoever has its ticket)
         with contextlib.suppress(builtins.TimeoutError):
             async with asyncio.timeout(ANSWER):
                 for held in list(self._held):
-                    if lets_go:
-                        await held._let_go(None)
+                    try:
+                        if lets_go:
+                            await held._let_go(None)
+                    except labrun.LabrunError as it:  # (the others are let go all the same)
+                        fault = fault or it
                     for task in (held._returns, held._beats):
                         if task is not None:
                             task.cancel()
@@ -415,6 +426,8 @@ class Lab:
         with contextlib.suppress(builtins.TimeoutError):
             async with asyncio.timeout(CLOSING):
                 await self._channel.close()
+        if fault is not None:
+            raise fault
 
     def _at_exit(self) -> None:
         self.close(lets_go=False)
@@ -487,6 +500,11 @@ class Held:
     def held(self) -> bool:
         """Whether nobody else can hold its instruments."""
         return self.state == "held" and _clock() < self._until
+
+    @property
+    def is_released_if_gone(self) -> bool:
+        """Whether the broker lets it go by itself once it hasn't heard from this client for a while (`gone = "release"`)."""
+        return self._lease is not None or self._grace is not None
 
     def acquire(self) -> None:
         """Blocks until the session holds all its instruments."""
@@ -631,8 +649,6 @@ class Held:
             if self._stream is not None and self._returns is None and not self._asked and (ping is None or ping.done()):
                 ping = asyncio.create_task(self._stream.pings())
             await asyncio.sleep(min(left, lease / BEATS))
-        if ping is not None:
-            ping.cancel()
         self._looks_at_the_time()
 
     def _looks_at_the_time(self) -> None:
@@ -644,16 +660,15 @@ class Held:
         if returns is None and stream is not None:
             self._is_taken(stream, fault)
             return
-        self._is_over("taken", fault)
         if returns is not None:
             returns.cancel()
+        self._is_over("taken", fault)
 
     def _is_taken(self, stream: _Stream, fault: Exception) -> None:
-        is_asked = bool(self._asked)
-        if is_asked:
+        if self._asked:
             stream.ends(fault)
-        self._is_over("taken", None if is_asked else fault)
         stream.cancel()
+        self._is_over("taken", fault)
 
     def _is_cut(self) -> None:
         """The stream ended. A session that is held comes back on another one, while its owner works."""
@@ -664,13 +679,14 @@ class Held:
         """The session goes on to hold, on another stream, or is over. It is tried while the broker keeps the session, or for so long as an
         owner waits who asked for something."""
         until = None if self._grace is None or self._lease is not None else loop.time() + self._grace
-        wish = pb.Wish(ticket=self._wish.ticket, by=self._wish.by, comes_back=True)
+        wish = pb.Wish(ticket=self._wish.ticket, by=self._wish.by, comes_back=True, pings=True)
         while True:
             stream, sent = _Stream(self.lab), _clock()
             stream.session = self
             try:
                 kind, told = await stream.asks(wish=wish)
                 if self.state != "held":  # it was taken away just now
+                    stream.cancel()
                     return
                 if kind == "held" and not stream.is_lost:
                     self._returns = None
@@ -738,6 +754,9 @@ class Held:
                 await asyncio.sleep(pause)
                 pause = min(2 * pause, 1.0)
                 continue
+            except labrun.LabrunError:
+                self._raises_taken()
+                raise
             if kind == "fault":
                 raise _raised(told)
             if kind == "gone":

@@ -7,6 +7,7 @@ from __future__ import annotations
 import argparse
 import asyncio
 import contextlib
+import ctypes
 import json
 import os
 import resource
@@ -73,13 +74,15 @@ def say(text: str) -> None:
 
 # ---- serve
 
+LEAST_GRACE = 1.0
+
 
 def add_serve(parser: argparse.ArgumentParser) -> None:
     parser.add_argument("bay", metavar="BAY", help="the bay, a TOML file; see `bay check`")
     parser.add_argument("--state", metavar="DIR", help="keep the journal and the records there: a broker that is killed goes on where it was")
     parser.add_argument("--listen", metavar="ADDR", action="append", help=f"unix:PATH or HOST:PORT, as often as wanted; {DEFAULT} without")
     parser.add_argument("--group", metavar="GROUP", help="whose members may use the Unix sockets, which have the mode 0660")
-    parser.add_argument("--grace", metavar="SECONDS", type=seconds, default=60.0, help="for how long a client that is gone may come back, 60 without")
+    parser.add_argument("--grace", metavar="SECONDS", type=seconds, default=60.0, help="with gone = \"release\": how long a silent client is kept, 60 without")
     parser.add_argument("--page", metavar="ADDR", help="show how the bay stands to browsers there")
     parser.add_argument("--metrics", metavar="ADDR", help="tell Prometheus there")
     parser.add_argument("--tls-certificate", metavar="FILE", help="for other machines: the broker's certificate")
@@ -98,6 +101,9 @@ async def serve(args: argparse.Namespace) -> int:
     from .keeping import Keeping
 
     bay = read_bay(args.bay)
+    if bay.gone == "release" and args.grace < LEAST_GRACE:
+        say(f"--grace {args.grace:g}: where gone = \"release\" it is {LEAST_GRACE:g} s at least, so that a client that is there can say so")
+        return USAGE
     _, hard = resource.getrlimit(resource.RLIMIT_NOFILE)
     resource.setrlimit(resource.RLIMIT_NOFILE, (hard, hard))
     # (the thread that syncs a slow disk isn't to wait for the interpreter's lock when it is through)
@@ -205,7 +211,7 @@ def runs(command: list[str], held: client.Held, signals: Signals) -> int:
     environment = {**os.environ, "LABRUN_HELD": " ".join(held.instruments), "LABRUN_STATION": held.station}
     taken: list[Exception] = []
     try:
-        process = signals.starts(command, environment)
+        process = signals.starts(command, environment, held.is_released_if_gone)
     except OSError as fault:
         say(f"{command[0]}: {fault.strerror}")
         return NOT_FOUND if isinstance(fault, FileNotFoundError) else CANT_RUN
@@ -222,6 +228,21 @@ def runs(command: list[str], held: client.Held, signals: Signals) -> int:
     return TAKEN if taken else status if status >= 0 else 128 - status
 
 
+PR_SET_PDEATHSIG = 1
+
+
+def ends_with(parent: int) -> Callable[[], None]:
+    """What a child does before it becomes the command: it asks for SIGTERM once its parent is dead, however that died."""
+    prctl = ctypes.CDLL(None).prctl
+
+    def asks() -> None:
+        prctl(PR_SET_PDEATHSIG, int(signal.SIGTERM), 0, 0, 0)
+        if os.getppid() != parent:
+            os.kill(os.getpid(), signal.SIGTERM)
+
+    return asks
+
+
 class Signals:
     """What comes before there is a command ends this process; from there on it is sent on. (A terminal sends Ctrl-C to all of its foreground.)"""
 
@@ -230,9 +251,9 @@ class Signals:
         self.is_starting = False
         self.came: list[int] = []
 
-    def starts(self, command: list[str], environment: dict[str, str]) -> subprocess.Popen[bytes]:
+    def starts(self, command: list[str], environment: dict[str, str], ends_with_this: bool = False) -> subprocess.Popen[bytes]:
         self.is_starting = True
-        self.process = subprocess.Popen(command, env=environment)
+        self.process = subprocess.Popen(command, env=environment, preexec_fn=ends_with(os.getpid()) if ends_with_this else None)
         for number in self.came:
             self.process.send_signal(number)
         return self.process

@@ -26,7 +26,7 @@ from labrun import LabrunError, MayNotUse, NotHeld, TakenAway
 from .bay import MOST_COMMANDS, MOST_SESSIONS, Bay
 from .journals import GIVES, TAKES, Given, SessionsGiven, gives, is_own, records_of_journal, sessions_given, takes
 from .records import Disk, Record, Records, hashed
-from .sessions import ENDS, parsed
+from .sessions import ENDS, Fault, parsed
 
 KEPT_IN_MEMORY = 1000  # records, and ends of tickets
 # a page is turned before the bench is full: at so many sessions of a seat, commands of all, and bytes of the journal
@@ -77,7 +77,8 @@ class Owner(Protocol):
 
 @dataclass(frozen=True)
 class Wish:
-    """What a client asks for. With `comes_back` it held before, and wants no other session than that of its ticket."""
+    """What a client asks for. With `comes_back` it held before, and wants no other session than that of its ticket. With `pings` it says again
+    and again that it is there, while it holds."""
 
     instruments: tuple[str, ...] = ()
     any_of: tuple[tuple[str, ...], ...] = ()
@@ -86,6 +87,7 @@ class Wish:
     timeout: Optional[float] = None
     ticket: str = ""
     comes_back: bool = False
+    pings: bool = False
 
 
 @dataclass(eq=False)
@@ -325,7 +327,8 @@ class Keeping:
         left = [key for key in given if key not in ended]
         if not left:
             return
-        with open(self._journal, encoding="utf-8", errors="replace", newline="\n") as lines:
+        let_go: dict[tuple[str, int], Record] = {}
+        with contextlib.suppress(Fault), open(self._journal, encoding="utf-8", errors="replace", newline="\n") as lines:
             let_go = {(it["station"], it["session"]): it for it in records_of_journal(lines) if it["what"] == "let_go"}
         for key in left:
             it, of = given[key], let_go.get(key, held.get(key, {}))
@@ -374,7 +377,7 @@ class Keeping:
         try:
             ticket = hashed(wish.ticket)
             if ticket and (held := await self._seat_of(ticket)) is not None:
-                return self._comes_back(held, owner)
+                return self._comes_back(held, wish, owner)
             if wish.comes_back:
                 raise self._why_unknown(ticket)
             self._check(wish)
@@ -395,6 +398,7 @@ class Keeping:
             raise
         if seat.owner is not owner:
             raise Ended("taken", "the session was taken away before its client was told that it holds")
+        self.heard(seat, owner, wish.pings)
         return seat
 
     async def _seat_of(self, ticket: str) -> Optional[Seat]:
@@ -683,13 +687,14 @@ class Keeping:
             return fault.errno not in (errno.ENOSPC, errno.EDQUOT)
         return True
 
-    def _comes_back(self, seat: Seat, owner: Owner) -> Seat:
+    def _comes_back(self, seat: Seat, wish: Wish, owner: Owner) -> Seat:
         if seat.owner is not None:
             seat.owner.taken("another connection came for the session")
         if seat.timer is not None:
             seat.timer.cancel()
         seat.state, seat.owner, seat.gone_at, seat.timer, seat.back_at = "holding", owner, None, None, self._now()
-        self.heard(seat, owner)
+        seat.heard_at = None
+        self.heard(seat, owner, wish.pings)
         self._record("back", seat)
         return seat
 

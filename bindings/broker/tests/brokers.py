@@ -5,6 +5,7 @@ from __future__ import annotations
 import contextlib
 import os
 import signal
+import socket
 import subprocess
 import sys
 import tempfile
@@ -44,6 +45,12 @@ def until(is_so: Callable[[], Any], what: str = "it") -> Any:
             raise AssertionError(f"{what} isn't so after {LIMIT} s")
         time.sleep(0.01)
     return found
+
+
+def free_port() -> int:
+    with socket.socket() as one:
+        one.bind(("127.0.0.1", 0))
+        return int(one.getsockname()[1])
 
 
 class Broker:

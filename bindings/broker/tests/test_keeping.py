@@ -220,6 +220,58 @@ class Gone(OnKeeping):
         with self.assertRaisesRegex(Ended, "taken away by the broker, because its client was gone for 0.05 s"):
             await keeping.hold(Wish(ticket=TICKET, comes_back=True), self.owner)
 
+    async def test_the_grace_begins_when_the_client_was_last_heard(self) -> None:
+        """If it says that it is there: by a ping, and then by any word. Else it begins when the client is gone."""
+        keeping = await self.keeping('gone = "release"\n' + BAY, grace=50)
+        for pings, words, of in ((True, 0, 0), (True, 1, 1), (False, 1, 2)):
+            with self.subTest((pings, words)):
+                seat = await self.holds(keeping, "scope", pings=pings)
+                times = [keeping._now()]
+                await asyncio.sleep(0.3)
+                times.append(keeping._now())
+                for _ in range(words):
+                    self.assertTrue(keeping.heard(seat, self.owner))
+                await asyncio.sleep(0.3)
+                times.append(keeping._now())
+                keeping.gone(seat, self.owner)
+                if seat.timer is not None:
+                    seat.timer.cancel()
+                keeping._looks_at(seat)
+                assert seat.timer is not None
+                self.assertAlmostEqual(seat.timer.when(), times[of] + 50, delta=0.15)
+                await keeping.release(seat.name, "eve")
+
+    async def test_who_says_nothing_is_gone(self) -> None:
+        """Though its connection is there. Who pings again and again stays, and so does one that never did."""
+        keeping, other, third = await self.keeping('gone = "release"\n' + BAY, grace=1.0), Owner(), Owner()
+        seat = await self.holds(keeping, "scope", ticket=TICKET, pings=True)
+        pinging = await keeping.hold(Wish(("supply",), pings=True), other)
+        old = await keeping.hold(Wish(("load-1",)), third)
+        for _ in range(15):
+            await asyncio.sleep(0.1)
+            self.assertTrue(keeping.heard(pinging, other, True))
+        self.assertEqual((how(keeping, seat.name)["state"], pinging.state, old.state), ("idle", "holding", "holding"))
+        self.assertEqual(self.owner.told, [f"{seat.name}: the session was taken away by the broker, because its client was gone for 1 s"])
+        self.assertEqual(whats(keeping, "guest-1"), ["asked", "held", "gone", "taken"])
+        self.assertFalse(keeping.heard(seat, self.owner, True))
+        with self.assertRaisesRegex(Ended, "taken away by the broker"):
+            await keeping.hold(Wish(ticket=TICKET, comes_back=True), self.owner)
+
+    async def test_who_comes_back_again_at_once_waits(self) -> None:
+        keeping = await self.keeping()
+        seat = await self.holds(keeping, "scope", ticket=TICKET)
+        with mock.patch.object(kept, "BACK", 0.3):
+            begun, owners = time.monotonic(), [Owner() for _ in range(4)]
+            for owner in owners[:3]:
+                keeping.gone(seat, seat.owner)
+                await keeping.hold(Wish(ticket=TICKET, comes_back=True), owner)
+            self.assertGreater(time.monotonic() - begun, 0.55)
+            waits = asyncio.create_task(keeping.hold(Wish(ticket=TICKET, comes_back=True), owners[3]))
+            await asyncio.sleep(0.01)
+            await keeping.let_go(seat, owners[2])
+            with self.assertRaisesRegex(Ended, "the session has let go"):
+                await waits
+
     async def test_back_within_the_grace(self) -> None:
         keeping = await self.keeping('gone = "release"\n' + BAY, grace=0.05)
         seat = await self.holds(keeping, "scope", ticket=TICKET)

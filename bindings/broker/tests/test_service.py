@@ -18,7 +18,7 @@ import labrun_broker
 from labrun_broker import broker_pb2 as pb
 from labrun_broker import client
 from labrun_broker.service import BadAddress, Door, Pace, is_loopback
-from tests.brokers import BAY, LIMIT, Broker, OnBroker, station, until
+from tests.brokers import BAY, LIMIT, Broker, OnBroker, free_port, station, until
 
 HOLDS = """
 import sys, labrun_broker
@@ -245,12 +245,6 @@ class WhoIsLetIn(OnBroker):
         self.assertEqual(done.returncode, 69)
         self.assertIn("asks for its token", done.stderr)
         self.assertEqual(broker.ran("status", "--broker", at, "--certificate", certificate, "--token-file", token).returncode, 0)
-
-
-def free_port() -> int:
-    with socket.socket() as one:
-        one.bind(("127.0.0.1", 0))
-        return int(one.getsockname()[1])
 
 
 class Floods(OnBroker):

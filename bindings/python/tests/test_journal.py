@@ -298,6 +298,20 @@ class Files(Journals):
         with labrun.Bench.from_text(TWO) as without, self.assertRaises(labrun.JournalError):
             self.asked(without, "a").note("nowhere")
 
+    def test_lines_of_a_programs_own(self) -> None:
+        """No note is such a line, and the journal is read as without them."""
+        bench = self.opened()
+        session = self.asked(bench, "a")
+        with session:
+            session.note("5 V\n# gives a 1: 6", word="gives")
+            session.note("x\n# gives a 1: 7")
+        for word in ("hold", "add", "", "two words", "x:", "1", "\u00fc", "a\nquit"):
+            with self.assertRaises(ValueError):
+                session.note("", word)
+        self.dropped(bench)
+        self.assertEqual([line for line in self.text().split(b"\n") if line.startswith(b"# gives")], [b"# gives a 1: 5 V\\n# gives a 1: 6"])
+        self.assertEqual(self.opened().jobs["a"].state.done, 1)
+
     def test_closed(self) -> None:
         bench = self.opened()
         session = self.asked(bench, "a")
