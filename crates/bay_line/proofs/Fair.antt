@@ -10,7 +10,7 @@ use Rattle.bay_line.specs.Lines.{GoIn, wishes_of}
 use Rattle.bay_line.specs.Bounds.{one_if, NotMore, IsFair, StaysFair, IsFairlyServed}
 use Rattle.bay_line.proofs.Kept.{and_true_first, and_true_second, and_is}
 use Rattle.bay_line.proofs.Standing.{either, lt_is}
-use Rattle.bay_line.proofs.Overtaken.{same_needs, same_seats, counts_one, lt_says}
+use Rattle.bay_line.proofs.Overtaken.{same_needs, same_classes, counts_one, lt_says}
 use Rattle.bay_line.proofs.Waiting.{no_reason}
 
 le_is : (a b : ℕ) → nat_le a b ≡ true → a ≤ b
@@ -23,7 +23,7 @@ is_le a b h = elim (cases_Bool (nat_le a b)) [
 ]
 
 -- one that counts no more counts no more when both are passed by
-no_more : (most free needs : ℕ) (v w : Wish) → v.needs ≡ w.needs → v.seats ≡ w.seats → v.passed ≤ w.passed
+no_more : (most free needs : ℕ) (v w : Wish) → v.needs ≡ w.needs → v.classes ≡ w.classes → v.passed ≤ w.passed
     → v.passed + one_if (counts most free needs v) ≤ w.passed + one_if (counts most free needs w)
 no_more most free needs v w n s le = elim (cases_Bool (counts most free needs v)) [
   | inr isnt ↦ let z : one_if (counts most free needs v) ≡ 0 = ap one_if isnt in omega (arith, z, le)
@@ -42,8 +42,8 @@ notmore_passed : (most free needs : ℕ) (w : Wish) (ws : List Wish) → NotMore
 notmore_passed most free needs w [] h = tt
 notmore_passed most free needs w (v ∷ ws) h = (
   (λ n s.
-      let a = h.0 (sym (same_needs most free needs v) ∙ (n ∙ same_needs most free needs w)) (sym (same_seats most free needs v) ∙ (s ∙ same_seats most free needs w)) in
-      let b = no_more most free needs v w (sym (same_needs most free needs v) ∙ (n ∙ same_needs most free needs w)) (sym (same_seats most free needs v) ∙ (s ∙ same_seats most free needs w)) a in
+      let a = h.0 (sym (same_needs most free needs v) ∙ (n ∙ same_needs most free needs w)) (sym (same_classes most free needs v) ∙ (s ∙ same_classes most free needs w)) in
+      let b = no_more most free needs v w (sym (same_needs most free needs v) ∙ (n ∙ same_needs most free needs w)) (sym (same_classes most free needs v) ∙ (s ∙ same_classes most free needs w)) a in
       let x = counts_one (counts most free needs v) v in let y = counts_one (counts most free needs w) w in
       omega (arith, b, x, y)),
   notmore_passed most free needs w ws h.1,
@@ -63,23 +63,23 @@ fair_others ask [] h = tt
 fair_others ask (w ∷ ws) h =
     either IsFair (not (nat_eq w.ask ask)) (w ∷ others ask ws) (others ask ws) (notmore_others ask w ws h.0, fair_others ask ws h.1) (fair_others ask ws h.1)
 
-notmore_new : (w : Wish) (ask : ℕ) (sets : List ℕ) (seats : ℕ) (d : Option ℕ) → NotMore w (wishes_of ask sets seats d)
-notmore_new w ask [] seats d = tt
-notmore_new w ask (needs ∷ sets) seats d = ((λ n s. omega arith), notmore_new w ask sets seats d)
+notmore_new : (w : Wish) (ask : ℕ) (sets : List ℕ) (classes : ℕ) (d : Option ℕ) → NotMore w (wishes_of ask sets classes d)
+notmore_new w ask [] classes d = tt
+notmore_new w ask (needs ∷ sets) classes d = ((λ n s. omega arith), notmore_new w ask sets classes d)
 
-fair_new : (ask : ℕ) (sets : List ℕ) (seats : ℕ) (d : Option ℕ) → IsFair (wishes_of ask sets seats d)
-fair_new ask [] seats d = tt
-fair_new ask (needs ∷ sets) seats d =
-    (notmore_new (record { ask = ask; needs = needs; seats = seats; deadline = d; passed = 0 }) ask sets seats d, fair_new ask sets seats d)
+fair_new : (ask : ℕ) (sets : List ℕ) (classes : ℕ) (d : Option ℕ) → IsFair (wishes_of ask sets classes d)
+fair_new ask [] classes d = tt
+fair_new ask (needs ∷ sets) classes d =
+    (notmore_new (record { ask = ask; needs = needs; classes = classes; deadline = d; passed = 0 }) ask sets classes d, fair_new ask sets classes d)
 
 notmore_more : (w : Wish) (ws vs : List Wish) → NotMore w ws → NotMore w vs → NotMore w (ws ++ vs)
 notmore_more w [] vs h g = g
 notmore_more w (v ∷ ws) vs h g = (h.0, notmore_more w ws vs h.1 g)
 
-fair_more : (ask : ℕ) (sets : List ℕ) (seats : ℕ) (d : Option ℕ) (ws : List Wish) → IsFair ws → IsFair (ws ++ wishes_of ask sets seats d)
-fair_more ask sets seats d [] h = fair_new ask sets seats d
-fair_more ask sets seats d (w ∷ ws) h =
-    (notmore_more w ws (wishes_of ask sets seats d) h.0 (notmore_new w ask sets seats d), fair_more ask sets seats d ws h.1)
+fair_more : (ask : ℕ) (sets : List ℕ) (classes : ℕ) (d : Option ℕ) (ws : List Wish) → IsFair ws → IsFair (ws ++ wishes_of ask sets classes d)
+fair_more ask sets classes d [] h = fair_new ask sets classes d
+fair_more ask sets classes d (w ∷ ws) h =
+    (notmore_more w ws (wishes_of ask sets classes d) h.0 (notmore_new w ask sets classes d), fair_more ask sets classes d ws h.1)
 
 fair_goes : (most in_use free : ℕ) (old : List Wish) (s : Option Seated) (new : List Wish) → GoIn most in_use free old s new → IsFair old → IsFair new
 fair_goes most in_use free old (Some s) new g h =
@@ -89,28 +89,28 @@ fair_goes most in_use free old None new g h = subst IsFair (sym g.1) h
 pub stays_fair : StaysFair
 stays_fair = record { asks = fair_more; leaves = fair_others; goes = fair_goes }
 
-notmore_at : (w : Wish) (ws : List Wish) (k : ℕ) → NotMore w ws → k < length ws → (wish_at ws k).needs ≡ w.needs → (wish_at ws k).seats ≡ w.seats
+notmore_at : (w : Wish) (ws : List Wish) (k : ℕ) → NotMore w ws → k < length ws → (wish_at ws k).needs ≡ w.needs → (wish_at ws k).classes ≡ w.classes
     → (wish_at ws k).passed ≤ w.passed
 notmore_at w [] k h inside n s = absurd (omega (arith, inside))
 notmore_at w (v ∷ ws) zero h inside n s = h.0 n s
 notmore_at w (v ∷ ws) (suc k) h inside n s = notmore_at w ws k h.1 (omega (arith, inside)) n s
 
 fair_at : (ws : List Wish) (i k : ℕ) → IsFair ws → i < k → k < length ws → (wish_at ws k).needs ≡ (wish_at ws i).needs
-    → (wish_at ws k).seats ≡ (wish_at ws i).seats → (wish_at ws k).passed ≤ (wish_at ws i).passed
+    → (wish_at ws k).classes ≡ (wish_at ws i).classes → (wish_at ws k).passed ≤ (wish_at ws i).passed
 fair_at [] i k h below inside n s = absurd (omega (arith, inside))
 fair_at (w ∷ ws) i zero h below inside n s = absurd (omega (arith, below))
 fair_at (w ∷ ws) zero (suc k) h below inside n s = notmore_at w ws k h.0 (omega (arith, inside)) n s
 fair_at (w ∷ ws) (suc i) (suc k) h below inside n s = fair_at ws i k h.1 (omega (arith, below)) (omega (arith, inside)) n s
 
 pub is_fairly_served : IsFairlyServed
-is_fairly_served most in_use free old s new fair g i below n seats =
+is_fairly_served most in_use free old s new fair g i below n classes =
     let k = g.place in let v = wish_at old i in let w = wish_at old k in
-    let le = fair_at old i k fair below g.next.first.0 (sym n) (sym seats) in
+    let le = fair_at old i k fair below g.next.first.0 (sym n) (sym classes) in
     let too : is_kept most free w ≡ true → is_kept most free v ≡ true = λ kept.
-    let ready = subst (λ z. common z free ≡ true) (sym seats) (and_true_first (is_ready free w) (nat_le most w.passed) kept) in
+    let ready = subst (λ z. common z free ≡ true) (sym classes) (and_true_first (is_ready free w) (nat_le most w.passed) kept) in
     let enough = le_is most w.passed (and_true_second (is_ready free w) (nat_le most w.passed) kept) in
     and_is (is_ready free v) (nat_le most v.passed) ready (is_le most v.passed (omega (arith, enough, le))) in
     no_reason most in_use free old i k below g.next.first.1 (record {
       needs = ap (bit_and v.needs) (sym n) ∙ and_self v.needs;
-      seats = ap (bit_and w.seats) seats ∙ and_self w.seats;
+      classes = ap (bit_and w.classes) classes ∙ and_self w.classes;
     }) too (g.next.first.2 i (omega (arith, below, g.next.first.0), inl (below, too)))

@@ -34,7 +34,7 @@ pub record Goes (most free needs ask : ℕ) (w : Wish) (place : ℕ) (new : List
   pub stands : Stands it now new
   pub its_ask : it.ask ≡ w.ask
   pub its_needs : it.needs ≡ w.needs
-  pub its_seats : it.seats ≡ w.seats
+  pub its_classes : it.classes ≡ w.classes
   pub counted : it.passed ≡ w.passed + one_if (counts most free needs w)
   pub bound : one_if (passes free needs w) + now ≤ place + one_if (counts most free needs w)
 
@@ -45,10 +45,10 @@ at_most_one false = omega arith
 pub same_needs : (most free needs : ℕ) (w : Wish) → (passed_by most free needs w).needs ≡ w.needs
 same_needs most free needs w = either (λ (v : Wish). v.needs ≡ w.needs) (counts most free needs w) _ w refl refl
 
-pub same_seats : (most free needs : ℕ) (w : Wish) → (passed_by most free needs w).seats ≡ w.seats
-same_seats most free needs w = either (λ (v : Wish). v.seats ≡ w.seats) (counts most free needs w) _ w refl refl
+pub same_classes : (most free needs : ℕ) (w : Wish) → (passed_by most free needs w).classes ≡ w.classes
+same_classes most free needs w = either (λ (v : Wish). v.classes ≡ w.classes) (counts most free needs w) _ w refl refl
 
-pub counts_one : (b : Bool) (w : Wish) → (if b then record { ask = w.ask; needs = w.needs; seats = w.seats; deadline = w.deadline; passed = w.passed + 1 } else w).passed ≡ w.passed + one_if b
+pub counts_one : (b : Bool) (w : Wish) → (if b then record { ask = w.ask; needs = w.needs; classes = w.classes; deadline = w.deadline; passed = w.passed + 1 } else w).passed ≡ w.passed + one_if b
 counts_one true w = refl
 counts_one false w = omega arith
 
@@ -68,7 +68,7 @@ left_it most free needs ask now place w xs ys other many bound = record {
   };
   its_ask = same_ask most free needs w;
   its_needs = same_needs most free needs w;
-  its_seats = same_seats most free needs w;
+  its_classes = same_classes most free needs w;
   counted = counts_one (counts most free needs w) w;
   bound = bound;
 }

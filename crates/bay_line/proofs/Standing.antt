@@ -50,19 +50,19 @@ above_lower : (m n : ℕ) (ws : List Wish) → m ≤ n → Above n ws → Above 
 above_lower m n [] le h = tt
 above_lower m n (w ∷ ws) le h = (omega (arith, le, h.0), above_lower m n ws le h.1)
 
-above_wishes : (ask : ℕ) (sets : List ℕ) (seats : ℕ) (d : Option ℕ) → Above ask (wishes_of ask sets seats d)
-above_wishes ask [] seats d = tt
-above_wishes ask (needs ∷ sets) seats d = (omega arith, above_wishes ask sets seats d)
+above_wishes : (ask : ℕ) (sets : List ℕ) (classes : ℕ) (d : Option ℕ) → Above ask (wishes_of ask sets classes d)
+above_wishes ask [] classes d = tt
+above_wishes ask (needs ∷ sets) classes d = (omega arith, above_wishes ask sets classes d)
 
-rises_wishes : (ask : ℕ) (sets : List ℕ) (seats : ℕ) (d : Option ℕ) → Rises (wishes_of ask sets seats d)
-rises_wishes ask [] seats d = tt
-rises_wishes ask (needs ∷ sets) seats d = (above_wishes ask sets seats d, rises_wishes ask sets seats d)
+rises_wishes : (ask : ℕ) (sets : List ℕ) (classes : ℕ) (d : Option ℕ) → Rises (wishes_of ask sets classes d)
+rises_wishes ask [] classes d = tt
+rises_wishes ask (needs ∷ sets) classes d = (above_wishes ask sets classes d, rises_wishes ask sets classes d)
 
-pub rises_more : (ask : ℕ) (ws : List Wish) (sets : List ℕ) (seats : ℕ) (d : Option ℕ) → Rises ws → Below ask ws → Rises (ws ++ wishes_of ask sets seats d)
-rises_more ask [] sets seats d h b = rises_wishes ask sets seats d
-rises_more ask (w ∷ ws) sets seats d h b = (
-  above_more w.ask ws (wishes_of ask sets seats d) h.0 (above_lower w.ask ask (wishes_of ask sets seats d) (omega (arith, b.0)) (above_wishes ask sets seats d)),
-  rises_more ask ws sets seats d h.1 b.1,
+pub rises_more : (ask : ℕ) (ws : List Wish) (sets : List ℕ) (classes : ℕ) (d : Option ℕ) → Rises ws → Below ask ws → Rises (ws ++ wishes_of ask sets classes d)
+rises_more ask [] sets classes d h b = rises_wishes ask sets classes d
+rises_more ask (w ∷ ws) sets classes d h b = (
+  above_more w.ask ws (wishes_of ask sets classes d) h.0 (above_lower w.ask ask (wishes_of ask sets classes d) (omega (arith, b.0)) (above_wishes ask sets classes d)),
+  rises_more ask ws sets classes d h.1 b.1,
 )
 
 -- ---- how often
@@ -72,20 +72,20 @@ seldom_others most ask [] h = tt
 seldom_others most ask (w ∷ ws) h =
     either (Seldom most) (not (nat_eq w.ask ask)) (w ∷ others ask ws) (others ask ws) (h.0, seldom_others most ask ws h.1) (seldom_others most ask ws h.1)
 
-seldom_wishes : (most ask : ℕ) (sets : List ℕ) (seats : ℕ) (d : Option ℕ) → Seldom most (wishes_of ask sets seats d)
-seldom_wishes most ask [] seats d = tt
-seldom_wishes most ask (needs ∷ sets) seats d = (omega arith, seldom_wishes most ask sets seats d)
+seldom_wishes : (most ask : ℕ) (sets : List ℕ) (classes : ℕ) (d : Option ℕ) → Seldom most (wishes_of ask sets classes d)
+seldom_wishes most ask [] classes d = tt
+seldom_wishes most ask (needs ∷ sets) classes d = (omega arith, seldom_wishes most ask sets classes d)
 
-pub seldom_more : (most ask : ℕ) (ws : List Wish) (sets : List ℕ) (seats : ℕ) (d : Option ℕ) → Seldom most ws → Seldom most (ws ++ wishes_of ask sets seats d)
-seldom_more most ask [] sets seats d h = seldom_wishes most ask sets seats d
-seldom_more most ask (w ∷ ws) sets seats d h = (h.0, seldom_more most ask ws sets seats d h.1)
+pub seldom_more : (most ask : ℕ) (ws : List Wish) (sets : List ℕ) (classes : ℕ) (d : Option ℕ) → Seldom most ws → Seldom most (ws ++ wishes_of ask sets classes d)
+seldom_more most ask [] sets classes d h = seldom_wishes most ask sets classes d
+seldom_more most ask (w ∷ ws) sets classes d h = (h.0, seldom_more most ask ws sets classes d h.1)
 
 pub lt_is : (a b : ℕ) → nat_lt a b ≡ true → a < b
 lt_is a b h = search (rules, h)
 
 passed_seldom : (most free needs : ℕ) (w : Wish) → w.passed ≤ most → (passed_by most free needs w).passed ≤ most
 passed_seldom most free needs w le =
-    let P : Bool → Type 0 = λ b. (if b then record { ask = w.ask; needs = w.needs; seats = w.seats; deadline = w.deadline; passed = w.passed + 1 } else w).passed ≤ most in
+    let P : Bool → Type 0 = λ b. (if b then record { ask = w.ask; needs = w.needs; classes = w.classes; deadline = w.deadline; passed = w.passed + 1 } else w).passed ≤ most in
     elim (cases_Bool (counts most free needs w)) [
       | inl is ↦ let less = lt_is w.passed most (and_true_second (passes free needs w) (nat_lt w.passed most) is) in subst P (sym is) (omega (arith, less))
       | inr isnt ↦ subst P (sym isnt) le
@@ -111,13 +111,13 @@ in_order_others limit most ask ws x =
     let fewer = fewer_others ask ws in let few = x.few in
     record { rises = rises_others ask ws x.rises; seldom = seldom_others most ask ws x.seldom; few = omega (arith, fewer, few) }
 
-pub in_order_more : (limit most ask : ℕ) (ws : List Wish) (sets : List ℕ) (seats : ℕ) (d : Option ℕ) → IsInOrder (record { wishes = ws; limit = limit; most = most })
-    → Below ask ws → length sets ≤ limit - length ws → IsInOrder (record { wishes = ws ++ wishes_of ask sets seats d; limit = limit; most = most })
-in_order_more limit most ask ws sets seats d x below room =
+pub in_order_more : (limit most ask : ℕ) (ws : List Wish) (sets : List ℕ) (classes : ℕ) (d : Option ℕ) → IsInOrder (record { wishes = ws; limit = limit; most = most })
+    → Below ask ws → length sets ≤ limit - length ws → IsInOrder (record { wishes = ws ++ wishes_of ask sets classes d; limit = limit; most = most })
+in_order_more limit most ask ws sets classes d x below room =
     let few = x.few in
-    let sum = length-append ws (wishes_of ask sets seats d) in
-    let as_many : length (wishes_of ask sets seats d) ≡ length sets = length-map sets _ in
-    record { rises = rises_more ask ws sets seats d x.rises below; seldom = seldom_more most ask ws sets seats d x.seldom; few = omega (arith, few, sum, as_many, room) }
+    let sum = length-append ws (wishes_of ask sets classes d) in
+    let as_many : length (wishes_of ask sets classes d) ≡ length sets = length-map sets _ in
+    record { rises = rises_more ask ws sets classes d x.rises below; seldom = seldom_more most ask ws sets classes d x.seldom; few = omega (arith, few, sum, as_many, room) }
 
 pub in_order_after : (limit most free needs ask : ℕ) (ws : List Wish) → IsInOrder (record { wishes = ws; limit = limit; most = most })
     → IsInOrder (record { wishes = others ask (pass_all most free needs ws); limit = limit; most = most })

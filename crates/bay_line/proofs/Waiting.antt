@@ -71,7 +71,7 @@ has_gone most free needs ask w place new same g = record {
   stands = g.stands;
   ask = g.its_ask;
   needs = g.its_needs;
-  seats = g.its_seats;
+  classes = g.its_classes;
   later = one_if (counts most free needs w);
   counted = g.counted;
   each = λ less.
@@ -110,7 +110,7 @@ nothing_went w place now new st less = record {
   stands = st;
   ask = refl;
   needs = refl;
-  seats = refl;
+  classes = refl;
   later = 0;
   counted = omega arith;
   each = λ h. refl;
@@ -125,13 +125,13 @@ stands_on w place ws more st = record {
   place_is = st.place_is;
 }
 
-one_asks : (other : ℕ) (sets : List ℕ) (seats : ℕ) (d : Option ℕ) (old new : LineView) (w : Wish) (place : ℕ) → IsInOrder old → Stands w place old.wishes → Below other old.wishes
-    → new ≡ asking old other sets seats d → length new.wishes ≤ new.limit → Goes_on w place 0 old new
-one_asks other sets seats d old new w place x st below is few =
+one_asks : (other : ℕ) (sets : List ℕ) (classes : ℕ) (d : Option ℕ) (old new : LineView) (w : Wish) (place : ℕ) → IsInOrder old → Stands w place old.wishes → Below other old.wishes
+    → new ≡ asking old other sets classes d → length new.wishes ≤ new.limit → Goes_on w place 0 old new
+one_asks other sets classes d old new w place x st below is few =
     let P : LineView → Type 0 = λ v. length v.wishes ≤ v.limit → Goes_on w place 0 old v in
     subst P (sym is) (λ f. record {
-      waited = nothing_went w place place (asking old other sets seats d) (stands_on w place old.wishes (wishes_of other sets seats d) st) (omega arith);
-      in_order = record { rises = rises_more other old.wishes sets seats d x.rises below; seldom = seldom_more old.most other old.wishes sets seats d x.seldom; few = f };
+      waited = nothing_went w place place (asking old other sets classes d) (stands_on w place old.wishes (wishes_of other sets classes d) st) (omega arith);
+      in_order = record { rises = rises_more other old.wishes sets classes d x.rises below; seldom = seldom_more old.most other old.wishes sets classes d x.seldom; few = f };
       most = refl;
     }) few
 
@@ -161,16 +161,16 @@ one_leaves other old new w place x st apart is =
 once : (ask : ℕ) (old new : LineView) (w : Wish) (place : ℕ) → IsInOrder old → w.ask ≡ ask → Stands w place old.wishes → (o : WaitsOnce ask old new)
     → Goes_on w place (goes_before ask old new o w) old new
 once ask old new w place x is st (inl (in_use, free, s, lets, other)) = goes_in in_use free s old new w place x st (λ e. other (e ∙ is)) lets
-once ask old new w place x is st (inr (inl (other, sets, seats, d, below, same, few))) = one_asks other sets seats d old new w place x st below same few
+once ask old new w place x is st (inr (inl (other, sets, classes, d, below, same, few))) = one_asks other sets classes d old new w place x st below same few
 once ask old new w place x is st (inr (inr (other, apart, same))) = one_leaves other old new w place x st (λ e. apart (e ∙ is)) same
 
 -- ---- all that happens
 
-same_go : (ask : ℕ) (old new : LineView) (o : WaitsOnce ask old new) (v w : Wish) → v.needs ≡ w.needs → v.seats ≡ w.seats
+same_go : (ask : ℕ) (old new : LineView) (o : WaitsOnce ask old new) (v w : Wish) → v.needs ≡ w.needs → v.classes ≡ w.classes
     → goes_before ask old new o v ≡ goes_before ask old new o w
-same_go ask old new (inl (in_use, free, s, lets, other)) v w needs seats =
-    ap (λ (z : ℕ × ℕ). one_if (common z.0 free && common z.1 s.needs)) (λ i. (seats i, needs i))
-same_go ask old new (inr same) v w needs seats = refl
+same_go ask old new (inl (in_use, free, s, lets, other)) v w needs classes =
+    ap (λ (z : ℕ × ℕ). one_if (common z.0 free && common z.1 s.needs)) (λ i. (classes i, needs i))
+same_go ask old new (inr same) v w needs classes = refl
 
 added : (w : Wish) (place a c : ℕ) (mid new : LineView) (x : HasWaited w place a mid) → new.most ≡ mid.most → HasWaited x.it x.now c new → HasWaited w place (a + c) new
 added w place a c mid new x same y =
@@ -181,7 +181,7 @@ added w place a c mid new x same y =
       stands = y.stands;
       ask = y.ask ∙ x.ask;
       needs = y.needs ∙ x.needs;
-      seats = y.seats ∙ x.seats;
+      classes = y.classes ∙ x.classes;
       later = x.later + y.later;
       counted = omega (arith, p, q);
       each = λ less. let one = e (omega (arith, less, q, same)) in let two = f less in omega (arith, one, two);
@@ -197,7 +197,7 @@ meanwhile ask (suc n) old new w place x is st (mid, before, o) =
     let v = m.waited.it in
     let one = once ask mid new v m.waited.now m.in_order (m.waited.ask ∙ is) m.waited.stands o in
     let now : HasWaited v m.waited.now (goes_before ask mid new o w) new =
-    subst (λ z. HasWaited v m.waited.now z new) (same_go ask mid new o v w m.waited.needs m.waited.seats) one.waited in
+    subst (λ z. HasWaited v m.waited.now z new) (same_go ask mid new o v w m.waited.needs m.waited.classes) one.waited in
     record {
       waited = added w place (go_before ask n old mid before w) (goes_before ask mid new o w) mid new m.waited one.most now;
       in_order = one.in_order;
@@ -233,7 +233,7 @@ less_shares a b f less none =
 pub no_reason : (most in_use free : ℕ) (old : List Wish) (i k : ℕ) → i < k → MayGoIn most in_use free old k → WantsNoMore (wish_at old i) (wish_at old k)
     → (is_kept most free (wish_at old k) ≡ true → is_kept most free (wish_at old i) ≡ true) → HasReason most in_use free old i → ⊥
 no_reason most in_use free old i k below may less too (inl not_ready) =
-    false≢true (sym (less_shares (wish_at old k).seats (wish_at old i).seats free less.seats not_ready) ∙ may.ready)
+    false≢true (sym (less_shares (wish_at old k).classes (wish_at old i).classes free less.classes not_ready) ∙ may.ready)
 no_reason most in_use free old i k below may less too (inr (inl used)) =
     false≢true (sym (less_shares (wish_at old i).needs (wish_at old k).needs in_use less.needs may.unused) ∙ used)
 no_reason most in_use free old i k below may less too (inr (inr (h, keeps, shares))) =

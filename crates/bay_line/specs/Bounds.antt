@@ -19,8 +19,8 @@ pub record Stands (w : Wish) (place : ℕ) (wishes : List Wish) : Type 0 where
 abbrev pub WaitsOnce : ℕ → LineView → LineView → Type 0
 WaitsOnce ask old new =
     ((in_use : ℕ) × (free : ℕ) × (s : Seated) × LetsIn in_use free old (Some s) new × (s.ask ≢ ask))
-    ⊎ ((other : ℕ) × (sets : List ℕ) × (seats : ℕ) × (deadline : Option ℕ) × Below other old.wishes
-    × (new ≡ asking old other sets seats deadline) × (length new.wishes ≤ new.limit))
+    ⊎ ((other : ℕ) × (sets : List ℕ) × (classes : ℕ) × (deadline : Option ℕ) × Below other old.wishes
+    × (new ≡ asking old other sets classes deadline) × (length new.wishes ≤ new.limit))
     ⊎ ((other : ℕ) × (other ≢ ask) × (new ≡ leaving old other))
 
 -- so many of these, one after another
@@ -31,7 +31,7 @@ Waits ask (suc n) old new = (mid : LineView) × Waits ask n old mid × WaitsOnce
 abbrev pub one_if : Bool → ℕ
 one_if b = if b then 1 else 0
 
--- one more, if somebody was let in that needs one of the instruments of the wish, while a seat was free for it
+-- one more, if somebody was let in that needs one of the instruments of the wish, while a place was free for it
 abbrev pub goes_before : (ask : ℕ) (old new : LineView) → WaitsOnce ask old new → Wish → ℕ
 goes_before ask old new (inl (in_use, free, s, lets, other)) w = one_if (passes free s.needs w)
 goes_before ask old new (inr same) w = 0
@@ -49,13 +49,13 @@ pub record HasWaited (w : Wish) (place all : ℕ) (new : LineView) : Type 0 wher
   pub stands : Stands it now new.wishes
   pub ask : it.ask ≡ w.ask
   pub needs : it.needs ≡ w.needs
-  pub seats : it.seats ≡ w.seats
+  pub classes : it.classes ≡ w.classes
   pub later : ℕ
   pub counted : it.passed ≡ w.passed + later
   pub each : it.passed < new.most → all ≡ later
   pub bound : all + now ≤ place + later
 
--- As long as a wish waits: each session that needs one of its instruments and is let in while a seat is free for it is counted, until it was passed by as often
+-- As long as a wish waits: each session that needs one of its instruments and is let in while a place is free for it is counted, until it was passed by as often
 -- as may be. From its asking on at most `most` go before it, and at most so many more as stood in line before it when it asked
 abbrev pub IsPassedAtMost : Type 0
 IsPassedAtMost =
@@ -65,12 +65,12 @@ IsPassedAtMost =
 
 -- ---- first come, first served
 
--- it wants no instrument that the other doesn't, and may sit wherever the other may
+-- it wants no instrument that the other doesn't, and may have a place wherever the other may
 pub record WantsNoMore (w other : Wish) : Type 0 where
   pub needs : bit_and w.needs other.needs ≡ w.needs
-  pub seats : bit_and other.seats w.seats ≡ other.seats
+  pub classes : bit_and other.classes w.classes ≡ other.classes
 
--- Whoever is let in: nobody that stood before it wants no more, and may sit wherever it may, unless the one was passed by as often as may be and the other
+-- Whoever is let in: nobody that stood before it wants no more, and may have a place wherever it may, unless the one was passed by as often as may be and the other
 -- wasn't. So among those that want the same, the first come is served first
 abbrev pub IsFirstComeFirstServed : Type 0
 IsFirstComeFirstServed =
@@ -80,7 +80,7 @@ IsFirstComeFirstServed =
 
 -- ---- nobody waits for nothing
 
--- its instruments are free, a seat is free for it, and none of them is kept for one that goes before it
+-- its instruments are free, a place is free for it, and none of them is kept for one that goes before it
 pub record WaitsForNothing (most in_use free : ℕ) (wishes : List Wish) (k : ℕ) : Type 0 where
   pub inside : k < length wishes
   pub may : MayGoIn most in_use free wishes k
@@ -92,25 +92,25 @@ NobodyWaitsForNothing =
 
 -- ---- of those that want the same
 
--- none of these that wants the same, on the same seats, counts more
+-- none of these that wants the same, on places of the same classes, counts more
 abbrev pub NotMore : Wish → List Wish → Type 0
 NotMore w [] = Unit {0}
-NotMore w (v ∷ wishes) = (v.needs ≡ w.needs → v.seats ≡ w.seats → v.passed ≤ w.passed) × NotMore w wishes
+NotMore w (v ∷ wishes) = (v.needs ≡ w.needs → v.classes ≡ w.classes → v.passed ≤ w.passed) × NotMore w wishes
 
--- of those that want the same, on the same seats, whoever came first counts no less
+-- of those that want the same, on places of the same classes, whoever came first counts no less
 abbrev pub IsFair : List Wish → Type 0
 IsFair [] = Unit {0}
 IsFair (w ∷ wishes) = NotMore w wishes × IsFair wishes
 
 -- so it stays, whoever asks, leaves, or is let in
 pub record StaysFair : Type 0 where
-  pub asks : (ask : ℕ) (sets : List ℕ) (seats : ℕ) (deadline : Option ℕ) (wishes : List Wish) → IsFair wishes
-      → IsFair (wishes ++ wishes_of ask sets seats deadline)
+  pub asks : (ask : ℕ) (sets : List ℕ) (classes : ℕ) (deadline : Option ℕ) (wishes : List Wish) → IsFair wishes
+      → IsFair (wishes ++ wishes_of ask sets classes deadline)
   pub leaves : (ask : ℕ) (wishes : List Wish) → IsFair wishes → IsFair (others ask wishes)
   pub goes : (most in_use free : ℕ) (old : List Wish) (s : Option Seated) (new : List Wish) → GoIn most in_use free old s new → IsFair old → IsFair new
 
--- and so, among those that want the same, on the same seats, the first come is served first
+-- and so, among those that want the same, on places of the same classes, the first come is served first
 abbrev pub IsFairlyServed : Type 0
 IsFairlyServed =
     (most in_use free : ℕ) (old : List Wish) (s : Seated) (new : List Wish) → IsFair old → (goes : GoesIn most in_use free old s new) (i : ℕ)
-    → i < goes.place → (wish_at old i).needs ≡ (wish_at old goes.place).needs → (wish_at old i).seats ≡ (wish_at old goes.place).seats → ⊥
+    → i < goes.place → (wish_at old i).needs ≡ (wish_at old goes.place).needs → (wish_at old i).classes ≡ (wish_at old goes.place).classes → ⊥

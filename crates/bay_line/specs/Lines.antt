@@ -3,7 +3,7 @@ use Rattle.std.specs.Prelude.{◌≡◌, ℕ, ◌<◌, ◌≤◌, List, [], ◌�
 use Rattle.bay_line.specs.declared.wish.Wish.{Wish}
 use Rattle.bay_line.specs.declared.going_in.Seated.{Seated}
 use Rattle.bay_line.specs.Wishes.{wish_at, is_late}
-use Rattle.bay_line.specs.Turns.{IsFirst, HasReason, IsSeat, others, pass_all, after}
+use Rattle.bay_line.specs.Turns.{IsFirst, HasReason, IsFreeClass, others, pass_all, after}
 
 -- the wishes in the order of asking; for how many there is room; and how often one is passed by at most
 pub record LineView : Type 0 where
@@ -46,11 +46,11 @@ with_wishes x wishes = record { wishes = wishes; limit = x.limit; most = x.most 
 
 -- the wishes of one that asks
 abbrev pub wishes_of : ℕ → List ℕ → ℕ → Option ℕ → List Wish
-wishes_of ask sets seats deadline = map (λ needs. record { ask = ask; needs = needs; seats = seats; deadline = deadline; passed = 0 }) sets
+wishes_of ask sets classes deadline = map (λ needs. record { ask = ask; needs = needs; classes = classes; deadline = deadline; passed = 0 }) sets
 
 -- it stands behind all others
 abbrev pub asking : LineView → ℕ → List ℕ → ℕ → Option ℕ → LineView
-asking x ask sets seats deadline = with_wishes x (x.wishes ++ wishes_of ask sets seats deadline)
+asking x ask sets classes deadline = with_wishes x (x.wishes ++ wishes_of ask sets classes deadline)
 
 -- it isn't in line, and all others stand as they stood
 abbrev pub leaving : LineView → ℕ → LineView
@@ -66,12 +66,12 @@ abbrev pub TakesLate : ℕ → LineView → Option ℕ → LineView → Type 0
 TakesLate now old (Some ask) new = IsLate now old.wishes (Some ask) × (new ≡ leaving old ask)
 TakesLate now old None new = IsLate now old.wishes None × (new ≡ old)
 
--- the first that may go in, and a seat that is free
+-- the first that may go in, and the class of a place that is free
 pub record IsNext (most in_use free : ℕ) (wishes : List Wish) (place : ℕ) (s : Seated) : Type 0 where
   pub first : IsFirst most in_use free wishes (Some place)
   pub ask : s.ask ≡ (wish_at wishes place).ask
   pub needs : s.needs ≡ (wish_at wishes place).needs
-  pub seat : IsSeat free (wish_at wishes place) s.seat
+  pub class : IsFreeClass free (wish_at wishes place) s.class
   pub deadline : s.deadline ≡ (wish_at wishes place).deadline
 
 -- or nobody is, and each that waits has a reason

@@ -10,13 +10,13 @@ abbrev pub KeepsFrom : ℕ → ℕ → List Wish → ℕ → ℕ → Type 0
 KeepsFrom most free wishes i k =
     (i < length wishes) × (is_kept most free (wish_at wishes i) ≡ true) × ((i < k) ⊎ (is_kept most free (wish_at wishes k) ≡ false))
 
--- It may be let in: a seat is free for it, its instruments are free, and none of them is kept from it
+-- It may be let in: a place is free for it, its instruments are free, and none of them is kept from it
 pub record MayGoIn (most in_use free : ℕ) (wishes : List Wish) (k : ℕ) : Type 0 where
   pub ready : is_ready free (wish_at wishes k) ≡ true
   pub unused : common (wish_at wishes k).needs in_use ≡ false
   pub not_kept : (i : ℕ) → KeepsFrom most free wishes i k → common (wish_at wishes k).needs (wish_at wishes i).needs ≡ false
 
--- Why it waits: no seat is free for it; or an instrument of it is in use; or one is kept from it
+-- Why it waits: no place is free for it; or an instrument of it is in use; or one is kept from it
 abbrev pub HasReason : ℕ → ℕ → ℕ → List Wish → ℕ → Type 0
 HasReason most in_use free wishes k =
     (is_ready free (wish_at wishes k) ≡ false) ⊎ (common (wish_at wishes k).needs in_use ≡ true)
@@ -82,7 +82,7 @@ IsFirstKept most in_use free wishes (Some k, kept) =
 IsFirstKept most in_use free wishes (None, kept) =
     AreKept in_use wishes (IsKeptBelow most free wishes (length wishes)) kept × KeptHaveReasons most in_use free wishes (length wishes)
 
--- the first that needs nothing of this, and for which a seat is free; or there is none
+-- the first that needs nothing of this, and for which a place is free; or there is none
 abbrev pub may_go : ℕ → ℕ → Wish → Bool
 may_go kept free w = is_ready free w && not (common w.needs kept)
 
@@ -91,8 +91,8 @@ IsFirstOther kept free wishes (Some k) =
     (k < length wishes) × (may_go kept free (wish_at wishes k) ≡ true) × ((i : ℕ) → i < k → may_go kept free (wish_at wishes i) ≡ false)
 IsFirstOther kept free wishes None = (i : ℕ) → i < length wishes → may_go kept free (wish_at wishes i) ≡ false
 
--- the seat is free, and one that the wish may take
-pub record IsSeat (free : ℕ) (w : Wish) (seat : ℕ) : Type 0 where
-  pub is_free : bit_at free seat ≡ 1
-  pub its : bit_at w.seats seat ≡ 1
-  pub small : seat < 32
+-- a place of this class is free, and the wish may take it
+pub record IsFreeClass (free : ℕ) (w : Wish) (class : ℕ) : Type 0 where
+  pub is_free : bit_at free class ≡ 1
+  pub its : bit_at w.classes class ≡ 1
+  pub small : class < 32

@@ -5,7 +5,7 @@ use Rattle.bay_line.specs.declared.wish.Wish.{Wish}
 
 -- (what isn't in line)
 abbrev pub no_wish : Wish
-no_wish = record { ask = 0; needs = 0; seats = 0; deadline = None; passed = 0 }
+no_wish = record { ask = 0; needs = 0; classes = 0; deadline = None; passed = 0 }
 
 abbrev pub wish_at : List Wish → ℕ → Wish
 wish_at wishes k = slice_index_or wishes k no_wish
@@ -14,9 +14,9 @@ wish_at wishes k = slice_index_or wishes k no_wish
 abbrev pub common : ℕ → ℕ → Bool
 common a b = not (bit_and a b == 0)
 
--- a seat is free that it may take
+-- a place is free of a class that it may take
 abbrev pub is_ready : ℕ → Wish → Bool
-is_ready free w = common w.seats free
+is_ready free w = common w.classes free
 
 -- the limit of time has passed at this moment
 abbrev pub is_past : ℕ → Option ℕ → Bool
@@ -27,12 +27,12 @@ is_past now None = false
 abbrev pub is_late : ℕ → Wish → Bool
 is_late now w = is_past now w.deadline
 
--- it was passed by as often as may be, and a seat is free for it: so its instruments are kept for it from all but those before it
+-- it was passed by as often as may be, and a place is free for it: so its instruments are kept for it from all but those before it
 -- of which the same is true
 abbrev pub is_kept : ℕ → ℕ → Wish → Bool
 is_kept most free w = is_ready free w && nat_le most w.passed
 
--- somebody comes to hold one of its instruments, though a seat was free for it
+-- somebody comes to hold one of its instruments, though a place was free for it
 abbrev pub passes : ℕ → ℕ → Wish → Bool
 passes free needs w = is_ready free w && common w.needs needs
 
@@ -43,4 +43,4 @@ counts most free needs w = passes free needs w && nat_lt w.passed most
 -- so it is passed by once more
 abbrev pub passed_by : ℕ → ℕ → ℕ → Wish → Wish
 passed_by most free needs w =
-    if counts most free needs w then record { ask = w.ask; needs = w.needs; seats = w.seats; deadline = w.deadline; passed = w.passed + 1 } else w
+    if counts most free needs w then record { ask = w.ask; needs = w.needs; classes = w.classes; deadline = w.deadline; passed = w.passed + 1 } else w

@@ -10,10 +10,10 @@ pub(crate) fn append(
     wishes: &mut Vec<Wish, Global>,
     ask: u64,
     sets: &[u64],
-    seats: u32,
+    classes: u32,
     deadline: Option<u64>,
 ) -> Result<(), AllocError>
-    ensures appends { OnOk result (wishes.new.items ≡ wishes.old.items ++ wishes_of ask sets.now seats deadline) }
+    ensures appends { OnOk result (wishes.new.items ≡ wishes.old.items ++ wishes_of ask sets.now classes deadline) }
     ensures refused { OnErr result (wishes.new.items ≡ wishes.old.items) }
 {
     let len = wishes.len();
@@ -21,7 +21,7 @@ pub(crate) fn append(
         let wish = Wish {
             ask,
             needs: sets[place],
-            seats,
+            classes,
             deadline,
             passed: 0,
         };

@@ -1,7 +1,7 @@
 //! Whose turn it is.
 ghost use Rattle.std.specs.Prelude.{◌≡◌, ℕ, ◌||◌, ◌&&◌, true};
 ghost use Rattle.bay_line.specs.Wishes.{common, is_ready, is_kept};
-ghost use Rattle.bay_line.specs.Turns.{may_go, IsFirst, IsFirstKept, IsFirstOther, IsSeat};
+ghost use Rattle.bay_line.specs.Turns.{may_go, IsFirst, IsFirstKept, IsFirstOther, IsFreeClass};
 
 use crate::wish::{Wish, is_kept, is_ready};
 
@@ -74,10 +74,10 @@ pub(crate) fn first(wishes: &[Wish], most: u32, in_use: u64, free: u32) -> Optio
     }
 }
 
-/// The first free seat that it may take.
-pub(crate) fn seat_for(wish: Wish, free: u32) -> usize
+/// The first class that it may take of which a place is free.
+pub(crate) fn class_for(wish: Wish, free: u32) -> u32
     requires { is_ready free wish ≡ true }
-    ensures { IsSeat free wish result }
+    ensures { IsFreeClass free wish result }
 {
-    (wish.seats & free).trailing_zeros() as usize
+    (wish.classes & free).trailing_zeros()
 }

@@ -3,7 +3,7 @@ ghost use Rattle.std.specs.Prelude.{◌≡◌};
 ghost use Rattle.bay_line.specs.Turns.{pass_all, others};
 ghost use Rattle.bay_line.specs.Lines.{IsChosen, GoIn};
 
-use crate::first::{first, seat_for};
+use crate::first::{class_for, first};
 use crate::passing::{pass_all, remove};
 use crate::wish::Wish;
 use std::alloc::Global;
@@ -15,13 +15,13 @@ pub struct Seated {
     pub ask: u64,
     /// The instruments that it is to hold: those of one of its sets.
     pub needs: u64,
-    /// The seat that it gets.
-    pub seat: usize,
+    /// The class of the place that it gets.
+    pub class: u32,
     /// Until when it is to be told that it holds.
     pub deadline: Option<u64>,
 }
 
-/// The first that may be let in, if there is one, and its seat.
+/// The first that may be let in, if there is one, and what it gets.
 pub(crate) fn choose(wishes: &[Wish], most: u32, in_use: u64, free: u32) -> Option<(usize, Seated)>
     ensures { IsChosen most in_use free wishes.now result }
 {
@@ -29,11 +29,11 @@ pub(crate) fn choose(wishes: &[Wish], most: u32, in_use: u64, free: u32) -> Opti
         return None;
     };
     let wish = wishes[place];
-    let seat = seat_for(wish, free);
+    let class = class_for(wish, free);
     let seated = Seated {
         ask: wish.ask,
         needs: wish.needs,
-        seat,
+        class,
         deadline: wish.deadline,
     };
     Some((place, seated))

@@ -1,7 +1,7 @@
 //! What holds of every line. Each law is the contract of a function that does nothing.
 ghost use Rattle.bay_line.specs.Bounds.{IsPassedAtMost, IsFirstComeFirstServed, NobodyWaitsForNothing, StaysFair, IsFairlyServed};
 
-/// Once nobody is let in any more, nobody waits whose instruments are all free, kept for nobody before it, and for whom a seat is free.
+/// Once nobody is let in any more, nobody waits whose instruments are all free, kept for nobody before it, and for whom a place is free.
 pub fn nobody_waits_for_nothing()
     ensures { NobodyWaitsForNothing }
 {}
@@ -12,12 +12,12 @@ pub fn is_passed_at_most()
     ensures { IsPassedAtMost }
 {}
 
-/// Among those that want the same, and may sit on the same seats, the first come is served first.
+/// Among those that want the same, on places of the same classes, the first come is served first.
 pub fn is_first_come_first_served()
     ensures { IsFirstComeFirstServed }
 {}
 
-/// Of those that want the same, on the same seats, whoever came first counts no less, whoever asks, leaves, or is let in.
+/// Of those that want the same, on places of the same classes, whoever came first counts no less, whoever asks, leaves, or is let in.
 pub fn stays_fair()
     ensures { StaysFair }
 {}

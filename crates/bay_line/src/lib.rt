@@ -1,6 +1,6 @@
-//! The line before the seats of a bay: who asked, for which instruments, in which order, and who gets a seat next. Pure bookkeeping, without a bench.
+//! The line before a bay: who asked, for which instruments, in which order, and who is let in next. Pure bookkeeping, without a clock or a file.
 //!
-//! Whoever is let in finds all its instruments free, and a seat; nobody who waits has one. Whoever stands in line may be passed by, by those behind it
+//! Whoever is let in finds all its instruments free, and a place; nobody who waits has one. Whoever stands in line may be passed by, by those behind it
 //! whose instruments are free, but only so often; from then on its instruments are kept for it from those behind it.
 #![tactic(auto)]
 

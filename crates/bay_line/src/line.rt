@@ -19,7 +19,7 @@ pub enum NotInLine {
     NoMemory,
 }
 
-/// Who waits for a seat, in the order of asking.
+/// Who waits for a place, in the order of asking.
 #[derive(Drop)]
 pub struct Line {
     wishes: Vec<Wish, Global>,
@@ -56,24 +56,24 @@ impl Line {
         self.wishes.len()
     }
 
-    /// Somebody asks, for one of these sets of instruments, whichever is free first, and for one of these seats. Its number is above those of all that
+    /// Somebody asks, for one of these sets of instruments, whichever is free first, and for a place of one of these classes. Its number is above those of all that
     /// are in line. It takes memory.
     pub fn ask(
         &mut self,
         ask: u64,
         sets: &[u64],
-        seats: u32,
+        classes: u32,
         deadline: Option<u64>,
     ) -> Result<(), NotInLine>
         requires { Below ask self.old.wishes }
-        ensures asks { OnOk result (self.new ≡ asking self.old ask sets.now seats deadline) }
+        ensures asks { OnOk result (self.new ≡ asking self.old ask sets.now classes deadline) }
         ensures room { OnOk result (length self.new.wishes ≤ self.new.limit) }
         ensures refused { OnErr result (self.new ≡ self.old) }
     {
         if self.limit - self.wishes.len() < sets.len() {
             return Err(NotInLine::Full);
         }
-        match append(&mut self.wishes, ask, sets, seats, deadline) {
+        match append(&mut self.wishes, ask, sets, classes, deadline) {
             Ok(()) => Ok(()),
             Err(_) => Err(NotInLine::NoMemory),
         }
@@ -97,7 +97,7 @@ impl Line {
         Some(ask)
     }
 
-    /// The first whose instruments are all free, and kept for nobody before it, and for whom a seat is free; and where it stands.
+    /// The first whose instruments are all free, and kept for nobody before it, and for whom a place is free; and where it stands.
     pub fn next(&self, in_use: u64, free: u32) -> Option<(usize, Seated)>
         ensures { IsChosen self.now.most in_use free self.now.wishes result }
     {
@@ -111,7 +111,7 @@ impl Line {
         go_at(&mut self.wishes, self.most, seated, free);
     }
 
-    /// Lets in the first whose instruments are all free, and kept for nobody before it, and for whom a seat is free. Call it until it answers none.
+    /// Lets in the first whose instruments are all free, and kept for nobody before it, and for whom a place is free. Call it until it answers none.
     pub fn let_in(&mut self, in_use: u64, free: u32) -> Option<Seated>
         ensures { LetsIn in_use free self.old result self.new }
     {

@@ -9,19 +9,19 @@ pub struct Wish {
     pub ask: u64,
     /// The instruments: bit i for instrument i.
     pub needs: u64,
-    /// The seats that it may take: bit k for seat k.
-    pub seats: u32,
+    /// The classes of places that it may take: bit k for class k.
+    pub classes: u32,
     /// Until when it is to be let in.
     pub deadline: Option<u64>,
     /// How often it was passed by.
     pub passed: u32,
 }
 
-/// Whether a seat is free for it.
+/// Whether a place is free for it.
 pub(crate) fn is_ready(wish: Wish, free: u32) -> bool
     ensures { result ≡ is_ready free wish }
 {
-    wish.seats & free != 0
+    wish.classes & free != 0
 }
 
 /// Whether its time is over.
@@ -56,7 +56,7 @@ pub(crate) fn passed_by(wish: Wish, most: u32, free: u32, needs: u64) -> Wish
         Wish {
             ask: wish.ask,
             needs: wish.needs,
-            seats: wish.seats,
+            classes: wish.classes,
             deadline: wish.deadline,
             passed: wish.passed + 1,
         }

@@ -13,6 +13,6 @@ invariant_of-self c =
     let room : length c.args.sets.now ≤ x.limit - length x.wishes.items = omega (arith, c.if-self-len.false, c.len.ensures) in
     elim c.match-append.branch [
       | in-Ok w ↦ subst P (sym w.in-Ok.ensures.appends)
-          (in_order_more x.limit x.most c.args.ask x.wishes.items c.args.sets.now c.args.seats c.args.deadline c.self.invariant below room)
+          (in_order_more x.limit x.most c.args.ask x.wishes.items c.args.sets.now c.args.classes c.args.deadline c.self.invariant below room)
       | in-Err w ↦ subst P (sym w.in-Err.ensures.refused) c.self.invariant
     ]

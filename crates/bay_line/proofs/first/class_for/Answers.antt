@@ -3,11 +3,11 @@ use Rattle.std.specs.Int.{trailing_zeros}
 use Rattle.std.proofs.lemmas.Nat.{and_le_r}
 use Rattle.std.proofs.lemmas.Nat.Bits.{bit_at_and, bit_at-lt, bit_at-trailing_zeros}
 use Rattle.bay_line.proofs.Kept.{not_zero}
-use Rattle.bay_line.proofs.first.seat_for.Goals as goal
+use Rattle.bay_line.proofs.first.class_for.Goals as goal
 
 pub returns : goal.returns
 returns c =
-    let a = c.args.wish.seats in let f = c.args.free in let n : ℕ = bit_and a f in
+    let a = c.args.wish.classes in let f = c.args.free in let n : ℕ = bit_and a f in
     let some : n ≢ 0 = not_zero n c.requires in
     let at_most = and_le_r a f in
     let small = c.ranges.free.fits in
