@@ -1,0 +1,4 @@
+pub mod Members
+pub mod InLine
+pub mod Sets
+pub mod Tied

@@ -1,1 +1,3 @@
+pub mod Members
 pub mod Classes
+pub mod Cores
