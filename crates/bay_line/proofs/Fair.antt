@@ -1,22 +1,19 @@
 -- Of those that want the same, whoever came first counts no less.
-use Rattle.std.proofs.Common.{◌≡◌, ℕ, zero, suc, ◌+◌, ◌<◌, ◌≤◌, true, ◌&&◌, not, nat_eq, nat_lt, nat_le, List, [], ◌∷◌, ◌++◌, length, Option, Some, None, bit_and, sym, ap, ◌∙◌, subst, inl, inr, arith, rules}
+use Rattle.std.proofs.Common.{◌≡◌, ℕ, ◌+◌, ◌≤◌, true, ◌&&◌, not, nat_eq, nat_lt, nat_le, List, [], ◌∷◌, ◌++◌, Option, sym, ap, ◌∙◌, subst, inl, inr, arith, rules}
 use Rattle.std.proofs.lemmas.Bool.{cases_Bool}
-use Rattle.std.specs.Int.Bits.{and_self}
 use Rattle.bay_line.specs.declared.wish.Wish.{Wish}
-use Rattle.bay_line.specs.declared.going_in.Seated.{Seated}
-use Rattle.bay_line.specs.Wishes.{wish_at, common, is_ready, is_kept, passes, counts, passed_by}
+use Rattle.bay_line.specs.Wishes.{common, passes, counts, passed_by}
 use Rattle.bay_line.specs.Turns.{pass_all, others}
-use Rattle.bay_line.specs.Lines.{GoIn, wishes_of}
-use Rattle.bay_line.specs.Bounds.{one_if, NotMore, IsFair, StaysFair, IsFairlyServed}
+use Rattle.bay_line.specs.Lines.{NotMore, IsFair, wishes_of}
+use Rattle.bay_line.specs.Bounds.{one_if}
 use Rattle.bay_line.proofs.Kept.{and_true_first, and_true_second, and_is}
 use Rattle.bay_line.proofs.Standing.{either, lt_is}
 use Rattle.bay_line.proofs.Overtaken.{same_needs, same_classes, counts_one, lt_says}
-use Rattle.bay_line.proofs.Waiting.{no_reason}
 
-le_is : (a b : ℕ) → nat_le a b ≡ true → a ≤ b
+pub le_is : (a b : ℕ) → nat_le a b ≡ true → a ≤ b
 le_is a b h = search (rules, h)
 
-is_le : (a b : ℕ) → a ≤ b → nat_le a b ≡ true
+pub is_le : (a b : ℕ) → a ≤ b → nat_le a b ≡ true
 is_le a b h = elim (cases_Bool (nat_le a b)) [
   | inl is ↦ is
   | inr isnt ↦ search (rules, h, isnt)
@@ -49,7 +46,7 @@ notmore_passed most free needs w (v ∷ ws) h = (
   notmore_passed most free needs w ws h.1,
 )
 
-fair_passed : (most free needs : ℕ) (ws : List Wish) → IsFair ws → IsFair (pass_all most free needs ws)
+pub fair_passed : (most free needs : ℕ) (ws : List Wish) → IsFair ws → IsFair (pass_all most free needs ws)
 fair_passed most free needs [] h = tt
 fair_passed most free needs (w ∷ ws) h = (notmore_passed most free needs w ws h.0, fair_passed most free needs ws h.1)
 
@@ -58,7 +55,7 @@ notmore_others ask w [] h = tt
 notmore_others ask w (v ∷ ws) h =
     either (NotMore w) (not (nat_eq v.ask ask)) (v ∷ others ask ws) (others ask ws) (h.0, notmore_others ask w ws h.1) (notmore_others ask w ws h.1)
 
-fair_others : (ask : ℕ) (ws : List Wish) → IsFair ws → IsFair (others ask ws)
+pub fair_others : (ask : ℕ) (ws : List Wish) → IsFair ws → IsFair (others ask ws)
 fair_others ask [] h = tt
 fair_others ask (w ∷ ws) h =
     either IsFair (not (nat_eq w.ask ask)) (w ∷ others ask ws) (others ask ws) (notmore_others ask w ws h.0, fair_others ask ws h.1) (fair_others ask ws h.1)
@@ -76,41 +73,7 @@ notmore_more : (w : Wish) (ws vs : List Wish) → NotMore w ws → NotMore w vs 
 notmore_more w [] vs h g = g
 notmore_more w (v ∷ ws) vs h g = (h.0, notmore_more w ws vs h.1 g)
 
-fair_more : (ask : ℕ) (sets : List ℕ) (classes : ℕ) (d : Option ℕ) (ws : List Wish) → IsFair ws → IsFair (ws ++ wishes_of ask sets classes d)
+pub fair_more : (ask : ℕ) (sets : List ℕ) (classes : ℕ) (d : Option ℕ) (ws : List Wish) → IsFair ws → IsFair (ws ++ wishes_of ask sets classes d)
 fair_more ask sets classes d [] h = fair_new ask sets classes d
 fair_more ask sets classes d (w ∷ ws) h =
     (notmore_more w ws (wishes_of ask sets classes d) h.0 (notmore_new w ask sets classes d), fair_more ask sets classes d ws h.1)
-
-fair_goes : (most in_use free : ℕ) (old : List Wish) (s : Option Seated) (new : List Wish) → GoIn most in_use free old s new → IsFair old → IsFair new
-fair_goes most in_use free old (Some s) new g h =
-    subst IsFair (sym g.then) (fair_others (wish_at old g.place).ask (pass_all most free (wish_at old g.place).needs old) (fair_passed most free (wish_at old g.place).needs old h))
-fair_goes most in_use free old None new g h = subst IsFair (sym g.1) h
-
-pub stays_fair : StaysFair
-stays_fair = record { asks = fair_more; leaves = fair_others; goes = fair_goes }
-
-notmore_at : (w : Wish) (ws : List Wish) (k : ℕ) → NotMore w ws → k < length ws → (wish_at ws k).needs ≡ w.needs → (wish_at ws k).classes ≡ w.classes
-    → (wish_at ws k).passed ≤ w.passed
-notmore_at w [] k h inside n s = absurd (omega (arith, inside))
-notmore_at w (v ∷ ws) zero h inside n s = h.0 n s
-notmore_at w (v ∷ ws) (suc k) h inside n s = notmore_at w ws k h.1 (omega (arith, inside)) n s
-
-fair_at : (ws : List Wish) (i k : ℕ) → IsFair ws → i < k → k < length ws → (wish_at ws k).needs ≡ (wish_at ws i).needs
-    → (wish_at ws k).classes ≡ (wish_at ws i).classes → (wish_at ws k).passed ≤ (wish_at ws i).passed
-fair_at [] i k h below inside n s = absurd (omega (arith, inside))
-fair_at (w ∷ ws) i zero h below inside n s = absurd (omega (arith, below))
-fair_at (w ∷ ws) zero (suc k) h below inside n s = notmore_at w ws k h.0 (omega (arith, inside)) n s
-fair_at (w ∷ ws) (suc i) (suc k) h below inside n s = fair_at ws i k h.1 (omega (arith, below)) (omega (arith, inside)) n s
-
-pub is_fairly_served : IsFairlyServed
-is_fairly_served most in_use free old s new fair g i below n classes =
-    let k = g.place in let v = wish_at old i in let w = wish_at old k in
-    let le = fair_at old i k fair below g.next.first.0 (sym n) (sym classes) in
-    let too : is_kept most free w ≡ true → is_kept most free v ≡ true = λ kept.
-    let ready = subst (λ z. common z free ≡ true) (sym classes) (and_true_first (is_ready free w) (nat_le most w.passed) kept) in
-    let enough = le_is most w.passed (and_true_second (is_ready free w) (nat_le most w.passed) kept) in
-    and_is (is_ready free v) (nat_le most v.passed) ready (is_le most v.passed (omega (arith, enough, le))) in
-    no_reason most in_use free old i k below g.next.first.1 (record {
-      needs = ap (bit_and v.needs) (sym n) ∙ and_self v.needs;
-      classes = ap (bit_and w.classes) classes ∙ and_self w.classes;
-    }) too (g.next.first.2 i (omega (arith, below, g.next.first.0), inl (below, too)))

@@ -20,7 +20,7 @@ with_false : (b : Bool) → (b || false) ≡ b
 with_false true = refl
 with_false false = refl
 
-with_true : (b : Bool) → (b || true) ≡ true
+pub with_true : (b : Bool) → (b || true) ≡ true
 with_true true = refl
 with_true false = refl
 
@@ -57,7 +57,7 @@ or_false_second : (a b : Bool) → (a || b) ≡ false → b ≡ false
 or_false_second false b h = h
 or_false_second true b h = absurd (false≢true (sym h))
 
-or_true_cases : (a b : Bool) → (a || b) ≡ true → (a ≡ true) ⊎ (b ≡ true)
+pub or_true_cases : (a b : Bool) → (a || b) ≡ true → (a ≡ true) ⊎ (b ≡ true)
 or_true_cases true b h = inl refl
 or_true_cases false b h = inr h
 
@@ -80,7 +80,7 @@ pub not_true : (a : Bool) → not a ≡ false → a ≡ true
 not_true true h = refl
 not_true false h = sym h
 
-below_more : (i n : ℕ) → i < n + 1 → (i < n) ⊎ (i ≡ n)
+pub below_more : (i n : ℕ) → i < n + 1 → (i < n) ⊎ (i ≡ n)
 below_more i n h = elim (cases_eq i n) [ inl same ↦ inr same | inr other ↦ inl (omega (arith, h, other)) ]
 
 -- those for which their instruments are kept, looked at one after another

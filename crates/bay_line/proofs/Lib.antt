@@ -2,5 +2,11 @@ pub mod Kept
 pub mod PassedBy
 pub mod Standing
 pub mod Overtaken
-pub mod Waiting
 pub mod Fair
+pub mod InOrder
+pub mod Waiting
+pub mod FirstCome
+pub mod Chain
+pub mod AllOf
+pub mod InLine
+pub mod Within

@@ -14,7 +14,7 @@ use Rattle.bay_line.proofs.Standing.{either, same_ask, fewer_others}
 pub stays : (ask : ℕ) (w : Wish) (ws : List Wish) → w.ask ≢ ask → others ask (w ∷ ws) ≡ w ∷ others ask ws
 stays ask w ws other = ap (λ b. if not b then w ∷ others ask ws else others ask ws) (ne_eqb w.ask ask other)
 
-goes : (ask : ℕ) (w : Wish) (ws : List Wish) → w.ask ≡ ask → others ask (w ∷ ws) ≡ others ask ws
+pub goes : (ask : ℕ) (w : Wish) (ws : List Wish) → w.ask ≡ ask → others ask (w ∷ ws) ≡ others ask ws
 goes ask w ws same = ap (λ b. if not b then w ∷ others ask ws else others ask ws) (eq-eqb w.ask ask same)
 
 pub others_apart : (ask : ℕ) (xs : List Wish) (w : Wish) (ys : List Wish) → w.ask ≢ ask → others ask (xs ++ w ∷ ys) ≡ others ask xs ++ w ∷ others ask ys

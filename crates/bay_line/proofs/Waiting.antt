@@ -9,7 +9,9 @@ use Rattle.bay_line.specs.Wishes.{no_wish, wish_at, common, is_ready, is_kept, p
 use Rattle.bay_line.specs.Turns.{HasReason, MayGoIn, pass_all, others}
 use Rattle.bay_line.specs.Lines.{LineView, Seldom, Below, IsInOrder, GoesIn, LetsIn, wishes_of, asking, leaving}
 use Rattle.bay_line.specs.Bounds.{Stands, WaitsOnce, Waits, goes_before, go_before, one_if, HasWaited, WantsNoMore}
-use Rattle.bay_line.proofs.Standing.{in_order_others, in_order_goes, rises_more, seldom_more, fewer_others, common_comm}
+use Rattle.bay_line.proofs.Standing.{rises_more, seldom_more, fewer_others, common_comm}
+use Rattle.bay_line.proofs.Fair.{fair_more}
+use Rattle.bay_line.proofs.InOrder.{in_order_others, in_order_goes}
 use Rattle.std.proofs.Math.Seq.{get_or-append_seam}
 use Rattle.bay_line.proofs.Kept.{and_true_second}
 use Rattle.bay_line.proofs.Overtaken.{Goes, one_goes, others_apart}
@@ -131,7 +133,12 @@ one_asks other sets classes d old new w place x st below is few =
     let P : LineView → Type 0 = λ v. length v.wishes ≤ v.limit → Goes_on w place 0 old v in
     subst P (sym is) (λ f. record {
       waited = nothing_went w place place (asking old other sets classes d) (stands_on w place old.wishes (wishes_of other sets classes d) st) (omega arith);
-      in_order = record { rises = rises_more other old.wishes sets classes d x.rises below; seldom = seldom_more old.most other old.wishes sets classes d x.seldom; few = f };
+      in_order = record {
+        rises = rises_more other old.wishes sets classes d x.rises below;
+        seldom = seldom_more old.most other old.wishes sets classes d x.seldom;
+        fair = fair_more other sets classes d old.wishes x.fair;
+        few = f;
+      };
       most = refl;
     }) few
 

@@ -1,12 +1,12 @@
 -- For readers: by how many somebody is passed while it waits in line.
-use Rattle.std.specs.Prelude.{◌≡◌, ◌≢◌, ◌⊎◌, ℕ, zero, suc, ◌+◌, ◌<◌, ◌≤◌, Bool, if◌then◌else◌, true, List, [], ◌∷◌, ◌++◌, length, Option, Some, None}
+use Rattle.std.specs.Prelude.{◌≡◌, ◌≢◌, ◌⊎◌, ℕ, zero, suc, ◌+◌, ◌<◌, ◌≤◌, Bool, if◌then◌else◌, true, List, ◌∷◌, ◌++◌, length, Option, Some, None}
 use Rattle.std.proofs.Common.{inl, inr}
 use Rattle.std.specs.Int.Bits.{bit_and}
 use Rattle.bay_line.specs.declared.wish.Wish.{Wish}
 use Rattle.bay_line.specs.declared.going_in.Seated.{Seated}
 use Rattle.bay_line.specs.Wishes.{wish_at, is_kept, passes}
-use Rattle.bay_line.specs.Turns.{MayGoIn, others}
-use Rattle.bay_line.specs.Lines.{LineView, IsInOrder, Below, GoesIn, GoIn, LetsIn, wishes_of, asking, leaving}
+use Rattle.bay_line.specs.Turns.{MayGoIn}
+use Rattle.bay_line.specs.Lines.{LineView, IsInOrder, Below, IsNext, GoIn, LetsIn, asking, leaving}
 
 -- so many wishes stand before this one
 pub record Stands (w : Wish) (place : ℕ) (wishes : List Wish) : Type 0 where
@@ -65,18 +65,29 @@ IsPassedAtMost =
 
 -- ---- first come, first served
 
+-- both want the same instruments, on places of the same classes
+pub record WantTheSame (v w : Wish) : Type 0 where
+  pub needs : v.needs ≡ w.needs
+  pub classes : v.classes ≡ w.classes
+
+-- among those that want the same, the first come is served first
+abbrev pub IsFirstComeFirstServed : Type 0
+IsFirstComeFirstServed =
+    (in_use free : ℕ) (x : LineView) (place : ℕ) (s : Seated) → IsInOrder x → IsNext x.most in_use free x.wishes place s
+    → (i : ℕ) → i < place → WantTheSame (wish_at x.wishes i) (wish_at x.wishes place) → ⊥
+
 -- it wants no instrument that the other doesn't, and may have a place wherever the other may
 pub record WantsNoMore (w other : Wish) : Type 0 where
   pub needs : bit_and w.needs other.needs ≡ w.needs
   pub classes : bit_and other.classes w.classes ≡ other.classes
 
--- Whoever is let in: nobody that stood before it wants no more, and may have a place wherever it may, unless the one was passed by as often as may be and the other
--- wasn't. So among those that want the same, the first come is served first
-abbrev pub IsFirstComeFirstServed : Type 0
-IsFirstComeFirstServed =
-    (most in_use free : ℕ) (old : List Wish) (s : Seated) (new : List Wish) (goes : GoesIn most in_use free old s new) (i : ℕ)
-    → i < goes.place → WantsNoMore (wish_at old i) (wish_at old goes.place)
-    → (is_kept most free (wish_at old goes.place) ≡ true → is_kept most free (wish_at old i) ≡ true) → ⊥
+-- Whoever is let in: nobody that stood before it wants no more, and may have a place wherever it may, unless the one was passed by as often as may be and the
+-- other wasn't
+abbrev pub IsServedBefore : Type 0
+IsServedBefore =
+    (most in_use free : ℕ) (wishes : List Wish) (place : ℕ) (s : Seated) → IsNext most in_use free wishes place s
+    → (i : ℕ) → i < place → WantsNoMore (wish_at wishes i) (wish_at wishes place)
+    → (is_kept most free (wish_at wishes place) ≡ true → is_kept most free (wish_at wishes i) ≡ true) → ⊥
 
 -- ---- nobody waits for nothing
 
@@ -89,28 +100,3 @@ pub record WaitsForNothing (most in_use free : ℕ) (wishes : List Wish) (k : �
 abbrev pub NobodyWaitsForNothing : Type 0
 NobodyWaitsForNothing =
     (most in_use free : ℕ) (old new : List Wish) → GoIn most in_use free old None new → (k : ℕ) → WaitsForNothing most in_use free new k → ⊥
-
--- ---- of those that want the same
-
--- none of these that wants the same, on places of the same classes, counts more
-abbrev pub NotMore : Wish → List Wish → Type 0
-NotMore w [] = Unit {0}
-NotMore w (v ∷ wishes) = (v.needs ≡ w.needs → v.classes ≡ w.classes → v.passed ≤ w.passed) × NotMore w wishes
-
--- of those that want the same, on places of the same classes, whoever came first counts no less
-abbrev pub IsFair : List Wish → Type 0
-IsFair [] = Unit {0}
-IsFair (w ∷ wishes) = NotMore w wishes × IsFair wishes
-
--- so it stays, whoever asks, leaves, or is let in
-pub record StaysFair : Type 0 where
-  pub asks : (ask : ℕ) (sets : List ℕ) (classes : ℕ) (deadline : Option ℕ) (wishes : List Wish) → IsFair wishes
-      → IsFair (wishes ++ wishes_of ask sets classes deadline)
-  pub leaves : (ask : ℕ) (wishes : List Wish) → IsFair wishes → IsFair (others ask wishes)
-  pub goes : (most in_use free : ℕ) (old : List Wish) (s : Option Seated) (new : List Wish) → GoIn most in_use free old s new → IsFair old → IsFair new
-
--- and so, among those that want the same, on places of the same classes, the first come is served first
-abbrev pub IsFairlyServed : Type 0
-IsFairlyServed =
-    (most in_use free : ℕ) (old : List Wish) (s : Seated) (new : List Wish) → IsFair old → (goes : GoesIn most in_use free old s new) (i : ℕ)
-    → i < goes.place → (wish_at old i).needs ≡ (wish_at old goes.place).needs → (wish_at old i).classes ≡ (wish_at old goes.place).classes → ⊥

@@ -31,11 +31,22 @@ abbrev pub Seldom : ℕ → List Wish → Type 0
 Seldom most [] = Unit {0}
 Seldom most (w ∷ wishes) = (w.passed ≤ most) × Seldom most wishes
 
--- What is true of every line: asks stand in the order of their numbers, none was passed by more often than may be, and there are no more wishes than there
--- is room for
+-- none of these that wants the same, on places of the same classes, counts more
+abbrev pub NotMore : Wish → List Wish → Type 0
+NotMore w [] = Unit {0}
+NotMore w (v ∷ wishes) = (v.needs ≡ w.needs → v.classes ≡ w.classes → v.passed ≤ w.passed) × NotMore w wishes
+
+-- of those that want the same, on places of the same classes, whoever came first counts no less
+abbrev pub IsFair : List Wish → Type 0
+IsFair [] = Unit {0}
+IsFair (w ∷ wishes) = NotMore w wishes × IsFair wishes
+
+-- What is true of every line: asks stand in the order of their numbers, none was passed by more often than may be, of those that want the same whoever came
+-- first was passed by no less often, and there are no more wishes than there is room for
 pub record IsInOrder (x : LineView) : Type 0 where
   pub rises : Rises x.wishes
   pub seldom : Seldom x.most x.wishes
+  pub fair : IsFair x.wishes
   pub few : length x.wishes ≤ x.limit
 
 abbrev pub nobody : ℕ → ℕ → LineView
@@ -98,3 +109,8 @@ gone x s free = with_wishes x (others s.ask (pass_all x.most free s.needs x.wish
 pub record LetsIn (in_use free : ℕ) (old : LineView) (s : Option Seated) (new : LineView) : Type 0 where
   pub goes : GoIn old.most in_use free old.wishes s new.wishes
   pub same : new ≡ with_wishes old new.wishes
+
+-- to see who is next, and to let it go in, is to let it in
+abbrev pub NextIsLetIn : Type 0
+NextIsLetIn =
+    (in_use free : ℕ) (x : LineView) (place : ℕ) (s : Seated) → IsNext x.most in_use free x.wishes place s → LetsIn in_use free x (Some s) (gone x s free)

@@ -1,9 +1,18 @@
 //! What holds of every line. Each law is the contract of a function that does nothing.
-ghost use Rattle.bay_line.specs.Bounds.{IsPassedAtMost, IsFirstComeFirstServed, NobodyWaitsForNothing, StaysFair, IsFairlyServed};
+ghost use Rattle.bay_line.specs.Chains.{EachReasonEnds};
+ghost use Rattle.bay_line.specs.Lines.{NextIsLetIn};
+ghost use Rattle.bay_line.specs.InLine.{StaysInLine, WhatWasAskedStays};
+ghost use Rattle.bay_line.specs.Bounds.{IsPassedAtMost, IsFirstComeFirstServed, IsServedBefore, NobodyWaitsForNothing};
 
 /// Once nobody is let in any more, nobody waits whose instruments are all free, kept for nobody before it, and for whom a place is free.
 pub fn nobody_waits_for_nothing()
     ensures { NobodyWaitsForNothing }
+{}
+
+/// Once nobody is let in any more, each reason to wait has an end: no place is free for it; or an instrument of it is in use; or it is held up by one that goes
+/// before it, which has such a reason itself, and so on, in no more steps than there are wishes, to one of which an instrument is in use.
+pub fn each_reason_ends()
+    ensures { EachReasonEnds }
 {}
 
 /// While it waits, at most `most` sessions that need one of its instruments are let in of asks that came later; and at most so many of those that came
@@ -17,12 +26,23 @@ pub fn is_first_come_first_served()
     ensures { IsFirstComeFirstServed }
 {}
 
-/// Of those that want the same, on places of the same classes, whoever came first counts no less, whoever asks, leaves, or is let in.
-pub fn stays_fair()
-    ensures { StaysFair }
+/// Whoever wants no more than somebody behind it, and may have a place wherever that one may, goes first; unless that one alone was passed by as often as
+/// may be.
+pub fn is_served_before()
+    ensures { IsServedBefore }
 {}
 
-/// And so the first come is served first, among those.
-pub fn is_fairly_served()
-    ensures { IsFairlyServed }
+/// To see who is next, and to let it go in, is to let it in.
+pub fn next_is_let_in()
+    ensures { NextIsLetIn }
+{}
+
+/// Whoever asks is in line until it leaves, is let in, or its time is over; and all others stay.
+pub fn stays_in_line()
+    ensures { StaysInLine }
+{}
+
+/// What is true of the wishes of each ask when it asks stays true of all that are in line, and of whoever is let in.
+pub fn what_was_asked_stays()
+    ensures { WhatWasAskedStays }
 {}

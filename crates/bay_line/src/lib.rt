@@ -11,6 +11,7 @@ mod late;
 pub mod laws;
 mod line;
 mod passing;
+mod wanting;
 mod wish;
 
 pub use going_in::Seated;

@@ -1,11 +1,14 @@
 //! The line.
 ghost use Rattle.std.specs.Prelude.{◌≡◌, ◌≤◌, length, OnErr, OnOk};
-ghost use Rattle.bay_line.specs.Lines.{nobody, Below, asking, leaving, gone, TakesLate, IsChosen, LetsIn};
+ghost use Rattle.bay_line.specs.Lines.{nobody, Below, IsInOrder, asking, leaving, gone, TakesLate, IsChosen, LetsIn};
+ghost use Rattle.bay_line.specs.InLine.{SaysInLine};
+ghost use Rattle.bay_line.specs.Wanted.{AreWanted, AreClasses, IsFirstDeadline};
 
 use crate::appending::append;
 use crate::going_in::{Seated, choose, go_at, go_in};
 use crate::late::first_late;
 use crate::passing::remove;
+use crate::wanting;
 use crate::wish::Wish;
 use std::alloc::Global;
 use std::marker::Model;
@@ -51,9 +54,38 @@ impl Line {
 
     /// How many wishes are in line.
     pub fn len(&self) -> usize
-        ensures { result ≡ length self.now.wishes }
+        ensures number { result ≡ length self.now.wishes }
+        ensures in_order { IsInOrder self.now }
     {
         self.wishes.len()
+    }
+
+    /// Whether a wish of this ask is in line.
+    pub fn waits(&self, ask: u64) -> bool
+        ensures { SaysInLine self.now.wishes ask result }
+    {
+        wanting::waits(&self.wishes, ask)
+    }
+
+    /// The instruments that somebody in line wants.
+    pub fn wanted(&self) -> u64
+        ensures { AreWanted self.now.wishes result }
+    {
+        wanting::wanted(&self.wishes)
+    }
+
+    /// The classes of places that somebody in line may take.
+    pub fn classes(&self) -> u32
+        ensures { AreClasses self.now.wishes result }
+    {
+        wanting::classes(&self.wishes)
+    }
+
+    /// The earliest deadline of anybody in line.
+    pub fn first_deadline(&self) -> Option<u64>
+        ensures { IsFirstDeadline self.now.wishes (length self.now.wishes) result }
+    {
+        wanting::first_deadline(&self.wishes)
     }
 
     /// Somebody asks, for one of these sets of instruments, whichever is free first, and for a place of one of these classes. Its number is above those of all that

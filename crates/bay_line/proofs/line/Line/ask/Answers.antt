@@ -1,7 +1,7 @@
 use Rattle.std.proofs.Common.{◌≤◌, ◌-◌, length, sym, subst, List, arith}
 use Rattle.bay_line.specs.declared.wish.Wish.{Wish}
 use Rattle.bay_line.specs.Lines.{LineView, IsInOrder, Below}
-use Rattle.bay_line.proofs.Standing.{in_order_more}
+use Rattle.bay_line.proofs.InOrder.{in_order_more}
 use Rattle.bay_line.proofs.line.Line.ask.Goals.{in-Ok, in-Err}
 use Rattle.bay_line.proofs.line.Line.ask.Goals as goal
 

@@ -1,7 +1,7 @@
 use Rattle.std.proofs.Common.{sym, subst, List}
 use Rattle.bay_line.specs.declared.wish.Wish.{Wish}
 use Rattle.bay_line.specs.Lines.{IsInOrder}
-use Rattle.bay_line.proofs.Standing.{in_order_others}
+use Rattle.bay_line.proofs.InOrder.{in_order_others}
 use Rattle.bay_line.proofs.line.Line.leave.Goals as goal
 
 pub invariant_of-self : goal.invariant_of-self

@@ -1,4 +1,4 @@
-use Rattle.bay_line.proofs.Standing.{in_order_goes}
+use Rattle.bay_line.proofs.InOrder.{in_order_goes}
 use Rattle.bay_line.proofs.line.Line.let_in.Goals as goal
 
 pub invariant_of-self : goal.invariant_of-self
