@@ -1,10 +1,10 @@
 -- Sets of classes, and of instruments.
-use Rattle.std.proofs.Common.{◌≡◌, ◌≢◌, ◌⊎◌, ◌↔◌, ℕ, ◌+◌, ◌^◌, ◌<◌, max, Bool, true, false, not, nat_eq, bit_or, refl, sym, ap, ◌∙◌, subst, inl, inr, arith}
+use Rattle.std.proofs.Common.{◌≡◌, ◌≢◌, ◌⊎◌, ◌↔◌, ℕ, ◌+◌, ◌^◌, ◌<◌, max, Bool, true, false, not, nat_eq, bit_or, bit_xor, refl, sym, ap, ◌∙◌, subst, inl, inr, arith}
 use Rattle.std.specs.Int.{bit_at}
 use Rattle.std.specs.Int.Bits.{bit_and}
 use Rattle.std.proofs.lemmas.Bool.{cases_eq}
 use Rattle.std.proofs.lemmas.Nat.{and_comm}
-use Rattle.std.proofs.lemmas.Nat.Bits.{bit_at_or, bit_at-lt, bit_at-zero, bit_at-pow_same, bit_at-pow_other}
+use Rattle.std.proofs.lemmas.Nat.Bits.{bit_at_or, bit_at_xor, bit_at_and, bit_at-lt, bit_at-zero, bit_at-pow_same, bit_at-pow_other}
 use Rattle.bay_book.specs.Moments.{common}
 
 pub common_comm : (a b : ℕ) → common a b ≡ common b a
@@ -54,3 +54,11 @@ without_one P n set before not_here j = (
     | inr same ↦ absurd (not_here (subst P same x.1))
   ],
 )
+
+-- what is in the first set and not in the second
+pub without : (a b k : ℕ) → (bit_at (bit_xor a (bit_and a b)) k ≡ 1) ↔ ((bit_at a k ≡ 1) × (bit_at b k ≡ 1 → ⊥))
+without a b k =
+    let x = bit_at_xor a (bit_and a b) k in let y = bit_at_and a b k in let p = bit_at-lt a k in let q = bit_at-lt b k in (
+      λ h. (omega (arith, h, x, y, p, q), λ g. absurd (omega (arith, h, x, y, p, q, g))),
+      λ h. let r = h.0 in elim (cases_eq (bit_at b k) 1) [ inl is ↦ absurd (h.1 is) | inr other ↦ omega (arith, r, x, y, p, q, other) ],
+    )

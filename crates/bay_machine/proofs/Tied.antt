@@ -73,9 +73,9 @@ ended_tied classes x place how s inside t =
         | inr was ↦ let l = t.in_line a was.0 waits in (l.0, others_has a0.number x.line.wishes l.0 l.1 (λ e. was.1 (sym l.2 ∙ e)), l.2)
       ];
       by_book = λ w h.
-      let was = others_cases a0.number x.line.wishes w h in
-      let b = t.by_book w was.0 in
-      (b.0, still_asks x.book place v b.0 b.1 (λ e. was.1 (sym b.3.number ∙ e)), b.2, b.3);
+          let was = others_cases a0.number x.line.wishes w h in
+          let b = t.by_book w was.0 in
+          (b.0, still_asks x.book place v b.0 b.1 (λ e. was.1 (sym b.3.number ∙ e)), b.2, b.3);
       apart = λ a b h g ne. elim (other_asks x.book place v a s inside h.0) [
         | inl is ↦ absurd (false≢true (ap (λ (c : Ask). is_holding c.stage) is ∙ h.1))
         | inr was ↦ elim (other_asks x.book place v b s inside g.0) [
@@ -84,8 +84,8 @@ ended_tied classes x place how s inside t =
         ]
       ];
       few = λ k.
-      let e = count_set (holds_class k) asks place v inside in let le = t.few k in
-      let less = no_more _ _ (holds_class k a0) e in omega (arith, less, le);
+          let e = count_set (holds_class k) asks place v inside in let le = t.few k in
+          let less = no_more _ _ (holds_class k a0) e in omega (arith, less, le);
       within = λ a h. elim (other_asks x.book place v a s inside h.0) [
         | inl is ↦ absurd (false≢true (ap (λ (c : Ask). is_holding c.stage) is ∙ h.1))
         | inr was ↦ t.within a (was.0, h.1)
@@ -123,13 +123,13 @@ let_in_tied classes x now keeps used free in_line it place s are_used are_free n
     let its = t.by_book w0 (has_at x.line.wishes in_line no_wish next.first.0) in
     let is : its.0 ≡ a0 = same_ask x.book its.0 a0 s its.1 has0 (its.3.number ∙ (sym next.ask ∙ sym number)) in
     let class : it.class ≡ a0.class =
-      one_class a0.class it.class (subst (λ n. bit_at n it.class ≡ 1) (its.3.class ∙ ap (λ (a : Ask). class_bit a.class) is) next.class.its) in
+    one_class a0.class it.class (subst (λ n. bit_at n it.class ≡ 1) (its.3.class ∙ ap (λ (a : Ask). class_bit a.class) is) next.class.its) in
     let room : IsFreeClass classes asks a0.class = subst (IsFreeClass classes asks) class ((are_free it.class).0 next.class.is_free).1 in
     let unused : (b : Ask) → HoldsIn x.book b → common it.needs b.needs ≡ false = λ b h.
-      let p = place_of asks b no_ask h.0 in
-      subst (λ (c : Ask). common it.needs c.needs ≡ false) p.2
-      (are_used.apart it.needs (subst (λ n. common n used ≡ false) (sym next.needs) next.first.1.unused) p.0 p.1
-        (subst (λ (c : Ask). is_holding c.stage ≡ true) (sym p.2) h.1)) in
+    let p = place_of asks b no_ask h.0 in
+    subst (λ (c : Ask). common it.needs c.needs ≡ false) p.2
+    (are_used.apart it.needs (subst (λ n. common n used ≡ false) (sym next.needs) next.first.1.unused) p.0 p.1
+    (subst (λ (c : Ask). is_holding c.stage ≡ true) (sym p.2) h.1)) in
     record {
       in_line = λ a h w. elim (other_asks x.book place v a s inside h) [
         | inl same ↦ let e : Holds ≡ Waits = ap (λ (b : Ask). b.stage) same ∙ w in let no : ⊥ = cc in absurd no
@@ -138,20 +138,19 @@ let_in_tied classes x now keeps used free in_line it place s are_used are_free n
             (m.0, others_has it.ask (pass_all x.line.most free it.needs x.line.wishes) m.0 m.1 (λ e. was.1 (sym l.2 ∙ (m.2.ask ∙ (e ∙ sym number)))), sym m.2.ask ∙ l.2)
       ];
       by_book = λ w h.
-      let was = others_cases it.ask (pass_all x.line.most free it.needs x.line.wishes) w h in
-      let old = passed_cases x.line.most free it.needs x.line.wishes w was.0 in
-      let b = t.by_book old.0 old.1 in
-      (
-        b.0,
-        still_asks x.book place v b.0 b.1 (λ e. was.1 (sym old.2.ask ∙ (sym b.3.number ∙ (e ∙ number)))),
-        b.2,
-        record {
-          number = b.3.number ∙ old.2.ask;
-          class = sym old.2.classes ∙ b.3.class;
-          within = subst (λ n. is_within (class_at classes b.0.class).uses n ≡ true) old.2.needs b.3.within;
-          deadline = sym old.2.deadline ∙ b.3.deadline;
-        },
-      );
+          let was = others_cases it.ask (pass_all x.line.most free it.needs x.line.wishes) w h in
+          let old = passed_cases x.line.most free it.needs x.line.wishes w was.0 in
+          let b = t.by_book old.0 old.1 in (
+            b.0,
+            still_asks x.book place v b.0 b.1 (λ e. was.1 (sym old.2.ask ∙ (sym b.3.number ∙ (e ∙ number)))),
+            b.2,
+            record {
+              number = b.3.number ∙ old.2.ask;
+              class = sym old.2.classes ∙ b.3.class;
+              within = subst (λ n. is_within (class_at classes b.0.class).uses n ≡ true) old.2.needs b.3.within;
+              deadline = sym old.2.deadline ∙ b.3.deadline;
+            },
+          );
       apart = λ a b h g ne. elim (other_asks x.book place v a s inside h.0) [
         | inl same ↦ elim (other_asks x.book place v b s inside g.0) [
           | inl too ↦ absurd (ne (ap (λ (c : Ask). c.number) (sym same ∙ too)))
@@ -163,12 +162,12 @@ let_in_tied classes x now keeps used free in_line it place s are_used are_free n
         ]
       ];
       few = λ k.
-      more_of_class _ _ _ (is_holding a0.stage) (nat_eq a0.class k) (waits_not a0.stage waits) (count_set (holds_class k) asks place v inside) (t.few k)
-      (λ h. subst (IsFreeClass classes asks) (test_is a0.class k h) room);
+          more_of_class _ _ _ (is_holding a0.stage) (nat_eq a0.class k) (waits_not a0.stage waits) (count_set (holds_class k) asks place v inside) (t.few k)
+          (λ h. subst (IsFreeClass classes asks) (test_is a0.class k h) room);
       within = λ a h. elim (other_asks x.book place v a s inside h.0) [
         | inl same ↦ subst (λ (c : Ask). is_within (class_at classes c.class).uses c.needs ≡ true) same
             (subst (λ n. is_within (class_at classes a0.class).uses n ≡ true) (sym next.needs)
-              (subst (λ (c : Ask). is_within (class_at classes c.class).uses w0.needs ≡ true) is its.3.within))
+            (subst (λ (c : Ask). is_within (class_at classes c.class).uses w0.needs ≡ true) is its.3.within))
         | inr was ↦ t.within a (was.0, h.1)
       ];
     }

@@ -24,6 +24,9 @@ pub record Core : Type 0 where
   pub line : LineView
   pub book : BookView
 
+abbrev pub core : LineView → BookView → Core
+core line book = record { line = line; book = book }
+
 -- the wish is the ask's, and within what its class uses
 pub record IsItsWish (classes : List Class) (a : Ask) (w : Wish) : Type 0 where
   pub number : a.number ≡ w.ask

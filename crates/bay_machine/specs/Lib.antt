@@ -1,3 +1,4 @@
 pub mod Members
 pub mod Classes
 pub mod Cores
+pub mod Following

@@ -5,5 +5,11 @@
 #![tactic(auto)]
 
 mod classes;
+mod ending;
+mod following;
+mod free;
+mod letting_in;
+mod terms;
 
 pub use classes::Class;
+pub use terms::Terms;
