@@ -1,0 +1,6 @@
+pub mod Bits
+pub mod Least
+pub mod Giving
+pub mod Sound
+pub mod Going
+pub mod Told

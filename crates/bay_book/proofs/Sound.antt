@@ -1,0 +1,194 @@
+-- Each call leaves a book as sound as it was.
+use Rattle.std.proofs.Common.{◌≡◌, ℕ, ◌+◌, ◌<◌, ◌≤◌, max, Bool, true, false, not, List, length, set, get_or, Option, None, Some, refl, sym, ap, ◌∙◌, subst, inl, inr, arith, length-set}
+use Rattle.std.proofs.lemmas.Bool.{cases_eq, false≢true, leb-true, le-leb}
+use Rattle.std.proofs.lemmas.List.{get_or-set_same, get_or-set_other, get_or_default, get_or-map, length-map}
+use Rattle.std.proofs.lemmas.List.Elements.{All-set, All-push, All-map, All-filter}
+use Rattle.std.proofs.lemmas.List.Quantifiers.{all_pairs_push}
+use Rattle.std.proofs.lemmas.List.Kept.{AllPairs-filter}
+use Rattle.bay_book.specs.declared.ask.Ask.{Ask}
+use Rattle.bay_book.specs.declared.ask.End.{End}
+use Rattle.bay_book.specs.declared.ask.Heard.{Heard}
+use Rattle.bay_book.specs.declared.ask.Heard.TheVariants.{Nothing, Holds as HeardHolds, End as HeardEnd}
+use Rattle.bay_book.specs.declared.ask.Mark.{Mark}
+use Rattle.bay_book.specs.declared.ask.Mark.TheVariants.{None as NoLine, Due, At}
+use Rattle.bay_book.specs.declared.ask.Outcome.{Outcome}
+use Rattle.bay_book.specs.declared.ask.Outcome.TheVariants.{Holds as ToldHolds}
+use Rattle.bay_book.specs.declared.ask.Stage.{Stage}
+use Rattle.bay_book.specs.declared.ask.Stage.TheVariants.{Waits, Holds, Over}
+use Rattle.bay_book.specs.Asks.{no_ask, ask_at, is_owed, is_written, kept_mark, end_mark, given_mark, asker, holding, over, gone_since, back_again, given, heard_of, hearing, is_done, IsSoundAt, IsSoundAsk}
+use Rattle.bay_book.specs.Telling.{to_tell, to_tell_at, if_may}
+use Rattle.bay_book.specs.Books.{BookView, IsSound, with_ask, add, give, reach, purge}
+
+-- ---- one ask
+
+isnt_end : (h : Heard) → h ≡ Nothing → h ≡ HeardEnd → ⊥
+isnt_end h a b = cc
+
+isnt_holds : (h : Heard) → h ≡ Nothing → h ≡ HeardHolds → ⊥
+isnt_holds h a b = cc
+
+pub sound_holding : (durable needs now : ℕ) (keeps : Bool) (a : Ask) → a.stage ≡ Waits → IsSoundAsk durable a → IsSoundAsk durable (holding needs now keeps a)
+sound_holding durable needs now keeps a waits h =
+    let w : IsSoundAt durable a Waits = subst (IsSoundAt durable a) waits h in
+    (λ e. isnt_end a.heard w.1 e, λ e. absurd (isnt_holds a.heard w.1 e), w.3)
+
+kept_isnt_owed : (m : Mark) → is_owed (kept_mark m) ≡ false
+kept_isnt_owed NoLine = refl
+kept_isnt_owed Due = refl
+kept_isnt_owed (At position) = refl
+
+no_end_of_none : (m : Mark) → kept_mark m ≡ NoLine → end_mark m ≡ NoLine
+no_end_of_none NoLine h = refl
+no_end_of_none Due h = refl
+no_end_of_none (At position) h = absurd (at_isnt position h)
+  where
+    at_isnt : (p : ℕ) → At p ≡ NoLine → ⊥
+    at_isnt p e = cc
+
+pub sound_over : (durable : ℕ) (how : End) (a : Ask) → IsSoundAsk durable (over how a)
+sound_over durable how a = (refl, kept_isnt_owed a.hold_line, no_end_of_none a.hold_line)
+
+sound_gone_at : (durable moment : ℕ) (a : Ask) (s : Stage) → IsSoundAt durable a s → IsSoundAt durable (gone_since moment a) s
+sound_gone_at durable moment a Waits h = h
+sound_gone_at durable moment a Holds h = h
+sound_gone_at durable moment a (Over how) h = h
+
+pub sound_gone : (durable moment : ℕ) (a : Ask) → IsSoundAsk durable a → IsSoundAsk durable (gone_since moment a)
+sound_gone durable moment a h = sound_gone_at durable moment a a.stage h
+
+sound_back_at : (durable : ℕ) (a : Ask) (s : Stage) → IsSoundAt durable a s → IsSoundAt durable (back_again a) s
+sound_back_at durable a Waits h = h
+sound_back_at durable a Holds h = h
+sound_back_at durable a (Over how) h = h
+
+pub sound_back : (durable : ℕ) (a : Ask) → IsSoundAsk durable a → IsSoundAsk durable (back_again a)
+sound_back durable a h = sound_back_at durable a a.stage h
+
+given_isnt_owed : (at : ℕ) (m : Mark) → is_owed (given_mark at m) ≡ false
+given_isnt_owed at NoLine = refl
+given_isnt_owed at Due = refl
+given_isnt_owed at (At position) = refl
+
+given_none : (at : ℕ) (m : Mark) → given_mark at m ≡ NoLine → m ≡ NoLine
+given_none at NoLine h = refl
+given_none at Due h = absurd (at_isnt at h)
+  where
+    at_isnt : (p : ℕ) → At p ≡ NoLine → ⊥
+    at_isnt p e = cc
+given_none at (At position) h = h
+
+given_written : (durable at : ℕ) (m : Mark) → is_written durable m ≡ true → is_written durable (given_mark at m) ≡ true
+given_written durable at NoLine h = refl
+given_written durable at Due h = absurd (false≢true h)
+given_written durable at (At position) h = h
+
+sound_given_at : (durable at : ℕ) (a : Ask) (s : Stage) → IsSoundAt durable a s → IsSoundAt durable (given at a) s
+sound_given_at durable at a Waits h = (h.0, h.1, ap (given_mark at) h.2, ap (given_mark at) h.3)
+sound_given_at durable at a Holds h = (h.0, λ e. given_written durable at a.hold_line (h.1 e), ap (given_mark at) h.2)
+sound_given_at durable at a (Over how) h = (h.0, given_isnt_owed at a.hold_line, λ e. ap (given_mark at) (h.2 (given_none at a.hold_line e)))
+
+pub sound_given : (durable at : ℕ) (a : Ask) → IsSoundAsk durable a → IsSoundAsk durable (given at a)
+sound_given durable at a h = sound_given_at durable at a a.stage h
+
+written_later : (durable later : ℕ) (m : Mark) → durable ≤ later → is_written durable m ≡ true → is_written later m ≡ true
+written_later durable later NoLine le h = refl
+written_later durable later Due le h = h
+written_later durable later (At position) le h = le-leb position later (omega (arith, leb-true position durable h, le))
+
+sound_later_at : (durable later : ℕ) (a : Ask) (s : Stage) → durable ≤ later → IsSoundAt durable a s → IsSoundAt later a s
+sound_later_at durable later a Waits le h = h
+sound_later_at durable later a Holds le h = (h.0, λ e. written_later durable later a.hold_line le (h.1 e), h.2)
+sound_later_at durable later a (Over how) le h = h
+
+pub sound_later : (durable later : ℕ) (a : Ask) → durable ≤ later → IsSoundAsk durable a → IsSoundAsk later a
+sound_later durable later a le h = sound_later_at durable later a a.stage le h
+
+pub none_told : (o : Option Outcome) (what : Outcome) → o ≡ None → o ≡ Some what → ⊥
+none_told o what n e = cc
+
+pub may_is : (b : Bool) (said what : Outcome) → if_may b said ≡ Some what → (b ≡ true) × (said ≡ what)
+may_is true said what h = (refl, cc)
+may_is false said what h = absurd (none_told (if_may false said) what refl h)
+
+holds_heard : (what : Outcome) → ToldHolds ≡ what → heard_of what ≡ HeardEnd → ⊥
+holds_heard what is e = isnt (ap heard_of is ∙ e)
+  where
+    isnt : HeardHolds ≡ HeardEnd → ⊥
+    isnt x = cc
+
+sound_hearing_at : (durable : ℕ) (a : Ask) (what : Outcome) (s : Stage) (h : Heard) → to_tell_at durable a s h ≡ Some what → IsSoundAt durable a s
+    → IsSoundAt durable (hearing what a) s
+sound_hearing_at durable a what Waits h t x = absurd (none_told _ what refl t)
+sound_hearing_at durable a what Holds Nothing t x =
+    let m = may_is (is_written durable a.hold_line) ToldHolds what t in (λ e. holds_heard what m.1 e, λ e. m.0, x.2)
+sound_hearing_at durable a what Holds HeardHolds t x = absurd (none_told _ what refl t)
+sound_hearing_at durable a what Holds HeardEnd t x = absurd (none_told _ what refl t)
+sound_hearing_at durable a what (Over how) h t x = x
+
+pub sound_hearing : (durable : ℕ) (a : Ask) (what : Outcome) → to_tell durable a ≡ Some what → IsSoundAsk durable a → IsSoundAsk durable (hearing what a)
+sound_hearing durable a what t h = sound_hearing_at durable a what a.stage a.heard t h
+
+-- ---- the book
+
+-- a changed ask has its number as before
+number_same : (asks : List Ask) (j i : ℕ) (a d : Ask) → j < length asks → a.number ≡ (ask_at asks j).number → i < length asks
+    → (get_or (set asks j a) i d).number ≡ (get_or asks i d).number
+number_same asks j i a d inside is within = elim (cases_eq i j) [
+  | inl same ↦ subst (λ k. (get_or (set asks j a) k d).number ≡ (get_or asks k d).number) (sym same)
+      (ap (λ (x : Ask). x.number) (get_or-set_same asks j a d inside) ∙ (is ∙ ap (λ (x : Ask). x.number) (get_or_default asks j no_ask d inside)))
+  | inr other ↦ ap (λ (x : Ask). x.number) (get_or-set_other asks j i a d other)
+]
+
+pub sound_set : (x : BookView) (j : ℕ) (a : Ask) → j < length x.asks → a.number ≡ (ask_at x.asks j).number → IsSoundAsk x.durable a → IsSound x
+    → IsSound (with_ask x j a)
+sound_set x j a inside is sound h = record {
+  rises = λ i k d less within.
+      let in_k : k < length x.asks = omega (arith, within, length-set x.asks j a) in
+      let in_i : i < length x.asks = omega (arith, in_k, less) in
+      let before = h.rises i k d less in_k in
+      omega (arith, before, number_same x.asks j i a d inside is in_i, number_same x.asks j k a d inside is in_k);
+  below = All-set (λ (b : Ask). b.number < x.next) x.asks j a (subst (λ n. n < x.next) (sym is) (h.below j no_ask inside)) h.below;
+  each = All-set (IsSoundAsk x.durable) x.asks j a sound h.each;
+}
+
+pub sound_add : (x : BookView) (number class owner : ℕ) (deadline limit : Option ℕ) (now : ℕ) → x.next ≤ number → IsSound x
+    → IsSound (add x number class owner deadline limit now)
+sound_add x number class owner deadline limit now new h =
+    let a : Ask = asker number class owner deadline limit now in
+    record {
+      rises = all_pairs_push (λ (p q : Ask). p.number < q.number) x.asks a h.rises (λ k d inside. let b = h.below k d inside in omega (arith, b, new));
+      below = All-push (λ (b : Ask). b.number < number + 1) x.asks a (λ k d inside. let b = h.below k d inside in omega (arith, b, new)) (omega arith);
+      each = All-push (IsSoundAsk x.durable) x.asks a h.each (refl, refl, refl, refl);
+    }
+
+pub sound_give : (x : BookView) (at : ℕ) → IsSound x → IsSound (give x at)
+sound_give x at h = record {
+  rises = λ i k d less within.
+      let in_k : k < length x.asks = omega (arith, within, length-map x.asks (given at)) in
+      let in_i : i < length x.asks = omega (arith, in_k, less) in
+      let before = h.rises i k d less in_k in
+      omega (
+        arith,
+        before,
+        ap (λ (b : Ask). b.number) (get_or-map (given at) x.asks i d d in_i),
+        ap (λ (b : Ask). b.number) (get_or-map (given at) x.asks k d d in_k),
+      );
+  below = All-map (λ (b : Ask). b.number < x.next) (given at) x.asks h.below;
+  each = All-map (IsSoundAsk x.durable) (given at) x.asks (λ k d inside. sound_given x.durable at (get_or x.asks k d) (h.each k d inside));
+}
+
+pub sound_reach : (x : BookView) (position : ℕ) → IsSound x → IsSound (reach x position)
+sound_reach x position h = record {
+  rises = h.rises;
+  below = h.below;
+  each = λ k d inside. sound_later x.durable (max x.durable position) (get_or x.asks k d) (omega arith) (h.each k d inside);
+}
+
+pub sound_purge : (x : BookView) → IsSound x → IsSound (purge x)
+sound_purge x h =
+    let p : Ask → Bool = λ a. not (is_done a) in
+    record {
+      rises = AllPairs-filter (λ (a b : Ask). a.number < b.number) p x.asks h.rises;
+      below = All-filter p (λ (b : Ask). b.number < x.next) x.asks h.below;
+      each = All-filter p (IsSoundAsk x.durable) x.asks h.each;
+    }

@@ -1,0 +1,69 @@
+-- For readers: a book as contracts see it, and what its calls do.
+use Rattle.std.specs.Prelude.{ℕ, ◌+◌, max, ◌<◌, Bool, not, List, [], ◌∷◌, ◌++◌, map, filter, All, AllPairs, slice_set, Option}
+use Rattle.bay_book.specs.declared.ask.Ask.{Ask}
+use Rattle.bay_book.specs.declared.ask.End.{End}
+use Rattle.bay_book.specs.declared.ask.Outcome.{Outcome}
+use Rattle.bay_book.specs.Asks.{ask_at, asker, holding, over, gone_since, back_again, given, hearing, is_done, IsSoundAsk}
+
+-- the asks in the order of their numbers; the least number that the next may have; and up to where the journal outlives a crash
+pub record BookView : Type 0 where
+  pub asks : List Ask
+  pub next : ℕ
+  pub durable : ℕ
+
+-- What is so of every book. Numbers rise, so no two asks have the same, and each is below the next; and each ask is as it can be
+pub record IsSound (x : BookView) : Type 0 where
+  pub rises : AllPairs (λ a b. a.number < b.number) x.asks
+  pub below : All (λ a. a.number < x.next) x.asks
+  pub each : All (IsSoundAsk x.durable) x.asks
+
+abbrev pub nobody : BookView
+nobody = record { asks = []; next = 0; durable = 0 }
+
+-- these are the asks now
+abbrev pub with_asks : BookView → List Ask → BookView
+with_asks x asks = record { asks = asks; next = x.next; durable = x.durable }
+
+-- one ask is so now
+abbrev pub with_ask : BookView → ℕ → Ask → BookView
+with_ask x place a = with_asks x (slice_set x.asks place a)
+
+-- somebody asks, and waits
+abbrev pub add : BookView → ℕ → ℕ → ℕ → Option ℕ → Option ℕ → ℕ → BookView
+add x number class owner deadline limit now = record {
+  asks = x.asks ++ asker number class owner deadline limit now ∷ [];
+  next = number + 1;
+  durable = x.durable;
+}
+
+-- one holds these instruments, from this moment on
+abbrev pub hold : BookView → ℕ → ℕ → ℕ → Bool → BookView
+hold x place needs now keeps = with_ask x place (holding needs now keeps (ask_at x.asks place))
+
+-- one is over
+abbrev pub end : BookView → ℕ → End → BookView
+end x place how = with_ask x place (over how (ask_at x.asks place))
+
+-- the client of one is gone since this moment
+abbrev pub set_gone : BookView → ℕ → ℕ → BookView
+set_gone x place moment = with_ask x place (gone_since moment (ask_at x.asks place))
+
+-- it is there again
+abbrev pub is_back : BookView → ℕ → BookView
+is_back x place = with_ask x place (back_again (ask_at x.asks place))
+
+-- all lines that are owed were given, and the journal is so long
+abbrev pub give : BookView → ℕ → BookView
+give x at = with_asks x (map (given at) x.asks)
+
+-- the journal outlives a crash up to there, too
+abbrev pub reach : BookView → ℕ → BookView
+reach x position = record { asks = x.asks; next = x.next; durable = max x.durable position }
+
+-- one was told this
+abbrev pub heard : BookView → ℕ → Outcome → BookView
+heard x place what = with_ask x place (hearing what (ask_at x.asks place))
+
+-- those that are done aren't in the book any more
+abbrev pub purge : BookView → BookView
+purge x = with_asks x (filter (λ a. not (is_done a)) x.asks)

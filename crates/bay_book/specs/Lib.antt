@@ -1,0 +1,6 @@
+pub mod Asks
+pub mod Moments
+pub mod Finding
+pub mod Telling
+pub mod Books
+pub mod Runs

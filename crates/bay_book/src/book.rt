@@ -1,0 +1,232 @@
+//! The book.
+ghost use Rattle.std.specs.Prelude.{◌≡◌, ◌<◌, ◌≤◌, length, OnOk, OnErr, Some, false};
+ghost use Rattle.std.specs.List.{count_by};
+ghost use Rattle.bay_book.specs.Asks.{ask_at, is_over, holds_class};
+ghost use Rattle.bay_book.specs.Moments.{is_gone_too_long, is_over_limit, due_at, limit_due_at};
+ghost use Rattle.bay_book.specs.Finding.{IsPlaceOf, IsFirst, IsFirstLate, IsLeast, IsInUse};
+ghost use Rattle.bay_book.specs.Telling.{to_tell, IsNextToTell};
+ghost use Rattle.bay_book.specs.Books.{IsSound, nobody, add, hold, end, set_gone, is_back, give, reach, heard, purge};
+
+use crate::ask::{Ask, End, Outcome, Stage};
+use crate::finding::{
+    due, first_gone, first_late, first_over_limit, in_use, limit_due, place_of, taken,
+};
+use crate::making::{asker, back_again, give_all, gone_since, hearing, holding, is_done, over};
+use crate::telling::next_to_tell;
+use std::alloc::{AllocError, Global};
+use std::marker::Model;
+
+/// The asks, the least number that the next may have, and how far the journal outlives a crash.
+#[derive(Drop)]
+pub struct Book {
+    asks: Vec<Ask, Global>,
+    next: u64,
+    durable: u64,
+}
+
+impl Model for Book {
+    ghost use Rattle.bay_book.specs.Books.{BookView, IsSound};
+
+    ghost Value = { BookView };
+
+    ghost view = { λ x. record { asks = x.asks.items; next = x.next; durable = x.durable } };
+
+    ghost invariant = { λ x. IsSound (record { asks = x.asks.items; next = x.next; durable = x.durable }) };
+}
+
+impl Book {
+    /// A book in which nobody is.
+    pub fn nobody(alloc: Global) -> Book
+        ensures { result ≡ nobody }
+    {
+        Book {
+            asks: Vec::new(alloc),
+            next: 0,
+            durable: 0,
+        }
+    }
+
+    /// What is so of every book. It does nothing.
+    pub fn is_sound(&self)
+        ensures { IsSound self.now }
+    {
+        let _ = &self.next;
+    }
+
+    /// How many asks are in the book.
+    pub fn len(&self) -> usize
+        ensures { result ≡ length self.now.asks }
+    {
+        self.asks.len()
+    }
+
+    /// The least number that the next ask may have.
+    pub fn next(&self) -> u64
+        ensures { result ≡ self.now.next }
+    {
+        self.next
+    }
+
+    /// Up to where the journal outlives a crash.
+    pub fn durable(&self) -> u64
+        ensures { result ≡ self.now.durable }
+    {
+        self.durable
+    }
+
+    /// The ask at this place.
+    pub fn ask_at(&self, place: usize) -> Ask
+        requires { place < length self.now.asks }
+        ensures { result ≡ ask_at self.now.asks place }
+    {
+        self.asks[place]
+    }
+
+    /// The place of the ask with this number, if it is in the book. No other has its number.
+    pub fn place_of(&self, number: u64) -> Option<usize>
+        ensures { IsPlaceOf self.now.asks number result }
+    {
+        place_of(&self.asks, number)
+    }
+
+    /// Somebody asks, at this moment, and waits. It takes memory.
+    pub fn add(
+        &mut self,
+        number: u64,
+        class: u32,
+        owner: u128,
+        deadline: Option<u64>,
+        limit: Option<u64>,
+        now: u64,
+    ) -> Result<(), AllocError>
+        requires new { self.old.next ≤ number }
+        requires room { number < 18446744073709551615 }
+        ensures adds { OnOk result (self.new ≡ add self.old number class owner deadline limit now) }
+        ensures refused { OnErr result (self.new ≡ self.old) }
+    {
+        self.asks
+            .push(asker(number, class, owner, deadline, limit, now))?;
+        self.next = number + 1;
+        Ok(())
+    }
+
+    /// It holds these instruments from this moment on. A line is owed, if the bay keeps a journal.
+    pub fn hold(&mut self, place: usize, needs: u64, now: u64, keeps: bool)
+        requires inside { place < length self.old.asks }
+        requires waits { (ask_at self.old.asks place).stage ≡ Stage.Waits }
+        ensures { self.new ≡ hold self.old place needs now keeps }
+    {
+        self.asks[place] = holding(self.asks[place], needs, now, keeps);
+    }
+
+    /// It is over, and holds nothing. A line is owed if one was given that it holds.
+    pub fn end(&mut self, place: usize, how: End)
+        requires inside { place < length self.old.asks }
+        requires not_over { is_over (ask_at self.old.asks place).stage ≡ false }
+        ensures { self.new ≡ end self.old place how }
+    {
+        self.asks[place] = over(self.asks[place], how);
+    }
+
+    /// Its client isn't there since this moment.
+    pub fn set_gone(&mut self, place: usize, moment: u64)
+        requires { place < length self.old.asks }
+        ensures { self.new ≡ set_gone self.old place moment }
+    {
+        self.asks[place] = gone_since(self.asks[place], moment);
+    }
+
+    /// Its client is there again.
+    pub fn is_back(&mut self, place: usize)
+        requires { place < length self.old.asks }
+        ensures { self.new ≡ is_back self.old place }
+    {
+        self.asks[place] = back_again(self.asks[place]);
+    }
+
+    /// All lines that are owed were given, and the journal is so long now.
+    pub fn give(&mut self, at: u64)
+        ensures { self.new ≡ give self.old at }
+    {
+        give_all(&mut self.asks, at);
+    }
+
+    /// The journal outlives a crash up to this position.
+    pub fn reach(&mut self, position: u64)
+        ensures { self.new ≡ reach self.old position }
+    {
+        self.durable = self.durable.max(position);
+    }
+
+    /// The next that is to be told something, and what.
+    pub fn next_to_tell(&self) -> Option<(usize, Outcome)>
+        ensures { IsNextToTell self.now.asks self.now.durable result }
+    {
+        next_to_tell(&self.asks, self.durable)
+    }
+
+    /// It was told what it was to be told.
+    pub fn heard(&mut self, place: usize, what: Outcome)
+        requires inside { place < length self.old.asks }
+        requires due { to_tell self.old.durable (ask_at self.old.asks place) ≡ Some what }
+        ensures { self.new ≡ heard self.old place what }
+    {
+        self.asks[place] = hearing(self.asks[place], what);
+    }
+
+    /// Those that are over, know it or needn't, and owe no line of their end aren't in the book any more.
+    pub fn purge(&mut self)
+        ensures { self.new ≡ purge self.old }
+    {
+        self.asks.retain(|ask| !is_done(*ask));
+    }
+
+    /// All instruments of those that hold.
+    pub fn in_use(&self) -> u64
+        ensures { IsInUse self.now.asks result }
+    {
+        in_use(&self.asks)
+    }
+
+    /// How many of this class hold.
+    pub fn taken(&self, class: u32) -> usize
+        ensures { result ≡ count_by (holds_class class) self.now.asks }
+    {
+        taken(&self.asks, class)
+    }
+
+    /// The next moment at which a deadline, the disk's time or a grace is over.
+    pub fn due(&self, grace: Option<u64>, disk: Option<u64>) -> Option<u64>
+        ensures { IsLeast (due_at grace disk) self.now.asks result }
+    {
+        due(&self.asks, grace, disk)
+    }
+
+    /// The next moment at which a limit is over, of those that have one of these instruments, or a place of one of these classes.
+    pub fn limit_due(&self, wanted: u64, full: u32) -> Option<u64>
+        ensures { IsLeast (limit_due_at wanted full) self.now.asks result }
+    {
+        limit_due(&self.asks, wanted, full)
+    }
+
+    /// The first that has to lapse at this moment, and how.
+    pub fn first_late(&self, now: u64, disk: Option<u64>) -> Option<(usize, End)>
+        ensures { IsFirstLate now disk self.now.asks result }
+    {
+        first_late(&self.asks, now, disk)
+    }
+
+    /// The first that holds, and whose client is gone for too long.
+    pub fn first_gone(&self, now: u64, grace: Option<u64>) -> Option<usize>
+        ensures { IsFirst (is_gone_too_long now grace) self.now.asks result }
+    {
+        first_gone(&self.asks, now, grace)
+    }
+
+    /// The first that holds, and whose limit is over, of those that have one of these instruments, or a place of one of these classes.
+    pub fn first_over_limit(&self, now: u64, wanted: u64, full: u32) -> Option<usize>
+        ensures { IsFirst (is_over_limit now wanted full) self.now.asks result }
+    {
+        first_over_limit(&self.asks, now, wanted, full)
+    }
+}

@@ -1,0 +1,15 @@
+//! The book of a bay: who asked, how far each ask is, what it is told, and which lines of the journal it owes. Pure bookkeeping, without a bench.
+//!
+//! A moment is a number that is handed in, and so is how far the journal outlives a crash. No call but `add` takes memory.
+#![tactic(auto)]
+
+mod ask;
+mod book;
+mod finding;
+pub mod laws;
+mod making;
+mod moments;
+mod telling;
+
+pub use ask::{Ask, End, Heard, Mark, Outcome, Stage};
+pub use book::Book;
