@@ -10,3 +10,4 @@ pub mod Chain
 pub mod AllOf
 pub mod InLine
 pub mod Within
+pub mod Deadlines

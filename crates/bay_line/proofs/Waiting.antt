@@ -8,7 +8,7 @@ use Rattle.bay_line.specs.declared.going_in.Seated.{Seated}
 use Rattle.bay_line.specs.Wishes.{no_wish, wish_at, common, is_ready, is_kept, passes, counts}
 use Rattle.bay_line.specs.Turns.{HasReason, MayGoIn, pass_all, others}
 use Rattle.bay_line.specs.Lines.{LineView, Seldom, Below, IsInOrder, GoesIn, LetsIn, wishes_of, asking, leaving}
-use Rattle.bay_line.specs.Bounds.{Stands, WaitsOnce, Waits, goes_before, go_before, one_if, HasWaited, WantsNoMore}
+use Rattle.bay_line.specs.Bounds.{Stands, WaitsOnce, Waits, goes_before, go_before, one_if, HasWaited, WaitsAddUp, WantsNoMore}
 use Rattle.bay_line.proofs.Standing.{rises_more, seldom_more, fewer_others, common_comm}
 use Rattle.bay_line.proofs.Fair.{fair_more}
 use Rattle.bay_line.proofs.InOrder.{in_order_others, in_order_goes}
@@ -210,6 +210,16 @@ meanwhile ask (suc n) old new w place x is st (mid, before, o) =
       in_order = one.in_order;
       most = one.most ∙ m.most;
     }
+
+pub waits_add_up : WaitsAddUp
+waits_add_up ask n zero old mid new first second =
+    let both : (both : Waits ask n old new) × ((w : Wish) → go_before ask n old new both w ≡ go_before ask n old mid first w + 0) =
+    subst (λ (v : LineView). (x : Waits ask n old v) × ((w : Wish) → go_before ask n old v x w ≡ go_before ask n old mid first w + 0)) (sym second)
+    (first, λ w. omega arith) in
+    (n, omega arith, both.0, both.1)
+waits_add_up ask n (suc m) old mid new first (there, before, last) =
+    let x = waits_add_up ask n m old mid there first before in
+    (suc x.0, omega (arith, x.1), (there, x.2, last), λ w. let sum = x.3 w in omega (arith, sum))
 
 seldom_at : (most : ℕ) (xs : List Wish) (w : Wish) (ys : List Wish) → Seldom most (xs ++ w ∷ ys) → w.passed ≤ most
 seldom_at most [] w ys h = h.0

@@ -41,6 +41,13 @@ abbrev pub go_before : (ask n : ℕ) (old new : LineView) → Waits ask n old ne
 go_before ask zero old new same w = 0
 go_before ask (suc n) old new (mid, before, once) w = go_before ask n old mid before w + goes_before ask mid new once w
 
+-- what happens in one time and then in another happens in both together; and so do those that go before it
+abbrev pub WaitsAddUp : Type 0
+WaitsAddUp =
+    (ask n m : ℕ) (old mid new : LineView) (first : Waits ask n old mid) (second : Waits ask m mid new)
+    → (all : ℕ) × (all ≡ n + m) × (both : Waits ask all old new)
+    × ((w : Wish) → go_before ask all old new both w ≡ go_before ask n old mid first w + go_before ask m mid new second w)
+
 -- The wish is in line still. It counts those that went before it, until it was passed by as often as may be; and all that went before it are no more than it
 -- counted and stand before it no more
 pub record HasWaited (w : Wish) (place all : ℕ) (new : LineView) : Type 0 where
@@ -55,8 +62,8 @@ pub record HasWaited (w : Wish) (place all : ℕ) (new : LineView) : Type 0 wher
   pub each : it.passed < new.most → all ≡ later
   pub bound : all + now ≤ place + later
 
--- As long as a wish waits: each session that needs one of its instruments and is let in while a place is free for it is counted, until it was passed by as often
--- as may be. From its asking on at most `most` go before it, and at most so many more as stood in line before it when it asked
+-- As long as a wish waits: each that needs one of its instruments and is let in while a place is free for it is counted, until it was passed by as often as may
+-- be. From its asking on at most `most` go before it, and at most so many more as stood in line before it when it asked
 abbrev pub IsPassedAtMost : Type 0
 IsPassedAtMost =
     (ask n : ℕ) (old new : LineView) (w : Wish) (place : ℕ) → IsInOrder old → w.ask ≡ ask → Stands w place old.wishes → (waits : Waits ask n old new)

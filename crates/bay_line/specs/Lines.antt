@@ -1,6 +1,8 @@
 -- For readers: the line as contracts see it, and what its calls do to it.
-use Rattle.std.specs.Prelude.{◌≡◌, ℕ, ◌<◌, ◌≤◌, List, [], ◌∷◌, ◌++◌, map, length, Option, Some, None, true, false}
+use Rattle.std.specs.Prelude.{◌≡◌, ℕ, ◌+◌, ◌<◌, ◌≤◌, List, [], ◌∷◌, ◌++◌, map, length, Option, Some, None, true, false}
 use Rattle.bay_line.specs.declared.wish.Wish.{Wish}
+use Rattle.bay_line.specs.declared.line.NotInLine.{NotInLine}
+use Rattle.bay_line.specs.declared.line.NotInLine.TheVariants.{Full, NoMemory}
 use Rattle.bay_line.specs.declared.going_in.Seated.{Seated}
 use Rattle.bay_line.specs.Wishes.{wish_at, is_late}
 use Rattle.bay_line.specs.Turns.{IsFirst, HasReason, IsFreeClass, others, pass_all, after}
@@ -62,6 +64,11 @@ wishes_of ask sets classes deadline = map (λ needs. record { ask = ask; needs =
 -- it stands behind all others
 abbrev pub asking : LineView → ℕ → List ℕ → ℕ → Option ℕ → LineView
 asking x ask sets classes deadline = with_wishes x (x.wishes ++ wishes_of ask sets classes deadline)
+
+-- why it isn't in line: there is no room for so many wishes; or there is, and no memory
+abbrev pub IsWhyNot : LineView → List ℕ → NotInLine → Type 0
+IsWhyNot x sets Full = x.limit < length x.wishes + length sets
+IsWhyNot x sets NoMemory = length x.wishes + length sets ≤ x.limit
 
 -- it isn't in line, and all others stand as they stood
 abbrev pub leaving : LineView → ℕ → LineView

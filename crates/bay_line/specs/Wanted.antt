@@ -1,8 +1,9 @@
 -- For readers: what those in line want, all together.
-use Rattle.std.specs.Prelude.{◌≡◌, ℕ, ◌<◌, ◌≤◌, nat_le, if◌then◌else◌, true, List, length, Option, Some, None}
+use Rattle.std.specs.Prelude.{◌≡◌, ℕ, ◌<◌, ◌≤◌, nat_le, if◌then◌else◌, true, false, List, length, Option, Some, None}
 use Rattle.std.specs.Int.{bit_at}
 use Rattle.bay_line.specs.declared.wish.Wish.{Wish}
-use Rattle.bay_line.specs.Wishes.{wish_at, common}
+use Rattle.bay_line.specs.Wishes.{wish_at, common, is_past}
+use Rattle.bay_line.specs.Lines.{IsLate}
 
 -- the set has just what the first n wishes have, by what each of them has: bit by bit; and so it shares something with a set just if one of them does
 pub record IsAllOf (what : Wish → ℕ) (wishes : List Wish) (n : ℕ) (all : ℕ) : Type 0 where
@@ -31,3 +32,11 @@ IsFirstDeadline wishes n (Some end) =
     ((k : ℕ) × (k < n) × ((wish_at wishes k).deadline ≡ Some end))
     × ((k other : ℕ) → k < n → (wish_at wishes k).deadline ≡ Some other → end ≤ other)
 IsFirstDeadline wishes n None = (k : ℕ) → k < n → (wish_at wishes k).deadline ≡ None
+
+-- nobody's time is over before the earliest deadline; and from then on somebody's is
+pub record IsLateFrom (end : Option ℕ) (wishes : List Wish) : Type 0 where
+  pub before : (now : ℕ) → is_past now end ≡ false → IsLate now wishes None
+  pub after : (now : ℕ) → is_past now end ≡ true → (ask : ℕ) × IsLate now wishes (Some ask)
+
+abbrev pub IsLateFromFirst : Type 0
+IsLateFromFirst = (wishes : List Wish) (end : Option ℕ) → IsFirstDeadline wishes (length wishes) end → IsLateFrom end wishes

@@ -1,8 +1,9 @@
 //! What holds of every line. Each law is the contract of a function that does nothing.
 ghost use Rattle.bay_line.specs.Chains.{EachReasonEnds};
 ghost use Rattle.bay_line.specs.Lines.{NextIsLetIn};
+ghost use Rattle.bay_line.specs.Wanted.{IsLateFromFirst};
 ghost use Rattle.bay_line.specs.InLine.{StaysInLine, WhatWasAskedStays};
-ghost use Rattle.bay_line.specs.Bounds.{IsPassedAtMost, IsFirstComeFirstServed, IsServedBefore, NobodyWaitsForNothing};
+ghost use Rattle.bay_line.specs.Bounds.{IsPassedAtMost, WaitsAddUp, IsFirstComeFirstServed, IsServedBefore, NobodyWaitsForNothing};
 
 /// Once nobody is let in any more, nobody waits whose instruments are all free, kept for nobody before it, and for whom a place is free.
 pub fn nobody_waits_for_nothing()
@@ -15,10 +16,15 @@ pub fn each_reason_ends()
     ensures { EachReasonEnds }
 {}
 
-/// While it waits, at most `most` sessions that need one of its instruments are let in of asks that came later; and at most so many of those that came
-/// earlier as stood before it when it asked.
+/// While it waits, and a place is free for it, at most `most` that need one of its instruments are let in, and one more for each wish that stood before it when
+/// it asked.
 pub fn is_passed_at_most()
     ensures { IsPassedAtMost }
+{}
+
+/// What happens in one time and then in another happens in both together.
+pub fn waits_add_up()
+    ensures { WaitsAddUp }
 {}
 
 /// Among those that want the same, on places of the same classes, the first come is served first.
@@ -45,4 +51,9 @@ pub fn stays_in_line()
 /// What is true of the wishes of each ask when it asks stays true of all that are in line, and of whoever is let in.
 pub fn what_was_asked_stays()
     ensures { WhatWasAskedStays }
+{}
+
+/// Nobody's time is over before the earliest deadline; and from then on somebody's is.
+pub fn is_late_from_first()
+    ensures { IsLateFromFirst }
 {}

@@ -1,6 +1,6 @@
 //! The line.
-ghost use Rattle.std.specs.Prelude.{◌≡◌, ◌≤◌, length, OnErr, OnOk};
-ghost use Rattle.bay_line.specs.Lines.{nobody, Below, IsInOrder, asking, leaving, gone, TakesLate, IsChosen, LetsIn};
+ghost use Rattle.std.specs.Prelude.{◌≡◌, ◌≤◌, length, OnErr, OnOk, IfErr};
+ghost use Rattle.bay_line.specs.Lines.{nobody, Below, IsInOrder, asking, IsWhyNot, leaving, gone, TakesLate, IsChosen, LetsIn};
 ghost use Rattle.bay_line.specs.InLine.{SaysInLine};
 ghost use Rattle.bay_line.specs.Wanted.{AreWanted, AreClasses, IsFirstDeadline};
 
@@ -101,6 +101,7 @@ impl Line {
         ensures asks { OnOk result (self.new ≡ asking self.old ask sets.now classes deadline) }
         ensures room { OnOk result (length self.new.wishes ≤ self.new.limit) }
         ensures refused { OnErr result (self.new ≡ self.old) }
+        ensures why { IfErr result (λ why. IsWhyNot self.old sets.now why) }
     {
         if self.limit - self.wishes.len() < sets.len() {
             return Err(NotInLine::Full);
