@@ -25,8 +25,11 @@ same_count m n e = omega (arith, e)
 open_waits : (s : Stage) → s ≡ Waits → not (is_over s) ≡ true
 open_waits s e = ap (λ (t : Stage). not (is_over t)) e
 
-if_true : (b : Bool) → b ≡ true → (if b then 1 else 0) ≡ 1
-if_true b e = ap (λ (c : Bool). if c then 1 else 0) e
+abbrev one_if : Bool → ℕ
+one_if b = if b then 1 else 0
+
+if_true : (b : Bool) → b ≡ true → one_if b ≡ 1
+if_true b e = ap one_if e
 
 pub in_open : (classes : List Class) (now : ℕ) (keeps : Bool) (old new : Core) → LetsIn classes now keeps old new
     → count_by is_open new.book.asks ≡ count_by is_open old.book.asks

@@ -19,6 +19,7 @@ pub(crate) fn follow(classes: &[Class], terms: Terms, line: &mut Line, book: &mu
 {
     loop {
         let_in_all(classes, terms.keeps, line, book, now);
+        book.is_sound();
         let Some((place, how)) = first_due(classes, terms, line, book, now) else {
             return;
         };
