@@ -41,12 +41,12 @@ pub full_is : (classes : List Class) (x : Core) (wanted free : ℕ) → AreClass
     → AreFull classes x (bit_xor wanted (bit_and wanted free))
 full_is classes x wanted free are_wanted are_free k = (
   λ h.
-  let both = (without wanted free k).0 h in let w = are_wanted.whose k both.0 in
-  ((wish_at x.line.wishes w.0, has_at x.line.wishes w.0 no_wish w.1, w.2), λ f. both.1 (free_below classes x.book.asks free k are_free f)),
+      let both = (without wanted free k).0 h in let w = are_wanted.whose k both.0 in
+      ((wish_at x.line.wishes w.0, has_at x.line.wishes w.0 no_wish w.1, w.2), λ f. both.1 (free_below classes x.book.asks free k are_free f)),
   λ h.
-  let p = place_of x.line.wishes h.0.0 no_wish h.0.1 in
-  let bit : bit_at (wish_at x.line.wishes p.0).classes k ≡ 1 = subst (λ (w : Wish). bit_at w.classes k ≡ 1) (sym p.2) h.0.2 in
-  (without wanted free k).1 (are_wanted.has p.0 k p.1 bit, λ f. h.1 ((are_free k).0 f).1),
+      let p = place_of x.line.wishes h.0.0 no_wish h.0.1 in
+      let bit : bit_at (wish_at x.line.wishes p.0).classes k ≡ 1 = subst (λ (w : Wish). bit_at w.classes k ≡ 1) (sym p.2) h.0.2 in
+      (without wanted free k).1 (are_wanted.has p.0 k p.1 bit, λ f. h.1 ((are_free k).0 f).1),
 )
 
 -- ---- who is wanted

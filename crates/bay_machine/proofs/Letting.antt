@@ -55,7 +55,7 @@ step_in classes now keeps line book used free in_line it line' book' s are_used 
         book = h.2;
       };
       tied = subst (λ (l : LineView). IsTied classes (core l book')) (sym gone_is)
-        (subst (λ (b : BookView). IsTied classes (core (gone line it free) b)) (sym h.2)
+          (subst (λ (b : BookView). IsTied classes (core (gone line it free) b)) (sym h.2)
           (let_in_tied classes (core line book) now keeps used free in_line it h.0 s are_used are_free next at.inside at.its at.waits t));
     }
 

@@ -5,3 +5,4 @@ pub mod Tied
 pub mod Letting
 pub mod Steps
 pub mod Due
+pub mod Askers

@@ -8,7 +8,7 @@ use Rattle.bay_line.specs.declared.wish.Wish.{Wish}
 use Rattle.bay_line.specs.declared.going_in.Seated.{Seated}
 use Rattle.bay_line.specs.Wishes.{wish_at, no_wish}
 use Rattle.bay_line.specs.Turns.{pass_all}
-use Rattle.bay_line.specs.Lines.{IsNext, gone, leaving}
+use Rattle.bay_line.specs.Lines.{LineView, IsNext, gone, leaving}
 use Rattle.bay_book.specs.declared.ask.Ask.{Ask}
 use Rattle.bay_book.specs.declared.ask.End.{End}
 use Rattle.bay_book.specs.declared.ask.Stage.{Stage}
@@ -20,7 +20,7 @@ use Rattle.bay_book.specs.Books.{BookView, IsSound, hold, end}
 use Rattle.bay_machine.specs.declared.classes.Class.{Class}
 use Rattle.bay_machine.specs.Members.{Has}
 use Rattle.bay_machine.specs.Classes.{class_at, class_bit, is_within}
-use Rattle.bay_machine.specs.Cores.{Core, IsItsWish, IsInLine, IsByBook, HoldsIn, IsTied, AreFree, IsFreeClass, LetsIn, ended}
+use Rattle.bay_machine.specs.Cores.{Core, core, IsItsWish, IsInLine, IsByBook, HoldsIn, IsTied, AreFree, IsFreeClass, LetsIn, ended}
 use Rattle.bay_machine.proofs.Members.{has_at, place_of, set_others, set_new, set_other, one_number}
 use Rattle.bay_machine.proofs.InLine.{passed_cases, passed_has, others_cases, others_has}
 use Rattle.bay_machine.proofs.Sets.{common_comm, one_class}
@@ -35,6 +35,9 @@ pub not_waits : (s : Stage) → is_over s ≡ false → (is_holding s ≡ true) 
 not_waits Waits h = inr refl
 not_waits Holds h = inl refl
 not_waits (Over how) h = absurd (false≢true (sym h))
+
+pub same_core : (l k : LineView) (b d : BookView) → l ≡ k → b ≡ d → core l b ≡ core k d
+same_core l k b d e f = ap (λ (m : LineView). core m b) e ∙ ap (core k) f
 
 -- ---- all but the one that was changed
 

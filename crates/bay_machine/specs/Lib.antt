@@ -2,3 +2,4 @@ pub mod Members
 pub mod Classes
 pub mod Cores
 pub mod Following
+pub mod Requests

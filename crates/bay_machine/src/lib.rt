@@ -4,12 +4,15 @@
 //! Each call changes one thing, and then all follows from that: those are let in who may be, those end whose time is over, until nothing is due.
 #![tactic(auto)]
 
+mod asking;
 mod classes;
 mod ending;
 mod following;
 mod free;
 mod letting_in;
+mod request;
 mod terms;
 
 pub use classes::Class;
+pub use request::{NotAsked, NotHeld, Request};
 pub use terms::Terms;

@@ -21,10 +21,10 @@ pub loop-place-preserved : goal.loop-place-preserved
 loop-place-preserved c =
     let l = c.loop-place in
     let s = step_in c.args.classes.now c.args.now c.args.keeps l.line l.book c.in_use-used.result c.free_classes-free.result c.in-Some.place c.in-Some.seated
-      c.go.new.self c.hold.new.book c.is_sound.ensures c.in_use-used.ensures c.free_classes-free.ensures c.in-Some.ensures c.hold.ensures c.go.ensures
-      l.invariant.tied in
+    c.go.new.self c.hold.new.book c.is_sound.ensures c.in_use-used.ensures c.free_classes-free.ensures c.in-Some.ensures c.hold.ensures c.go.ensures
+    l.invariant.tied in
     record {
       all = one_more_in c.args.classes.now c.args.now c.args.keeps (core c.args.line.now c.args.book.now) (core l.line l.book) (core c.go.new.self c.hold.new.book)
-        l.invariant.all s.lets_in;
+          l.invariant.all s.lets_in;
       tied = s.tied;
     }
