@@ -68,11 +68,11 @@ fits_last classes book sets r f =
 
 pub tied_below : (classes : List Class) (x : Core) (number : ℕ) → IsSound x.book → IsTied classes x → x.book.next ≤ number → Below number x.line.wishes
 tied_below classes x number s t le = below_of number x.line.wishes (λ w h.
-      let a = t.by_book w h in
-      let p = place_of x.book.asks a.0 no_ask a.1 in
-      let less : (get_or x.book.asks p.0 no_ask).number < x.book.next = s.below p.0 no_ask p.1 in
-      let same : (get_or x.book.asks p.0 no_ask).number ≡ w.ask = ap (λ (b : Ask). b.number) p.2 ∙ a.3.number in
-      omega (arith, less, same, le))
+    let a = t.by_book w h in
+    let p = place_of x.book.asks a.0 no_ask a.1 in
+    let less : (get_or x.book.asks p.0 no_ask).number < x.book.next = s.below p.0 no_ask p.1 in
+    let same : (get_or x.book.asks p.0 no_ask).number ≡ w.ask = ap (λ (b : Ask). b.number) p.2 ∙ a.3.number in
+    omega (arith, less, same, le))
 
 -- ---- who asks, and finds no memory, leaves the line as it was
 
@@ -142,8 +142,7 @@ asked_tied classes x sets r now f t =
       by_book = λ w h. elim (append_cases x.line.wishes new w h) [
         | inl was ↦ let b = t.by_book w was in (b.0, append_first asks (v ∷ []) b.0 b.1, b.2, b.3)
         | inr now ↦
-            let is = wishes_cases r.number sets (class_bit r.class) r.deadline w now in
-            (
+            let is = wishes_cases r.number sets (class_bit r.class) r.deadline w now in (
               v,
               append_second asks (v ∷ []) v (inl refl),
               refl,
@@ -151,7 +150,7 @@ asked_tied classes x sets r now f t =
                 number = sym is.ask_is;
                 class = is.classes_are;
                 within = not_not (is_within (class_at classes r.class).uses w.needs)
-                  (any_none (λ set. not (is_within (class_at classes r.class).uses set)) sets w.needs f.within is.its);
+                    (any_none (λ set. not (is_within (class_at classes r.class).uses set)) sets w.needs f.within is.its);
                 deadline = is.deadline_is;
               },
             )

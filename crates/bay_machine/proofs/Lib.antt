@@ -6,3 +6,4 @@ pub mod Letting
 pub mod Steps
 pub mod Due
 pub mod Askers
+pub mod Alike

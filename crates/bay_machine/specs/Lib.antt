@@ -3,3 +3,4 @@ pub mod Classes
 pub mod Cores
 pub mod Following
 pub mod Requests
+pub mod Standings

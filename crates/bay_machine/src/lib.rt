@@ -10,6 +10,7 @@ mod ending;
 mod following;
 mod free;
 mod letting_in;
+mod place;
 mod request;
 mod terms;
 

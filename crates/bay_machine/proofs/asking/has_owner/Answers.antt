@@ -10,5 +10,5 @@ pub returns : goal.returns
 returns c =
     let l = c.loop-place in let asks = c.args.book.now.asks in let p = is_of c.args.owner in
     sym (list_any_none p asks (λ k d inside.
-      let here : k < l.place = omega (arith, inside, c.loop-place-test.false, c.len-place-end.ensures) in
-      subst (λ (a : Ask). p a ≡ false) (get_or_default asks k no_ask d inside) (l.invariant k here)))
+    let here : k < l.place = omega (arith, inside, c.loop-place-test.false, c.len-place-end.ensures) in
+    subst (λ (a : Ask). p a ≡ false) (get_or_default asks k no_ask d inside) (l.invariant k here)))

@@ -18,7 +18,7 @@ returns-in-Ok-add-clause-tied c =
     let f = fits_of c.args.classes.now c.args.book.now sets r c.requires.fits in
     subst (IsTied c.args.classes.now)
     (sym (same_core c.ask.new.self (asking line r.number sets (class_bit r.class) r.deadline) c.add.new.self _
-      (c.in-Ok.ensures.asks ∙ ap (λ n. asking line r.number sets n r.deadline) c.class_bit.ensures) c.in-Ok-add.ensures.adds))
+    (c.in-Ok.ensures.asks ∙ ap (λ n. asking line r.number sets n r.deadline) c.class_bit.ensures) c.in-Ok-add.ensures.adds))
     (asked_tied c.args.classes.now x sets r c.args.now f c.requires.tied)
 
 -- the line and the book are as they were
@@ -27,7 +27,7 @@ as_it_was c =
     let r = c.args.request in let line = c.args.line.now in let sets = c.args.sets.now in
     let f = fits_of c.args.classes.now c.args.book.now sets r c.requires.fits in
     let below = tied_below c.args.classes.now (core line c.args.book.now) r.number c.is_sound.ensures c.requires.tied
-      (fits_next c.args.classes.now c.args.book.now sets r f) in
+    (fits_next c.args.classes.now c.args.book.now sets r f) in
     same_core c.leave.new.self line c.add.new.self c.args.book.now
     (c.leave.ensures ∙ (ap (λ (l : LineView). leaving l r.number) c.in-Ok.ensures.asks ∙ left_again line r.number sets c.class_bit.result r.deadline below))
     c.in-Err.ensures.refused
