@@ -1,5 +1,5 @@
 -- Asks that are as far as they were.
-use Rattle.std.proofs.Common.{◌≡◌, ◌⊎◌, ℕ, zero, suc, ◌+◌, ◌<◌, ◌≤◌, Bool, true, false, ◌&&◌, ◌||◌, not, nat_eq, if◌then◌else◌, is_some, List, [], ◌∷◌, length, set, map, ◌^◌, Option, refl, sym, ap, ◌∙◌, subst, inl, inr, arith}
+use Rattle.std.proofs.Common.{◌≡◌, ◌⊎◌, ℕ, zero, suc, ◌+◌, ◌<◌, ◌≤◌, Bool, true, false, ◌&&◌, ◌||◌, not, nat_eq, if◌then◌else◌, is_some, List, [], ◌∷◌, length, set, map, ◌^◌, Option, Some, None, refl, sym, ap, ◌∙◌, subst, inl, inr, arith}
 use Rattle.std.specs.List.{count_by, filter}
 use Rattle.std.proofs.lemmas.Bool.{cases_Bool, false≢true}
 use Rattle.std.proofs.lemmas.List.Sums.{sum_by-cons}
@@ -12,9 +12,12 @@ use Rattle.bay_book.specs.Asks.{ask_at, is_holding, is_over, holds_class, given,
 use Rattle.bay_book.specs.Moments.{common}
 use Rattle.bay_book.specs.Books.{BookView, IsSound, give, heard, set_gone, purge, reach}
 use Rattle.bay_machine.specs.declared.classes.Class.{Class}
+use Rattle.bay_machine.specs.declared.telling.Told.{Told}
 use Rattle.bay_machine.specs.Members.{Has}
 use Rattle.bay_machine.specs.Classes.{class_at, is_within}
 use Rattle.bay_machine.specs.Cores.{Core, core, IsItsWish, IsTied}
+use Rattle.bay_machine.specs.Standings.{MarksGone}
+use Rattle.bay_machine.specs.Tellings.{TellsNext}
 use Rattle.bay_machine.proofs.Members.{has_at, set_new, set_other, filter_cases, filter_has, map_cases}
 use Rattle.bay_machine.proofs.Tied.{other_asks, count_set}
 
@@ -160,3 +163,17 @@ given_tied classes line x at t = as_far_tied classes line x (give x at) (as_far_
 
 pub purged_tied : (classes : List Class) (line : LineView) (x : BookView) → IsTied classes (core line x) → IsTied classes (core line (purge x))
 purged_tied classes line x t = as_far_tied classes line x (purge x) (as_far_purged x.asks) t
+
+pub marked_tied : (classes : List Class) (line : LineView) (number moment : ℕ) (old new : BookView) → IsSound old → MarksGone number moment old new
+    → IsTied classes (core line old) → IsTied classes (core line new)
+marked_tied classes line number moment old new s (inl h) t =
+    subst (λ (b : BookView). IsTied classes (core line b)) (sym h.2) (gone_tied classes line old h.0 moment s h.1.found.0 t)
+marked_tied classes line number moment old new s (inr h) t = subst (λ (b : BookView). IsTied classes (core line b)) (sym h.1) t
+
+pub told_tied : (classes : List Class) (line : LineView) (serial s : ℕ) (old new : BookView) (r : Option Told) → IsSound old
+    → TellsNext serial old (r, s) new → IsTied classes (core line old) → IsTied classes (core line new)
+told_tied classes line serial s old new (Some told) sound h t =
+    let is = h.0.1 in
+    subst (λ (b : BookView). IsTied classes (core line b)) (sym is.then) (heard_tied classes line old h.0.0 told.outcome sound is.next.0 t)
+told_tied classes line serial s old new None sound h t =
+    subst (λ (b : BookView). IsTied classes (core line b)) (sym h.1) (purged_tied classes line old t)

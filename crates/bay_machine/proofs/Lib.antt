@@ -7,3 +7,4 @@ pub mod Steps
 pub mod Due
 pub mod Askers
 pub mod Alike
+pub mod Stops

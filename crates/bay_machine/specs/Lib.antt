@@ -4,3 +4,7 @@ pub mod Cores
 pub mod Following
 pub mod Requests
 pub mod Standings
+pub mod Tellings
+pub mod Stopping
+pub mod Views
+pub mod Rooms

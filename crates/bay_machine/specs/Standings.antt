@@ -1,9 +1,11 @@
 -- For readers: where the ask with a number stands, and how far it is.
-use Rattle.std.specs.Prelude.{◌≡◌, ◌⊎◌, ℕ, ◌<◌, List, length}
+use Rattle.std.specs.Prelude.{◌≡◌, ◌⊎◌, ℕ, ◌<◌, List, length, Some, None}
 use Rattle.bay_book.specs.declared.ask.Ask.{Ask}
 use Rattle.bay_book.specs.declared.ask.Stage.{Stage}
 use Rattle.bay_book.specs.declared.ask.Stage.TheVariants.{Waits, Holds, Over}
 use Rattle.bay_book.specs.Asks.{ask_at}
+use Rattle.bay_book.specs.Finding.{IsPlaceOf}
+use Rattle.bay_book.specs.Books.{BookView, set_gone}
 use Rattle.bay_machine.specs.declared.place.Place.{Place}
 use Rattle.bay_machine.specs.declared.place.Place.TheVariants.{Over as IsOver, Waits as IsWaiting, Holds as IsHolding}
 
@@ -26,3 +28,8 @@ abbrev pub IsStanding : List Ask → ℕ → Place → Type 0
 IsStanding asks number (IsWaiting place) = StandsAt asks number place Waits
 IsStanding asks number (IsHolding place) = StandsAt asks number place Holds
 IsStanding asks number IsOver = IsGone asks number
+
+-- its client is gone since this moment; or it isn't in the book
+abbrev pub MarksGone : ℕ → ℕ → BookView → BookView → Type 0
+MarksGone number moment old new =
+    ((place : ℕ) × IsPlaceOf old.asks number (Some place) × (new ≡ set_gone old place moment)) ⊎ (IsPlaceOf old.asks number None × (new ≡ old))

@@ -12,8 +12,13 @@ mod free;
 mod letting_in;
 mod place;
 mod request;
+mod room;
+mod stopping;
+mod telling;
 mod terms;
 
 pub use classes::Class;
 pub use request::{NotAsked, NotHeld, Request};
+pub use room::Room;
+pub use telling::Told;
 pub use terms::Terms;

@@ -1,7 +1,7 @@
 //! How far the ask with a number is.
 ghost use Rattle.std.specs.Prelude.{◌≡◌, ◌<◌, length};
 ghost use Rattle.bay_book.specs.Asks.{ask_at};
-ghost use Rattle.bay_machine.specs.Standings.{IsStanding, IsStandingAt};
+ghost use Rattle.bay_machine.specs.Standings.{IsStanding, IsStandingAt, MarksGone};
 
 use bay_book::{Book, Stage};
 
@@ -35,5 +35,15 @@ pub(crate) fn place_of(book: &Book, number: u64) -> Place
     match book.place_of(number) {
         None => Place::Over,
         Some(place) => standing_at(book, place),
+    }
+}
+
+/// The client of the ask with this number is gone since this moment, if it is in the book.
+pub(crate) fn mark_gone(book: &mut Book, number: u64, moment: u64)
+    ensures { MarksGone number moment book.old book.new }
+{
+    match book.place_of(number) {
+        None => {}
+        Some(place) => book.set_gone(place, moment),
     }
 }
