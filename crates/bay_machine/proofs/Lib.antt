@@ -8,3 +8,5 @@ pub mod Due
 pub mod Askers
 pub mod Alike
 pub mod Stops
+pub mod HoldsOn
+pub mod Calls

@@ -8,3 +8,4 @@ pub mod Tellings
 pub mod Stopping
 pub mod Views
 pub mod Rooms
+pub mod Laws

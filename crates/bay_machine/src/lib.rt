@@ -9,6 +9,7 @@ mod classes;
 mod ending;
 mod following;
 mod free;
+pub mod laws;
 mod letting_in;
 mod place;
 mod request;
