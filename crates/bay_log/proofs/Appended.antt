@@ -1,5 +1,5 @@
 -- One line more.
-use Rattle.std.proofs.Common.{◌≡◌, ℕ, zero, suc, ◌+◌, ◌-◌, ◌≤◌, ◌<◌, ◌^◌, Bool, true, false, List, [], ◌∷◌, ◌++◌, length, take, drop, refl, sym, ap, subst, ◌∙◌, arith, append_assoc, length-append}
+use Rattle.std.proofs.Common.{◌≡◌, ℕ, zero, suc, ◌+◌, ◌-◌, ◌≤◌, ◌<◌, ◌^◌, Bool, true, false, List, [], ◌∷◌, ◌++◌, length, take, drop, refl, sym, ap, subst, ◌∙◌, arith, append_assoc, length-append, length-drop}
 use Rattle.std.specs.Prelude.{◌&&◌}
 use Rattle.bay_log.specs.declared.line.Line.{Line}
 use Rattle.bay_log.specs.declared.line.Line.TheVariants.{Head, Hold, Back, End, Note}
@@ -55,6 +55,14 @@ pub text_more : (lines : List Line) (line : Line) → log_text (lines ++ line �
 text_more lines line =
     text_both no_sum lines (line ∷ []) ∙ ap (λ (l : List ℕ). log_text lines ++ l) (append_nil (line_text (last_sum lines) line))
 
+-- the text that is kept ends where the text of all lines ends
+pub keeps_end : (lines : List Line) (text : List ℕ) (base sent : ℕ) (sum : List ℕ) → Keeps lines text base sent sum
+    → base + length text ≡ base_of lines + length (log_text lines)
+keeps_end lines text base sent sum k =
+    let kept : length text ≡ length (log_text lines) - (base - base_of lines) =
+    ap (λ (l : List ℕ). length l) k.text ∙ length-drop (base - base_of lines) (log_text lines) in
+    omega (arith, kept, k.within, k.base)
+
 -- a log that was given one line more
 pub keeps_more : (lines : List Line) (text : List ℕ) (base sent : ℕ) (sum : List ℕ) (line : Line) → Keeps lines text base sent sum
     → Fits line → is_head line ≡ false → base + length text + length (line_text sum line) < 2 ^ 64
@@ -62,19 +70,29 @@ pub keeps_more : (lines : List Line) (text : List ℕ) (base sent : ℕ) (sum : 
 keeps_more lines text base sent sum line k fits later room =
     let more : List Line = line ∷ [] in
     let words = line_text (last_sum lines) line in
-    let same = k.sum in
     let b : base_of (lines ++ more) ≡ base_of lines = base_both lines more k.begun in
     let t : log_text (lines ++ more) ≡ log_text lines ++ words = text_more lines line in
     let size : length (log_text (lines ++ more)) ≡ length (log_text lines) + length words =
     ap (λ (l : List ℕ). length l) t ∙ length-append (log_text lines) words in
-    let kept : length text ≡ length (log_text lines) - (base - base_of lines) = ? in
+    let same : length (line_text sum line) ≡ length words = ap (λ (s : List ℕ). length (line_text s line)) k.sum in
+    let kept : length text ≡ length (log_text lines) - (base - base_of lines) =
+    ap (λ (l : List ℕ). length l) k.text ∙ length-drop (base - base_of lines) (log_text lines) in
+    let longer : length (text ++ line_text sum line) ≡ length text + length (line_text sum line) = length-append text (line_text sum line) in
     record {
-      lines = lines_both true lines more k.lines (subst (λ (f : Bool). AreLinesFrom f more) (sym (ap (λ b. true && b) k.begun)) (fits, later, tt));
+      lines = lines_both true lines more k.lines (subst (λ (f : Bool). AreLinesFrom f more) (sym k.begun) (fits, later, tt));
       begun = begun_both lines more k.begun;
       base = omega (arith, b, k.base);
       within = omega (arith, b, size, k.within);
-      room = ?;
-      text = ?;
-      sent = ?;
-      sum = ?;
+      room = omega (arith, b, size, kept, same, room, k.within, k.base);
+      text = grows k t b;
+      sent = omega (arith, longer, k.sent);
+      sum = ap (λ (s : List ℕ). sum_of s (body line)) k.sum ∙ sym (sum_both no_sum lines more);
     }
+  where
+    grows : Keeps lines text base sent sum → log_text (lines ++ line ∷ []) ≡ log_text lines ++ line_text (last_sum lines) line
+        → base_of (lines ++ line ∷ []) ≡ base_of lines
+        → text ++ line_text sum line ≡ drop (base - base_of (lines ++ line ∷ [])) (log_text (lines ++ line ∷ []))
+    grows k t b =
+        (λ i. k.text i ++ line_text (k.sum i) line)
+        ∙ (sym (drop_within (base - base_of lines) (log_text lines) (line_text (last_sum lines) line) (omega (arith, k.within, k.base)))
+        ∙ λ i. drop (base - sym b i) (sym t i))

@@ -6,6 +6,7 @@
 
 mod body;
 mod digits;
+mod fields;
 mod how;
 mod line;
 mod log;
