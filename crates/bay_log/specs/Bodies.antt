@@ -1,9 +1,9 @@
 -- What the reader takes from the words of a line, field by field. That this is the inverse of `body` is a law of the crate.
-use Rattle.std.specs.Prelude.{ℕ, ◌+◌, ◌*◌, ◌^◌, ◌==◌, nat_lt, Bool, true, false, ◌&&◌, nat_le, if◌then◌else◌, List, length, take, drop, slice_range, codes, Option, None, Some, Result, Ok, Err}
+use Rattle.std.specs.Prelude.{ℕ, ◌+◌, ◌*◌, ◌^◌, ◌==◌, nat_lt, Bool, true, false, not, ◌&&◌, nat_le, if◌then◌else◌, List, ◌++◌, length, take, drop, slice_range, codes, Option, None, Some, Result, Ok, Err}
 use Rattle.std.specs.List.{list_all}
 use Rattle.std.specs.Int.{w32, w64}
 use Rattle.std.specs.Str.{bytes_eq}
-use Rattle.hex.specs.Hex.{decode_sized}
+use Rattle.hex.specs.Hex.{decode_sized, encode_lower}
 use Rattle.hex.specs.declared.error.FromHexError.{FromHexError}
 use Rattle.bay_log.specs.declared.how.How.{How}
 use Rattle.bay_log.specs.declared.how.How.TheVariants as hows
@@ -12,7 +12,7 @@ use Rattle.bay_log.specs.declared.line.Line.{Line}
 use Rattle.bay_log.specs.declared.line.Line.TheVariants.{Head, Hold, Back, End, Note}
 use Rattle.bay_log.specs.Digits.{number_of}
 use Rattle.bay_log.specs.Texts.{is_plain}
-use Rattle.bay_log.specs.Lines.{body}
+use Rattle.bay_log.specs.Lines.{body, sum_of, is_head}
 
 -- ---- fields
 
@@ -119,3 +119,24 @@ checked words (Some line) = if bytes_eq words (body line) then Some line else No
 
 unfoldable pub line_of : List ℕ → Option Line
 line_of words = checked words (line_in words)
+
+-- ---- the next line
+
+abbrev pub same : Bool → Bool → Bool
+same true b = b
+same false b = not b
+
+abbrev pub is_line_feed : ℕ → Bool
+is_line_feed byte = byte == 10
+
+-- in its place: a head is the first line, and no other
+abbrev pub placed : Bool → List ℕ → Option Line → Option (Line × List ℕ)
+placed first sum None = None
+placed first sum (Some line) = if same (is_head line) first then Some (line, sum) else None
+
+-- the line that has these words, behind one with this sum, and its own sum
+unfoldable pub next_of : List ℕ → Bool → List ℕ → Option (Line × List ℕ)
+next_of before first words =
+    if nat_lt (length words) 17 then None
+    else (let sum : List ℕ = sum_of before (drop 17 words) in
+    if bytes_eq (take 17 words) (encode_lower sum ++ codes " ") then placed first sum (line_of (drop 17 words)) else None)

@@ -1,8 +1,17 @@
 //! What is read of a file.
-ghost use Rattle.std.specs.Prelude.{◌≡◌, IfOk, IfErr};
+ghost use Rattle.std.specs.Prelude.{◌≡◌, ◌++◌, length, codes, IfOk, IfErr, IfSome};
+ghost use Rattle.std.specs.Str.{bytes_eq};
+ghost use Rattle.hex.specs.Hex.{encode_lower};
+ghost use Rattle.std.specs.List.{position};
+ghost use Rattle.bay_log.specs.declared.reading.Fault.TheVariants.{Memory};
+ghost use Rattle.bay_log.specs.Lines.{Fits, is_head, is_none};
+ghost use Rattle.bay_log.specs.Bodies.{is_line_feed, next_of};
 
+use crate::digits::digits_of_sum;
+use crate::fields::line_of;
 use crate::line::Line;
-use std::alloc::Global;
+use crate::sum::sum_of;
+use std::alloc::{AllocError, AllocFailed, Global};
 
 /// The lines of a file.
 #[derive(Drop)]
@@ -20,6 +29,72 @@ pub struct Read {
 pub enum Fault {
     /// There is no memory.
     Memory,
-    /// This line, counted from 1, isn't one: none of the journal, not in its place, or changed.
+    /// This line, counted from 1, isn't one: none of a journal, not in its place, or changed.
     Wrong(usize),
+}
+
+impl From<AllocError> for Fault {
+    ghost from_gives = { λ _ e. e ≡ Memory };
+
+    fn from(_e: AllocError) -> Fault {
+        Fault::Memory
+    }
+}
+
+impl<T: Drop> From<AllocFailed<T>> for Fault {
+    ghost from_gives = { λ _ e. e ≡ Memory };
+
+    fn from(_e: AllocFailed<T>) -> Fault {
+        Fault::Memory
+    }
+}
+
+/// The place of the first line feed.
+fn line_end(bytes: &[u8]) -> Option<usize>
+    ensures { result ≡ position is_line_feed bytes.now }
+{
+    bytes.iter().position(|byte| *byte == b'\n')
+}
+
+/// Whether the line is the head of a file.
+fn is_head(line: &Line) -> bool
+    ensures { result ≡ is_head line.now }
+{
+    matches!(line, Line::Head { .. })
+}
+
+/// Whether a line begins with this sum, and a blank behind it.
+fn has_sum(front: &[u8], sum: [u8; 8]) -> bool
+    requires { length front.now ≡ 17 }
+    ensures { result ≡ bytes_eq front.now (encode_lower sum ++ codes " ") }
+{
+    &front[..16] == digits_of_sum(sum).as_slice() && front[16] == b' '
+}
+
+/// The line that has these words, behind one with this sum, and its own sum.
+#[tactic(auto, unfolding(crate::specs::Bodies::next_of))]
+fn next_of(
+    alloc: Global,
+    before: [u8; 8],
+    first: bool,
+    words: &[u8],
+) -> Result<Option<(Line, [u8; 8])>, AllocError>
+    ensures of { IfOk result (λ found. found ≡ next_of before first words.now) }
+    ensures fits { IfOk result (λ found. IfSome found (λ next. Fits next.0)) }
+{
+    if words.len() < 17 {
+        return Ok(None);
+    }
+    let (front, body) = words.split_at(17);
+    let sum = sum_of(before, body);
+    if !has_sum(front, sum) {
+        return Ok(None);
+    }
+    let Some(line) = line_of(alloc, body)? else {
+        return Ok(None);
+    };
+    if is_head(&line) != first {
+        return Ok(None);
+    }
+    Ok(Some((line, sum)))
 }
