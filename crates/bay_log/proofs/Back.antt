@@ -85,7 +85,7 @@ hash_back hash is =
     ap bytes_in (decode_sized-pairs (encode_lower hash) 32 (omega (arith, len, is.len)) (omega (arith, len, is.len))
     ∙ decode_pairs-encode_with lower_digits IsDigits-lower_digits 0 hash is.bytes)
 
-equal : (l : List ℕ) → bytes_eq l l ≡ true
+pub equal : (l : List ℕ) → bytes_eq l l ≡ true
 equal [] = refl
 equal (x ∷ l) = λ i. same x i && equal l i
   where
@@ -170,16 +170,16 @@ entry_back e fits =
 
 -- ---- each kind of line
 
-is_equal : (a b : ℕ) → a ≡ b → (a == b) ≡ true
+pub is_equal : (a b : ℕ) → a ≡ b → (a == b) ≡ true
 is_equal a b h = grind (arith, nat_tests)
 
-take_all_of : (l : List ℕ) (n : ℕ) → length l ≡ n → take n l ≡ l
+pub take_all_of : (l : List ℕ) (n : ℕ) → length l ≡ n → take n l ≡ l
 take_all_of l n h = ap (λ (m : ℕ). take m l) (sym h) ∙ take-length l
 
-front_of : (a b : List ℕ) (n : ℕ) → length a ≡ n → take n (a ++ b) ≡ a
+pub front_of : (a b : List ℕ) (n : ℕ) → length a ≡ n → take n (a ++ b) ≡ a
 front_of a b n h = ap (λ (m : ℕ). take m (a ++ b)) (sym h) ∙ take-append_seam a b
 
-rest_of : (a b : List ℕ) (n : ℕ) → length a ≡ n → drop n (a ++ b) ≡ b
+pub rest_of : (a b : List ℕ) (n : ℕ) → length a ≡ n → drop n (a ++ b) ≡ b
 rest_of a b n h = ap (λ (m : ℕ). drop m (a ++ b)) (sym h) ∙ drop-append_seam a b
 
 past : (a b : List ℕ) (n m : ℕ) → length a ≡ n → drop (n + m) (a ++ b) ≡ drop m b
@@ -271,7 +271,7 @@ how_back TakenAway = refl
 how_back Replaced = refl
 how_back Stopped = refl
 
-enough : (n m : ℕ) → m ≤ n → nat_lt n m ≡ false
+pub enough : (n m : ℕ) → m ≤ n → nat_lt n m ≡ false
 enough n m h = grind (arith, nat_tests)
 
 end_size : (ask : ℕ) (how : How) → 21 ≤ length (body (End ask how))

@@ -2,7 +2,7 @@
 use Rattle.std.specs.Prelude.{◌≡◌, ℕ, ◌+◌, ◌-◌, ◌≤◌, ◌<◌, ◌^◌, false, max, min, List, [], ◌∷◌, ◌++◌, length, drop}
 use Rattle.bay_log.specs.declared.line.Line.{Line}
 use Rattle.bay_log.specs.declared.line.Line.TheVariants.{Head}
-use Rattle.bay_log.specs.declared.reading.Read.{Read}
+use Rattle.bay_log.specs.declared.reading.Found.{Found}
 use Rattle.bay_log.specs.Lines.{AreLines, log_text, base_of, is_none}
 
 -- Positions count the bytes of all files from the first: this one begins at the base of its head.
@@ -26,8 +26,8 @@ abbrev pub beginning : List ℕ → ℕ → ℕ → LogView
 beginning bay base next = record { lines = Head bay base next ∷ []; durable = base; sent = base }
 
 -- behind what was read
-abbrev pub resumed : Read → LogView
-resumed r = (let place = base_of r.lines.items + r.used in record { lines = r.lines.items; durable = place; sent = place })
+abbrev pub resumed : Found → LogView
+resumed found = (let place = base_of found.lines.items + found.used in record { lines = found.lines.items; durable = place; sent = place })
 
 abbrev pub adding : LogView → Line → LogView
 adding log line = record log { lines = log.lines ++ line ∷ [] }

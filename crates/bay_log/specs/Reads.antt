@@ -2,7 +2,7 @@
 use Rattle.std.specs.Prelude.{◌≡◌, ℕ, ◌+◌, ◌==◌, true, not, List, ◌∷◌, ◌++◌, length, take, drop}
 use Rattle.std.specs.List.{list_all}
 use Rattle.bay_log.specs.declared.line.Line.{Line}
-use Rattle.bay_log.specs.declared.reading.Read.{Read}
+use Rattle.bay_log.specs.declared.reading.Found.{Found}
 use Rattle.bay_log.specs.declared.reading.Fault.{Fault}
 use Rattle.bay_log.specs.declared.reading.Fault.TheVariants.{Memory, Wrong}
 use Rattle.bay_log.specs.Lines.{line_words, log_text, last_sum, Fits, AreLines, is_head, is_none}
@@ -12,16 +12,16 @@ abbrev pub IsOneLine : List ℕ → Type 0
 IsOneLine bytes = list_all (λ (b : ℕ). not (b == 10)) bytes ≡ true
 
 -- the lines fit, and the numbers beside them are theirs
-pub record IsSound (r : Read) : Type 0 where
-  pub lines : AreLines r.lines.items
-  pub used : r.used ≡ length (log_text r.lines.items)
-  pub sum : r.sum ≡ last_sum r.lines.items
+pub record IsSound (found : Found) : Type 0 where
+  pub lines : AreLines found.lines.items
+  pub used : found.used ≡ length (log_text found.lines.items)
+  pub sum : found.sum ≡ last_sum found.lines.items
 
 -- These lines stand whole in the bytes, and behind them there is no whole line.
-pub record IsRead (bytes : List ℕ) (r : Read) : Type 0 where
-  pub sound : IsSound r
-  pub whole : take r.used bytes ≡ log_text r.lines.items
-  pub torn : IsOneLine (drop r.used bytes)
+pub record IsRead (bytes : List ℕ) (found : Found) : Type 0 where
+  pub sound : IsSound found
+  pub whole : take found.used bytes ≡ log_text found.lines.items
+  pub torn : IsOneLine (drop found.used bytes)
 
 -- Behind some lines there stands one that is none: line n, counted from 1.
 pub record IsFault (bytes : List ℕ) (n : ℕ) : Type 0 where

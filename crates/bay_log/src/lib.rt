@@ -18,5 +18,5 @@ mod text;
 pub use how::How;
 pub use line::{Entry, Line};
 pub use log::Log;
-pub use reading::{Fault, Read};
+pub use reading::{Fault, Found};
 pub use text::{Text, is_text};

@@ -8,7 +8,7 @@ use crate::line::Line;
 use crate::sum::put_line;
 use arrayvec::ArrayVec;
 use crate::past::Past;
-use crate::reading::Read;
+use crate::reading::Found;
 use std::alloc::{AllocError, Global};
 use std::marker::Model;
 
@@ -71,18 +71,18 @@ impl Log {
     }
 
     /// The log goes on behind what was read of its file, which is durable up to there.
-    pub fn resume(alloc: Global, read: &Read) -> Log
-        requires sound { IsSound read.now }
-        requires begun { is_none read.now.lines.items ≡ false }
-        requires room { base_of read.now.lines.items + read.now.used < 2 ^ 64 }
-        ensures { result ≡ resumed read.now }
+    pub fn resume(alloc: Global, found: &Found) -> Log
+        requires sound { IsSound found.now }
+        requires begun { is_none found.now.lines.items ≡ false }
+        requires room { base_of found.now.lines.items + found.now.used < 2 ^ 64 }
+        ensures { result ≡ resumed found.now }
     {
         Log {
             text: Vec::new(alloc),
-            base: base_of(&read.lines) + read.used as u64,
+            base: base_of(&found.lines) + found.used as u64,
             sent: 0,
-            sum: read.sum,
-            past: Past::read(read),
+            sum: found.sum,
+            past: Past::read(found),
         }
     }
 

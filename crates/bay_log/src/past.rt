@@ -4,7 +4,7 @@ ghost use Rattle.std.specs.Borrow.{ftrue};
 ghost use Rattle.bay_log.specs.declared.line.Line.{Line as ALine};
 
 use crate::line::Line;
-use crate::reading::Read;
+use crate::reading::Found;
 use std::marker::Model;
 
 /// Lines in the order in which they were added, known to contracts alone.
@@ -26,8 +26,8 @@ impl Past {
     }
 
     /// The lines that were read.
-    pub fn read(_read: &Read) -> Past
-        ensures { result.lines ≡ _read.now.lines.items }
+    pub fn read(_found: &Found) -> Past
+        ensures { result.lines ≡ _found.now.lines.items }
     {
         Past {}
     }

@@ -1,11 +1,12 @@
 //! What is read of a file.
-ghost use Rattle.std.specs.Prelude.{◌≡◌, ◌++◌, length, codes, IfOk, IfErr, IfSome};
+ghost use Rattle.std.specs.Prelude.{◌≡◌, ◌++◌, codes, IfOk, IfErr, IfSome};
 ghost use Rattle.std.specs.Str.{bytes_eq};
 ghost use Rattle.hex.specs.Hex.{encode_lower};
 ghost use Rattle.std.specs.List.{position};
 ghost use Rattle.bay_log.specs.declared.reading.Fault.TheVariants.{Memory};
 ghost use Rattle.bay_log.specs.Lines.{Fits, is_head, is_none};
 ghost use Rattle.bay_log.specs.Bodies.{is_line_feed, next_of};
+ghost use Rattle.bay_log.specs.Reads.{IsRead, IsWhyNotRead};
 
 use crate::digits::digits_of_sum;
 use crate::fields::line_of;
@@ -15,7 +16,7 @@ use std::alloc::{AllocError, AllocFailed, Global};
 
 /// The lines of a file.
 #[derive(Drop)]
-pub struct Read {
+pub struct Found {
     /// Its whole lines, in order.
     pub lines: Vec<Line, Global>,
     /// How many bytes they take.
@@ -63,12 +64,20 @@ fn is_head(line: &Line) -> bool
     matches!(line, Line::Head { .. })
 }
 
-/// Whether a line begins with this sum, and a blank behind it.
+/// The digits of a sum, and a blank.
+fn sum_words(sum: [u8; 8]) -> [u8; 17]
+    ensures { result ≡ encode_lower sum ++ codes " " }
+{
+    let mut words = [b' '; 17];
+    words[..16].copy_from_slice(&digits_of_sum(sum));
+    words
+}
+
+/// Whether a line begins with this sum.
 fn has_sum(front: &[u8], sum: [u8; 8]) -> bool
-    requires { length front.now ≡ 17 }
     ensures { result ≡ bytes_eq front.now (encode_lower sum ++ codes " ") }
 {
-    &front[..16] == digits_of_sum(sum).as_slice() && front[16] == b' '
+    front == sum_words(sum).as_slice()
 }
 
 /// The line that has these words, behind one with this sum, and its own sum.
@@ -97,4 +106,25 @@ fn next_of(
         return Ok(None);
     }
     Ok(Some((line, sum)))
+}
+
+/// The whole lines of a file: what stands behind the last line feed is passed over. A file has no more lines than bytes.
+pub fn read(alloc: Global, bytes: &[u8]) -> Result<Found, Fault>
+    ensures lines { IfOk result (λ found. IsRead bytes.now found) }
+    ensures fault { IfErr result (λ e. IsWhyNotRead bytes.now e) }
+{
+    let mut lines = Vec::new(alloc);
+    let mut used = 0;
+    let mut sum = [0u8; 8];
+    while let Some(end) = line_end(&bytes[used..]) {
+        let words = &bytes[used..used + end];
+        let Some(next) = next_of(alloc, sum, lines.is_empty(), words)? else {
+            return Err(Fault::Wrong(lines.len() + 1));
+        };
+        let (line, own) = next;
+        lines.push(line)?;
+        sum = own;
+        used += end + 1;
+    }
+    Ok(Found { lines, used, sum })
 }

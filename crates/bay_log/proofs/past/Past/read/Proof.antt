@@ -16,7 +16,7 @@ use types.ByLocal.{alloc_all, pass_all, free_all, look_at, sets}
 use types.Kit.{‵, raw, ◌$◌, ◌∵◌, !, qed, move, suffices, done}
 use types.Part.{agg}
 use types.Run.{enter, no_more, returns}
-use Rattle.bay_log.specs.contracts.reading.Read as given
+use Rattle.bay_log.specs.contracts.reading.Found as given
 use Rattle.bay_log.specs.declared.line.Line.{Line}
 use Rattle.bay_log.specs.contracts.past.Past as made
 use Rattle.bay_log.specs.contracts.past.Past.read as f
