@@ -41,7 +41,7 @@ pub begun_both : (a b : List Line) → is_none a ≡ false → is_none (a ++ b) 
 begun_both [] b h = cc h
 begun_both (x ∷ a) b h = refl
 
-append_nil : (l : List ℕ) → l ++ [] ≡ l
+pub append_nil : (l : List ℕ) → l ++ [] ≡ l
 append_nil [] = refl
 append_nil (x ∷ l) = λ i. x ∷ append_nil l i
 

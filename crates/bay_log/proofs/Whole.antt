@@ -135,7 +135,7 @@ next_is before first words line sum h =
       sum = sym is.2 ∙ ap (sum_of before) this;
     }
 
-sum_size : (before words : List ℕ) → length (encode_lower (sum_of before words)) ≡ 16
+pub sum_size : (before words : List ℕ) → length (encode_lower (sum_of before words)) ≡ 16
 unfolding sum_of
 sum_size before words =
     let digest = sha256 (before ++ words) in

@@ -6,3 +6,4 @@ pub mod Logs
 pub mod Kept
 pub mod Reads
 pub mod Alive
+pub mod Laws

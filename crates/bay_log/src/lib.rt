@@ -8,6 +8,7 @@ mod body;
 mod digits;
 mod fields;
 mod how;
+pub mod laws;
 mod line;
 mod log;
 mod past;
