@@ -1,9 +1,9 @@
 -- One line more.
-use Rattle.std.proofs.Common.{◌≡◌, ℕ, zero, suc, ◌+◌, ◌-◌, ◌≤◌, ◌<◌, ◌^◌, Bool, true, false, List, [], ◌∷◌, ◌++◌, length, take, drop, refl, sym, ap, subst, ◌∙◌, arith, append_assoc, length-append, length-drop}
+use Rattle.std.proofs.Common.{◌≡◌, ℕ, zero, suc, ◌+◌, ◌-◌, ◌≤◌, ◌<◌, ◌^◌, Bool, true, false, List, [], ◌∷◌, ◌++◌, length, drop, refl, sym, ap, subst, ◌∙◌, arith, append_assoc, length-append, length-drop}
 use Rattle.std.specs.Prelude.{◌&&◌}
 use Rattle.bay_log.specs.declared.line.Line.{Line}
 use Rattle.bay_log.specs.declared.line.Line.TheVariants.{Head, Hold, Back, End, Note}
-use Rattle.bay_log.specs.Lines.{body, sum_of, line_text, sum_after, text_after, no_sum, last_sum, log_text, Fits, is_head, is_none, AreLinesFrom, AreLines, base_of}
+use Rattle.bay_log.specs.Lines.{body, sum_of, line_text, sum_after, text_after, no_sum, last_sum, log_text, Fits, is_head, is_none, AreLinesFrom, base_of}
 use Rattle.bay_log.specs.Kept.{Keeps}
 
 pub sum_both : (s : List ℕ) (a b : List Line) → sum_after s (a ++ b) ≡ sum_after (sum_after s a) b

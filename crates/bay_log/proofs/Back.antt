@@ -1,11 +1,10 @@
 -- The reader of a line's words is the inverse of their writer.
-use Rattle.std.proofs.Common.{◌≡◌, ℕ, zero, suc, ◌+◌, ◌*◌, ◌-◌, ◌<◌, ◌≤◌, ◌^◌, ◌%◌, Bool, true, false, if◌then◌else◌, List, [], ◌∷◌, ◌++◌, length, take, get_or, append_assoc, refl, sym, ap, ◌∙◌, arith, Option, Some, None, length-append}
+use Rattle.std.proofs.Common.{◌≡◌, ℕ, zero, suc, ◌+◌, ◌*◌, ◌<◌, ◌≤◌, ◌^◌, ◌%◌, Bool, true, false, if◌then◌else◌, List, [], ◌∷◌, ◌++◌, length, take, get_or, append_assoc, refl, sym, ap, ◌∙◌, arith, Option, Some, None, length-append}
 use Rattle.std.specs.Prelude.{◌/◌, ◌&&◌, codes, ◌==◌, not, nat_lt, nat_le, slice_range, drop, IfSome}
 use Rattle.std.specs.Int.{w32, w64, to_be_bytes, byte_at}
 use Rattle.std.specs.List.{list_all}
 use Rattle.std.specs.Str.{bytes_eq}
 use Rattle.std.proofs.Math.Seq.{take-append_seam, take-length, drop-append_seam, drop-append-add}
-use Rattle.std.proofs.lemmas.List.{drop-append-le}
 use Rattle.std.proofs.lemmas.Bool.{and_parts}
 use Rattle.std.proofs.lemmas.Bool.Decides.{nat_tests}
 use Rattle.std.proofs.lemmas.Slice.Eq.{bytes_eq-Decides}
@@ -18,7 +17,7 @@ use Rattle.bay_log.specs.declared.how.How.TheVariants.{LetGo, Left, Lapsed, NotW
 use Rattle.bay_log.specs.declared.line.Entry.{Entry}
 use Rattle.bay_log.specs.declared.line.Line.{Line}
 use Rattle.bay_log.specs.declared.line.Line.TheVariants.{Head, Hold, Back, End, Note}
-use Rattle.bay_log.specs.Texts.{is_plain, ArePlain, IsText}
+use Rattle.bay_log.specs.Texts.{IsText}
 use Rattle.bay_log.specs.Digits.{digits, digits_of_128, number_in, number_of, IsHash}
 use Rattle.bay_log.specs.Lines.{how_text, limit_text, entry_text, body, EntryFits, Fits}
 use Rattle.bay_log.specs.Bodies.{joined, number_of_128, limited, limit_of, bytes_in, hash_of, how_of, entry_if, entry_of, head_if, head_in, hold_if, hold_in, back_if, back_in, end_if, end_in, is_text, note_if, note_in, line_in, checked, line_of}

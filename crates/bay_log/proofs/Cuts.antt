@@ -1,19 +1,18 @@
 -- Two texts of lines that begin alike have the same lines there.
-use Rattle.std.proofs.Common.{◌≡◌, ℕ, zero, suc, ◌+◌, ◌-◌, ◌<◌, ◌≤◌, Bool, true, false, List, [], ◌∷◌, ◌++◌, length, take, drop, append_assoc, refl, sym, ap, subst, ◌∙◌, arith, Option, Some, None, length-append, ◌⊎◌, inl, inr}
-use Rattle.std.specs.Prelude.{◌&&◌, codes, ◌==◌, not}
+use Rattle.std.proofs.Common.{◌≡◌, ℕ, ◌+◌, ◌<◌, ◌≤◌, Bool, true, false, List, [], ◌∷◌, ◌++◌, length, drop, append_assoc, refl, sym, ap, subst, ◌∙◌, arith, Option, Some, None, length-append, ◌⊎◌, inl, inr}
+use Rattle.std.specs.Prelude.{codes, ◌==◌, not}
 use Rattle.std.specs.List.{list_all}
 use Rattle.std.proofs.lemmas.List.{take-append-drop}
 use Rattle.std.proofs.lemmas.Bool.{and_parts}
 use Rattle.hex.specs.Hex.{encode_lower}
 use Rattle.bay_log.specs.declared.line.Line.{Line}
 use Rattle.bay_log.specs.declared.reading.Found.{Found}
-use Rattle.bay_log.specs.Lines.{body, sum_of, line_words, line_text, sum_after, text_after, no_sum, last_sum, log_text, Fits, is_head, is_none, AreLinesFrom, AreLines, base_of}
+use Rattle.bay_log.specs.Lines.{body, sum_of, line_words, line_text, sum_after, text_after, no_sum, last_sum, log_text, Fits, is_head, is_none, AreLinesFrom, AreLines}
 use Rattle.bay_log.specs.Bodies.{line_of}
-use Rattle.bay_log.specs.Logs.{LogView, IsStanding}
 use Rattle.bay_log.specs.Reads.{IsOneLine, IsRead, IsFault}
 use Rattle.bay_log.specs.Laws.{BeginsWith, LinesAreRead, CutLinesAreRead, DurableLinesAreRead}
 use Rattle.bay_log.proofs.Appended.{text_both, lines_split, append_nil}
-use Rattle.bay_log.proofs.Back.{line_back, front_of, rest_of}
+use Rattle.bay_log.proofs.Back.{line_back, rest_of}
 use Rattle.bay_log.proofs.Plain.{line_one}
 use Rattle.bay_log.proofs.Whole.{sum_size}
 
@@ -185,8 +184,14 @@ too_long some more line rest torn back one text =
     (sym text ∙ append_assoc words (codes "\n") (text_after (sum_of s (body line)) rest)) in
     let t : List ℕ = text_after (sum_of s (body line)) more in
     let size = ap (λ (l : List ℕ). length l) (text_both no_sum some (line ∷ more)) in
-    omega (arith, here, size, length-append (log_text some) (line_text s line ++ t), length-append (line_text s line) t,
-    length-append words (codes "\n"))
+    omega (
+      arith,
+      here,
+      size,
+      length-append (log_text some) (line_text s line ++ t),
+      length-append (line_text s line) t,
+      length-append words (codes "\n"),
+    )
 
 whole : (lines : List Line) (front back : List ℕ) (found : Found) → AreLines lines → log_text lines ≡ front ++ back → IsRead front found
     → (some : List Line) → BeginsWith lines some → length (log_text some) ≤ length front → BeginsWith found.lines.items some

@@ -1,10 +1,9 @@
 -- What was handed out is a beginning of the text of all lines.
-use Rattle.std.proofs.Common.{◌≡◌, ℕ, zero, suc, ◌+◌, ◌-◌, ◌≤◌, List, [], ◌∷◌, ◌++◌, length, take, drop, refl, sym, ap, ◌∙◌, arith}
+use Rattle.std.proofs.Common.{◌≡◌, ℕ, zero, suc, ◌+◌, ◌-◌, ◌≤◌, List, [], ◌∷◌, ◌++◌, length, take, refl, sym, ◌∙◌, arith}
 use Rattle.std.proofs.lemmas.List.{take-append-drop, take-append-le}
-use Rattle.bay_log.specs.declared.line.Line.{Line}
 use Rattle.bay_log.specs.Lines.{line_text, last_sum, log_text, base_of}
-use Rattle.bay_log.specs.Logs.{LogView, unsent_of, adding, sending, failing, IsStanding}
-use Rattle.bay_log.specs.Laws.{handed_of, durable_of, FileIsABeginning, FilesAreBeginnings}
+use Rattle.bay_log.specs.Logs.{unsent_of}
+use Rattle.bay_log.specs.Laws.{handed_of, FilesAreBeginnings}
 use Rattle.bay_log.proofs.Appended.{base_both, text_more}
 use Rattle.bay_log.proofs.Back.{take_all_of}
 

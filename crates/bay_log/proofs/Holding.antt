@@ -1,5 +1,5 @@
 -- Who holds at a cut.
-use Rattle.std.proofs.Common.{◌≡◌, ℕ, ◌+◌, ◌≤◌, Bool, true, false, if◌then◌else◌, List, [], ◌∷◌, ◌++◌, refl, sym, ap, ◌∙◌, arith, Option, Some, None}
+use Rattle.std.proofs.Common.{◌≡◌, ℕ, ◌≤◌, Bool, true, false, if◌then◌else◌, List, [], ◌∷◌, ◌++◌, refl, sym, ap, ◌∙◌, arith, Option, Some, None}
 use Rattle.std.specs.Prelude.{◌==◌, ◌||◌, cond, count_by}
 use Rattle.std.specs.List.{list_any}
 use Rattle.std.proofs.lemmas.List.Sums.{sum_by-cons, sum_by-append}
@@ -9,7 +9,7 @@ use Rattle.bay_log.specs.declared.line.Line.TheVariants.{Head, Hold, Back, End, 
 use Rattle.bay_log.specs.Alive.{after, alive_from, alive, begins}
 use Rattle.bay_log.specs.Laws.{HoldsAtTheCut}
 
-alive_both : (held : ℕ → Option Entry) (a b : List Line) → alive_from held (a ++ b) ≡ alive_from (alive_from held a) b
+pub alive_both : (held : ℕ → Option Entry) (a b : List Line) → alive_from held (a ++ b) ≡ alive_from (alive_from held a) b
 alive_both held [] b = refl
 alive_both held (x ∷ a) b = alive_both (after held x) a b
 

@@ -6,3 +6,4 @@ pub mod Plain
 pub mod Handed
 pub mod Cuts
 pub mod Changed
+pub mod Entries

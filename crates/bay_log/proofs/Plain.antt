@@ -1,5 +1,5 @@
 -- The words of a line are one line.
-use Rattle.std.proofs.Common.{◌≡◌, ℕ, zero, suc, ◌%◌, Bool, true, false, List, [], ◌∷◌, ◌++◌, get_or, refl, sym, ap, ◌∙◌, Option, Some, None}
+use Rattle.std.proofs.Common.{◌≡◌, ℕ, zero, suc, ◌%◌, true, List, [], ◌∷◌, ◌++◌, get_or, refl, Option, Some, None}
 use Rattle.std.specs.Prelude.{◌/◌, ◌&&◌, codes, ◌==◌, not}
 use Rattle.std.specs.Int.{Width, w32, w64, to_be_bytes}
 use Rattle.std.specs.List.{list_all}
@@ -10,8 +10,8 @@ use Rattle.bay_log.specs.declared.how.How.TheVariants.{LetGo, Left, Lapsed, NotW
 use Rattle.bay_log.specs.declared.line.Entry.{Entry}
 use Rattle.bay_log.specs.declared.line.Line.{Line}
 use Rattle.bay_log.specs.declared.line.Line.TheVariants.{Head, Hold, Back, End, Note}
-use Rattle.bay_log.specs.Texts.{is_plain, ArePlain, IsText}
-use Rattle.bay_log.specs.Digits.{digits, digits_of_128}
+use Rattle.bay_log.specs.Texts.{is_plain, ArePlain}
+use Rattle.bay_log.specs.Digits.{digits}
 use Rattle.bay_log.specs.Lines.{how_text, limit_text, entry_text, body, sum_of, line_words, Fits}
 use Rattle.bay_log.specs.Reads.{IsOneLine}
 

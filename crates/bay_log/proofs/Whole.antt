@@ -1,9 +1,9 @@
 -- The lines of a file, one after another.
-use Rattle.std.proofs.Common.{◌≡◌, ℕ, zero, suc, ◌+◌, ◌-◌, ◌<◌, ◌≤◌, Bool, true, false, if◌then◌else◌, List, [], ◌∷◌, ◌++◌, length, take, drop, append_assoc, refl, sym, ap, subst, ◌∙◌, arith, Option, Some, None, length-append, length-drop}
+use Rattle.std.proofs.Common.{◌≡◌, ℕ, suc, ◌+◌, ◌-◌, ◌<◌, ◌≤◌, Bool, true, false, if◌then◌else◌, List, [], ◌∷◌, ◌++◌, length, take, drop, append_assoc, refl, sym, ap, subst, ◌∙◌, arith, Option, Some, None, length-append, length-drop}
 use Rattle.std.specs.Prelude.{◌&&◌, codes, ◌==◌, not, nat_lt, cond, slice_range}
-use Rattle.std.specs.List.{list_all, position, position_or_len}
+use Rattle.std.specs.List.{position, position_or_len}
 use Rattle.std.specs.Str.{bytes_eq}
-use Rattle.std.proofs.Math.Seq.{take-append_seam, drop-append_seam}
+use Rattle.std.proofs.Math.Seq.{take-append_seam}
 use Rattle.std.proofs.lemmas.List.{take-append-drop, length-take-le}
 use Rattle.std.proofs.lemmas.Bool.{eqb-true}
 use Rattle.std.proofs.lemmas.Bool.Decides.{nat_tests}
@@ -14,11 +14,11 @@ use Rattle.sha2.specs.Sha256.{sha256}
 use Rattle.sha2.proofs.Facts256.{length-sha256}
 use Rattle.bay_log.specs.declared.line.Line.{Line}
 use Rattle.bay_log.specs.declared.reading.Found.{Found}
-use Rattle.bay_log.specs.Lines.{body, sum_of, line_words, line_text, sum_after, text_after, no_sum, last_sum, log_text, Fits, is_head, is_none, AreLinesFrom, AreLines}
+use Rattle.bay_log.specs.Lines.{body, sum_of, line_words, line_text, no_sum, last_sum, log_text, Fits, is_head, is_none, AreLines}
 use Rattle.bay_log.specs.Bodies.{is_line_feed, same, placed, next_of, line_of}
-use Rattle.bay_log.specs.Reads.{IsOneLine, IsSound, IsRead, IsFault}
+use Rattle.bay_log.specs.Reads.{IsOneLine, IsRead, IsFault}
 use Rattle.bay_log.proofs.Appended.{sum_both, text_more, lines_both}
-use Rattle.bay_log.proofs.Back.{line_back, line_only, equal, is_equal, enough, front_of, rest_of, take_all_of}
+use Rattle.bay_log.proofs.Back.{line_back, line_only, equal, enough, front_of, rest_of, take_all_of}
 
 -- ---- line feeds
 

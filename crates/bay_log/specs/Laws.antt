@@ -1,5 +1,5 @@
 -- For readers: what holds of the journal, wherever it is cut, and whatever line is changed.
-use Rattle.std.specs.Prelude.{◌≡◌, ℕ, ◌+◌, ◌-◌, ◌<◌, ◌≤◌, Bool, true, false, List, [], ◌∷◌, ◌++◌, length, take, Option, Some, count_by}
+use Rattle.std.specs.Prelude.{◌≡◌, ℕ, ◌+◌, ◌-◌, ◌<◌, ◌≤◌, true, false, List, [], ◌∷◌, ◌++◌, length, take, Some, count_by}
 use Rattle.std.specs.List.{list_any}
 use Rattle.hex.specs.Hex.{encode_lower}
 use Rattle.bay_log.specs.declared.line.Entry.{Entry}
@@ -25,11 +25,11 @@ pub record LinesAreRead : Type 0 where
 -- Of a file that was cut the first lines are read; and no line is lost that stands whole in what is left.
 pub record CutLinesAreRead : Type 0 where
   pub first :
-    (lines : List Line) (front back : List ℕ) (found : Found) → AreLines lines → log_text lines ≡ front ++ back → IsRead front found
-    → BeginsWith lines found.lines.items
+      (lines : List Line) (front back : List ℕ) (found : Found) → AreLines lines → log_text lines ≡ front ++ back → IsRead front found
+      → BeginsWith lines found.lines.items
   pub whole :
-    (lines : List Line) (front back : List ℕ) (found : Found) → AreLines lines → log_text lines ≡ front ++ back → IsRead front found
-    → (some : List Line) → BeginsWith lines some → length (log_text some) ≤ length front → BeginsWith found.lines.items some
+      (lines : List Line) (front back : List ℕ) (found : Found) → AreLines lines → log_text lines ≡ front ++ back → IsRead front found
+      → (some : List Line) → BeginsWith lines some → length (log_text some) ≤ length front → BeginsWith found.lines.items some
   pub fault : (lines : List Line) (front back : List ℕ) (n : ℕ) → AreLines lines → log_text lines ≡ front ++ back → IsFault front n → ⊥
 
 -- The lines that ended where the file is durable, or before, are read of every file that has what is durable and is a beginning of the one text.
@@ -54,17 +54,17 @@ changed before line behind words = log_text before ++ words ++ 10 ∷ text_after
 -- sum behind both.
 pub record ChangedLineIsRefused : Type 0 where
   pub fault :
-    (before behind : List Line) (line : Line) (words : List ℕ) (n : ℕ) → AreLines (before ++ line ∷ behind)
-    → IsFault (changed before line behind words) n → length before < n
+      (before behind : List Line) (line : Line) (words : List ℕ) (n : ℕ) → AreLines (before ++ line ∷ behind)
+      → IsFault (changed before line behind words) n → length before < n
   pub read :
-    (before behind : List Line) (line : Line) (words : List ℕ) (found : Found) → AreLines (before ++ line ∷ behind) → IsOneLine words
-    → IsRead (changed before line behind words) found
-    → (other : Line) × (line_words (last_sum before) other ≡ words)
+      (before behind : List Line) (line : Line) (words : List ℕ) (found : Found) → AreLines (before ++ line ∷ behind) → IsOneLine words
+      → IsRead (changed before line behind words) found
+      → (other : Line) × (line_words (last_sum before) other ≡ words)
       × Agrees (sum_of (last_sum before) (body other)) (sum_of (last_sum before) (body line)) behind
   -- a line whose sum stayed as it was
   pub sum :
-    (before : List ℕ) (line other : Line) → take 17 (line_words before other) ≡ take 17 (line_words before line)
-    → encode_lower (sum_of before (body other)) ≡ encode_lower (sum_of before (body line))
+      (before : List ℕ) (line other : Line) → take 17 (line_words before other) ≡ take 17 (line_words before line)
+      → encode_lower (sum_of before (body other)) ≡ encode_lower (sum_of before (body line))
 
 -- ---- the file is at all times a beginning of the one text
 
@@ -90,8 +90,8 @@ FilesAreBeginnings = (log : LogView) → IsStanding log → FileIsABeginning log
 -- Whoever holds after all lines held after each beginning of them in which it began to hold, if no number begins to hold twice.
 pub record HoldsAtTheCut : Type 0 where
   pub behind :
-    (n : ℕ) (entry : Entry) (front back : List Line) → alive (front ++ back) n ≡ Some entry → list_any (begins n) back ≡ false
-    → alive front n ≡ Some entry
+      (n : ℕ) (entry : Entry) (front back : List Line) → alive (front ++ back) n ≡ Some entry → list_any (begins n) back ≡ false
+      → alive front n ≡ Some entry
   pub once :
-    (n : ℕ) (entry : Entry) (front back : List Line) → alive (front ++ back) n ≡ Some entry → count_by (begins n) (front ++ back) ≤ 1
-    → list_any (begins n) front ≡ true → alive front n ≡ Some entry
+      (n : ℕ) (entry : Entry) (front back : List Line) → alive (front ++ back) n ≡ Some entry → count_by (begins n) (front ++ back) ≤ 1
+      → list_any (begins n) front ≡ true → alive front n ≡ Some entry

@@ -6,4 +6,5 @@ pub mod Logs
 pub mod Kept
 pub mod Reads
 pub mod Alive
+pub mod Holders
 pub mod Laws

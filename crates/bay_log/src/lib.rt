@@ -4,6 +4,7 @@
 //! line that was changed, left out or moved is refused. No file is touched here: whoever has the file hands in bytes, and says how far they are durable.
 #![tactic(auto)]
 
+mod alive;
 mod body;
 mod digits;
 mod fields;
@@ -16,6 +17,7 @@ mod reading;
 mod sum;
 mod text;
 
+pub use alive::{Holder, holders};
 pub use how::How;
 pub use line::{Entry, Line};
 pub use log::Log;

@@ -22,11 +22,7 @@ pub struct Entry {
 pub enum Line {
     /// The first line of a file: the hash of the bay that it belongs to, how many bytes the files before it had, and a number below which every
     /// number was given.
-    Head {
-        bay: [u8; 32],
-        base: u64,
-        next: u64,
-    },
+    Head { bay: [u8; 32], base: u64, next: u64 },
     /// An ask holds.
     Hold { ask: u64, entry: Entry },
     /// What one ask holds is another's from here on.

@@ -5,10 +5,10 @@ ghost use Rattle.bay_log.specs.Logs.{end_of, unsent_of, beginning, resumed, addi
 ghost use Rattle.bay_log.specs.Reads.{IsSound};
 
 use crate::line::Line;
-use crate::sum::put_line;
-use arrayvec::ArrayVec;
 use crate::past::Past;
 use crate::reading::Found;
+use crate::sum::put_line;
+use arrayvec::ArrayVec;
 use std::alloc::{AllocError, Global};
 use std::marker::Model;
 

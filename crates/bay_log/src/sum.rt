@@ -30,11 +30,7 @@ pub(crate) fn sum_of(before: [u8; 8], words: &[u8]) -> [u8; 8]
 
 /// Adds a line, from the sum of the line before it. Answers its own sum.
 #[tactic(auto, unfolding(crate::specs::Lines::line_words))]
-pub(crate) fn put_line(
-    text: &mut ArrayVec<u8, 540>,
-    before: [u8; 8],
-    line: &Line,
-) -> [u8; 8]
+pub(crate) fn put_line(text: &mut ArrayVec<u8, 540>, before: [u8; 8], line: &Line) -> [u8; 8]
     requires { text.old.items ≡ [] }
     ensures text { text.new.items ≡ line_text before line.now }
     ensures sum { result ≡ sum_of before (body line.now) }

@@ -1,6 +1,6 @@
 use Rattle.std.proofs.Common.{◌≡◌, ◌+◌, ◌<◌, ◌^◌, ◌++◌, ◌∷◌, [], ℕ, List, length, ap, ◌∙◌, sym, subst, arith}
 use Rattle.bay_log.specs.declared.line.Line.{Line}
-use Rattle.bay_log.specs.Lines.{body, sum_of, line_text}
+use Rattle.bay_log.specs.Lines.{line_text}
 use Rattle.bay_log.specs.Kept.{Keeps}
 use Rattle.bay_log.proofs.Appended.{keeps_more, keeps_end}
 use Rattle.bay_log.proofs.log.Log.add.Goals as goal
