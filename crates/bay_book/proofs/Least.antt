@@ -12,13 +12,13 @@ LeastTo f asks n (Some m) =
     ((j : ℕ) × (j < n) × (f (ask_at asks j) ≡ Some m)) × ((i k : ℕ) → i < n → f (ask_at asks i) ≡ Some k → m ≤ k)
 LeastTo f asks n None = (i : ℕ) → i < n → f (ask_at asks i) ≡ None
 
-some_is : (a b : ℕ) → Some a ≡ Some b → a ≡ b
+pub some_is : (a b : ℕ) → Some a ≡ Some b → a ≡ b
 some_is a b h = cc
 
 none_isnt : (o : Option ℕ) (b : ℕ) → o ≡ None → o ≡ Some b → ⊥
 none_isnt o b n h = cc
 
-le_or : (a b : ℕ) → (a ≤ b) ⊎ (b ≤ a)
+pub le_or : (a b : ℕ) → (a ≤ b) ⊎ (b ≤ a)
 le_or zero b = inl (omega arith)
 le_or (suc a) zero = inr (omega arith)
 le_or (suc a) (suc b) = elim (le_or a b) [ inl h ↦ inl (omega (arith, h)) | inr h ↦ inr (omega (arith, h)) ]

@@ -4,3 +4,4 @@ pub mod Giving
 pub mod Sound
 pub mod Going
 pub mod Told
+pub mod Apart

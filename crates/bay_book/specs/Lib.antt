@@ -4,3 +4,4 @@ pub mod Finding
 pub mod Telling
 pub mod Books
 pub mod Runs
+pub mod Holding

@@ -1,6 +1,7 @@
 //! What each call makes of an ask.
 ghost use Rattle.std.specs.Prelude.{◌≡◌, map};
-ghost use Rattle.bay_book.specs.Asks.{asker, holding, over, gone_since, back_again, given_mark, given, hearing, is_over, is_holding, has_heard_end, has_left, is_owed, is_done};
+ghost use Rattle.bay_book.specs.Asks.{asker, holding, over, gone_since, back_again, given_mark, given, hearing};
+ghost use Rattle.bay_book.specs.Asks.{is_over, is_holding, has_heard_end, has_left, is_owed, is_done};
 
 use crate::ask::{Ask, End, Heard, Mark, Outcome, Stage};
 

@@ -1,7 +1,8 @@
 //! When the time of an ask is over.
 ghost use Rattle.std.specs.Prelude.{◌≡◌, ◌==◌};
 ghost use Rattle.std.specs.Int.{bit_at};
-ghost use Rattle.bay_book.specs.Moments.{plus, after, later, sooner, is_past, until, late_end, if_holds, kept_until, limit_end, common, is_wanted, due_at, limit_due_at, is_late, is_gone_too_long, is_over_limit};
+ghost use Rattle.bay_book.specs.Moments.{plus, after, later, sooner, is_past, until, late_end, if_holds, kept_until, limit_end};
+ghost use Rattle.bay_book.specs.Moments.{common, is_wanted, due_at, limit_due_at, is_late, is_gone_too_long, is_over_limit};
 
 use crate::ask::{Ask, End, Heard, Stage};
 

@@ -1,0 +1,5 @@
+use Rattle.bay_book.proofs.Apart as apart
+use Rattle.bay_book.proofs.laws.due_is_to_come.Goals as goal
+
+pub returns : goal.returns
+returns c = apart.due_is_to_come
