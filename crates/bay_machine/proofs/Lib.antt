@@ -1,0 +1,12 @@
+pub mod Members
+pub mod InLine
+pub mod Sets
+pub mod Tied
+pub mod Letting
+pub mod Steps
+pub mod Due
+pub mod Askers
+pub mod Alike
+pub mod Stops
+pub mod HoldsOn
+pub mod Calls

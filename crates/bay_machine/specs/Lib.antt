@@ -1,0 +1,11 @@
+pub mod Members
+pub mod Classes
+pub mod Cores
+pub mod Following
+pub mod Requests
+pub mod Standings
+pub mod Tellings
+pub mod Stopping
+pub mod Views
+pub mod Rooms
+pub mod Laws
