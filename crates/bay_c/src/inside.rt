@@ -1,11 +1,9 @@
 //! What a handle has.
-use bay_line::Line;
+use bay_machine::Room;
 
 /// What a handle has.
 #[derive(Drop)]
 pub enum Inside {
     /// A bay.
-    Open(Line),
-    /// Nothing.
-    Empty,
+    Open(Room),
 }

@@ -4,8 +4,13 @@
 
 mod handle;
 mod inside;
+mod opening;
+mod owners;
 mod slot;
+mod statuses;
+mod told;
 
-pub use handle::{BUSY, Handle, IN_USE, NOT_OPEN, claim, put, release, take};
+pub use handle::{BUSY, Handle, IN_USE, NOT_OPEN};
 pub use inside::Inside;
 pub use slot::Slot;
+pub use told::{BayAsked, BayClass, BayOutcome, BayTerms};

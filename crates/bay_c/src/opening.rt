@@ -1,0 +1,81 @@
+//! How a handle gets a bay, and how that goes.
+ghost use Rattle.std.specs.Prelude.{◌≡◌, IfOk, IfErr};
+ghost use Rattle.bay_c.specs.Calls.{IsOpenedFor, IsInsideFor, IsWhyNotOpened, Opens, Frees};
+
+use crate::handle::{Handle, claim, put, release, take};
+use crate::inside::Inside;
+use crate::statuses::{NO_MEMORY, TOO_MANY_CLASSES};
+use crate::told::{BayClass, BayTerms, classes_of, terms_of};
+use bay_machine::Room;
+use std::alloc::Global;
+
+/// A bay, or the status that says why not.
+fn room_for(alloc: Global, classes: &[BayClass], terms: &BayTerms) -> Result<Room, u32>
+    ensures opened { IfOk result (λ x. IsOpenedFor classes.now terms.now x) }
+    ensures refused { IfErr result (λ status. IsWhyNotOpened classes.now status) }
+{
+    let Ok(made) = classes_of(alloc, classes) else {
+        return Err(NO_MEMORY);
+    };
+    match Room::open(
+        alloc,
+        made,
+        terms_of(terms),
+        terms.line as usize,
+        terms.overtakes,
+    ) {
+        Some(room) => Ok(room),
+        None => Err(TOO_MANY_CLASSES),
+    }
+}
+
+/// The same, in a box.
+fn boxed(alloc: Global, classes: &[BayClass], terms: &BayTerms) -> Result<Box<Inside, Global>, u32>
+    ensures opened { IfOk result (λ b. IsInsideFor classes.now terms.now b.value) }
+    ensures refused { IfErr result (λ status. IsWhyNotOpened classes.now status) }
+{
+    let room = room_for(alloc, classes, terms)?;
+    match Box::new(alloc, Inside::Open(room)) {
+        Ok(inside) => Ok(inside),
+        Err(_) => Err(NO_MEMORY),
+    }
+}
+
+/// Opens a bay in which nobody has asked. A handle that is in use stays as it is.
+#[unsafe(no_mangle)]
+pub extern "C" fn lab_bay_open(
+    alloc: Global,
+    classes: &[BayClass],
+    terms: &BayTerms,
+    bay: &mut Handle,
+) -> u32
+    ensures { Opens classes.now terms.now bay.old.slot.held bay.new.slot.held result }
+{
+    if let Err(status) = claim(&bay.slot, &mut bay.live) {
+        return status;
+    }
+    match boxed(alloc, classes, terms) {
+        Ok(inside) => {
+            put(&mut bay.slot, &mut bay.live, inside);
+            0
+        }
+        Err(status) => {
+            release(&mut bay.live);
+            status
+        }
+    }
+}
+
+/// Frees the bay. The handle has nothing then.
+#[unsafe(no_mangle)]
+pub extern "C" fn lab_bay_free(alloc: Global, bay: &mut Handle) -> u32
+    ensures { Frees bay.old.slot.held bay.new.slot.held result }
+{
+    match take(&mut bay.slot, &mut bay.live, alloc) {
+        Ok(_) => {
+            release(&mut bay.live);
+            0
+        }
+        Err(status) => status,
+    }
+}

@@ -1,0 +1,179 @@
+//! What whoever asks calls, and whoever looks after the bay.
+ghost use Rattle.std.specs.Prelude.{◌≡◌};
+ghost use Rattle.bay_c.specs.Calls.{InBay, AsksFor, LetsGo, TakesAway, LeavesIt, GoesAway, StopsAt, TellsIt};
+
+use crate::handle::{Handle, put, take};
+use crate::inside::Inside;
+use crate::statuses::{NOTHING, not_held_status, refusal_status};
+use crate::told::{BayAsked, BayOutcome, outcome_of, request_of};
+use bay_machine::Room;
+use std::alloc::Global;
+
+fn ask_in(room: &mut Room, asked: &BayAsked, sets: &[u64], now: u64) -> u32
+    ensures { AsksFor sets.now asked.now now room.old room.new tt tt result }
+{
+    match room.ask(sets, request_of(asked), now) {
+        Ok(()) => 0,
+        Err(why) => refusal_status(why),
+    }
+}
+
+fn let_go_in(room: &mut Room, number: u64, now: u64) -> u32
+    ensures { LetsGo number now room.old room.new tt tt result }
+{
+    match room.let_go(number, now) {
+        Ok(()) => 0,
+        Err(why) => not_held_status(why),
+    }
+}
+
+fn take_away_in(room: &mut Room, number: u64, now: u64) -> u32
+    ensures { TakesAway number now room.old room.new tt tt result }
+{
+    match room.take_away(number, now) {
+        Ok(()) => 0,
+        Err(why) => not_held_status(why),
+    }
+}
+
+fn leave_in(room: &mut Room, number: u64, now: u64) -> u32
+    ensures { LeavesIt number now room.old room.new tt tt result }
+{
+    room.leave(number, now);
+    0
+}
+
+fn tell_in(room: &mut Room, done: u64, outcome: &mut BayOutcome) -> u32
+    ensures { TellsIt done room.old room.new outcome.old outcome.new result }
+{
+    match room.tell(done) {
+        Some(told) => {
+            *outcome = outcome_of(told);
+            0
+        }
+        None => NOTHING,
+    }
+}
+
+/// Somebody asks for one of these sets, whichever is free first. It takes memory.
+#[unsafe(no_mangle)]
+pub extern "C" fn lab_bay_ask(
+    alloc: Global,
+    bay: &mut Handle,
+    asked: &BayAsked,
+    sets: &[u64],
+    now: u64,
+) -> u32
+    ensures { InBay (AsksFor sets.now asked.now now) bay.old.slot.held bay.new.slot.held tt tt result }
+{
+    let mut inside = match take(&mut bay.slot, &mut bay.live, alloc) {
+        Ok(inside) => inside,
+        Err(status) => return status,
+    };
+    let status = match &mut *inside {
+        Inside::Open(room) => ask_in(room, asked, sets, now),
+    };
+    put(&mut bay.slot, &mut bay.live, inside);
+    status
+}
+
+/// An ask that holds lets go.
+#[unsafe(no_mangle)]
+pub extern "C" fn lab_bay_let_go(alloc: Global, bay: &mut Handle, number: u64, now: u64) -> u32
+    ensures { InBay (LetsGo number now) bay.old.slot.held bay.new.slot.held tt tt result }
+{
+    let mut inside = match take(&mut bay.slot, &mut bay.live, alloc) {
+        Ok(inside) => inside,
+        Err(status) => return status,
+    };
+    let status = match &mut *inside {
+        Inside::Open(room) => let_go_in(room, number, now),
+    };
+    put(&mut bay.slot, &mut bay.live, inside);
+    status
+}
+
+/// Somebody takes away what an ask holds.
+#[unsafe(no_mangle)]
+pub extern "C" fn lab_bay_take_away(alloc: Global, bay: &mut Handle, number: u64, now: u64) -> u32
+    ensures { InBay (TakesAway number now) bay.old.slot.held bay.new.slot.held tt tt result }
+{
+    let mut inside = match take(&mut bay.slot, &mut bay.live, alloc) {
+        Ok(inside) => inside,
+        Err(status) => return status,
+    };
+    let status = match &mut *inside {
+        Inside::Open(room) => take_away_in(room, number, now),
+    };
+    put(&mut bay.slot, &mut bay.live, inside);
+    status
+}
+
+/// Nobody is there for the ask any more, however far it is.
+#[unsafe(no_mangle)]
+pub extern "C" fn lab_bay_leave(alloc: Global, bay: &mut Handle, number: u64, now: u64) -> u32
+    ensures { InBay (LeavesIt number now) bay.old.slot.held bay.new.slot.held tt tt result }
+{
+    let mut inside = match take(&mut bay.slot, &mut bay.live, alloc) {
+        Ok(inside) => inside,
+        Err(status) => return status,
+    };
+    let status = match &mut *inside {
+        Inside::Open(room) => leave_in(room, number, now),
+    };
+    put(&mut bay.slot, &mut bay.live, inside);
+    status
+}
+
+/// The client of an ask is gone from now on.
+#[unsafe(no_mangle)]
+pub extern "C" fn lab_bay_gone(alloc: Global, bay: &mut Handle, number: u64, now: u64) -> u32
+    ensures { InBay (GoesAway number now) bay.old.slot.held bay.new.slot.held tt tt result }
+{
+    let mut inside = match take(&mut bay.slot, &mut bay.live, alloc) {
+        Ok(inside) => inside,
+        Err(status) => return status,
+    };
+    match &mut *inside {
+        Inside::Open(room) => room.gone(number, now),
+    }
+    put(&mut bay.slot, &mut bay.live, inside);
+    0
+}
+
+/// Nobody may ask any more, and whoever waits is over.
+#[unsafe(no_mangle)]
+pub extern "C" fn lab_bay_stop(alloc: Global, bay: &mut Handle, now: u64) -> u32
+    ensures { InBay (StopsAt now) bay.old.slot.held bay.new.slot.held tt tt result }
+{
+    let mut inside = match take(&mut bay.slot, &mut bay.live, alloc) {
+        Ok(inside) => inside,
+        Err(status) => return status,
+    };
+    match &mut *inside {
+        Inside::Open(room) => room.stop(now),
+    }
+    put(&mut bay.slot, &mut bay.live, inside);
+    0
+}
+
+/// What is told next, until its serial number is given back as done.
+#[unsafe(no_mangle)]
+pub extern "C" fn lab_bay_tell(
+    alloc: Global,
+    bay: &mut Handle,
+    done: u64,
+    outcome: &mut BayOutcome,
+) -> u32
+    ensures { InBay (TellsIt done) bay.old.slot.held bay.new.slot.held outcome.old outcome.new result }
+{
+    let mut inside = match take(&mut bay.slot, &mut bay.live, alloc) {
+        Ok(inside) => inside,
+        Err(status) => return status,
+    };
+    let status = match &mut *inside {
+        Inside::Open(room) => tell_in(room, done, outcome),
+    };
+    put(&mut bay.slot, &mut bay.live, inside);
+    status
+}
