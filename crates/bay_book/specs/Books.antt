@@ -56,6 +56,10 @@ is_back x place = with_ask x place (back_again (ask_at x.asks place))
 abbrev pub give : BookView → ℕ → BookView
 give x at = with_asks x (map (given at) x.asks)
 
+-- the lines that one owes were given, and the journal is so long
+abbrev pub give_one : BookView → ℕ → ℕ → BookView
+give_one x place at = with_ask x place (given at (ask_at x.asks place))
+
 -- the journal outlives a crash up to there, too
 abbrev pub reach : BookView → ℕ → BookView
 reach x position = record { asks = x.asks; next = x.next; durable = max x.durable position }

@@ -93,7 +93,7 @@ fn given_mark(mark: Mark, at: u64) -> Mark
 }
 
 /// The lines that it owed are given.
-fn given(ask: Ask, at: u64) -> Ask
+pub(crate) fn given(ask: Ask, at: u64) -> Ask
     ensures { result ≡ given at ask }
 {
     Ask {
