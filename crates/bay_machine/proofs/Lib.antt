@@ -10,3 +10,4 @@ pub mod Alike
 pub mod Stops
 pub mod HoldsOn
 pub mod Calls
+pub mod Logged

@@ -9,3 +9,4 @@ pub mod Stopping
 pub mod Views
 pub mod Rooms
 pub mod Laws
+pub mod Pages

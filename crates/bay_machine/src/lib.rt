@@ -17,6 +17,7 @@ mod room;
 mod stopping;
 mod telling;
 mod terms;
+mod writing;
 
 pub use classes::Class;
 pub use request::{NotAsked, NotHeld, Request};
