@@ -32,7 +32,7 @@ pub record AsFar (a b : Ask) : Type 0 where
 pub as_far : (a : Ask) → AsFar a a
 as_far a = record { number = refl; class = refl; needs = refl; stage = refl; deadline = refl }
 
-far_given : (at : ℕ) (a : Ask) → AsFar a (given at a)
+pub far_given : (at : ℕ) (a : Ask) → AsFar a (given at a)
 far_given at a = record { number = refl; class = refl; needs = refl; stage = refl; deadline = refl }
 
 far_hearing : (what : Outcome) (a : Ask) → AsFar a (hearing what a)

@@ -11,3 +11,4 @@ pub mod Stops
 pub mod HoldsOn
 pub mod Calls
 pub mod Logged
+pub mod LoggedCalls

@@ -8,7 +8,7 @@ use Rattle.bay_book.specs.declared.ask.Stage.TheVariants.{Waits, Holds}
 use Rattle.bay_book.specs.Asks.{ask_at, is_over}
 use Rattle.bay_book.specs.Finding.{IsPlaceOf}
 use Rattle.bay_book.specs.Telling.{IsNextToTell}
-use Rattle.bay_book.specs.Books.{BookView, IsSound, nobody as nobody_in_book, set_gone, give, reach, heard, purge}
+use Rattle.bay_book.specs.Books.{BookView, IsSound, nobody as nobody_in_book, set_gone, reach, heard, purge}
 use Rattle.bay_machine.specs.declared.classes.Class.{Class}
 use Rattle.bay_machine.specs.declared.request.NotAsked.{NotAsked}
 use Rattle.bay_machine.specs.declared.request.NotHeld.{NotHeld}
@@ -120,10 +120,6 @@ with_book x book = with_core x x.moment (core x.line book)
 -- what was given outlives a crash up to there
 abbrev pub reached : RoomView → ℕ → RoomView
 reached x position = with_book x (reach x.book position)
-
--- all that is owed was given
-abbrev pub gave : RoomView → ℕ → RoomView
-gave x at = with_book x (give x.book at)
 
 abbrev pub telling_this : RoomView → Option Told → ℕ → BookView → RoomView
 telling_this x telling serial book = record {
