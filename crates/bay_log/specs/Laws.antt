@@ -5,7 +5,7 @@ use Rattle.hex.specs.Hex.{encode_lower}
 use Rattle.bay_log.specs.declared.line.Entry.{Entry}
 use Rattle.bay_log.specs.declared.line.Line.{Line}
 use Rattle.bay_log.specs.declared.reading.Found.{Found}
-use Rattle.bay_log.specs.Lines.{body, sum_of, line_words, text_after, last_sum, log_text, AreLines, base_of}
+use Rattle.bay_log.specs.Lines.{body, sum_of, line_words, text_after, last_sum, log_text, AreLines, AreLinesFrom, base_of}
 use Rattle.bay_log.specs.Logs.{LogView, unsent_of, adding, sending, failing, IsStanding}
 use Rattle.bay_log.specs.Reads.{IsOneLine, IsRead, IsFault}
 use Rattle.bay_log.specs.Alive.{alive, begins}
@@ -61,6 +61,10 @@ pub record ChangedLineIsRefused : Type 0 where
       → IsRead (changed before line behind words) found
       → (other : Line) × (line_words (last_sum before) other ≡ words)
       × Agrees (sum_of (last_sum before) (body other)) (sum_of (last_sum before) (body line)) behind
+  -- lines that were written behind another sum: one is left out before them, or they were moved
+  pub moved :
+      (before behind : List Line) (sum : List ℕ) (found : Found) → AreLines before → AreLinesFrom false behind
+      → IsRead (log_text before ++ text_after sum behind) found → Agrees (last_sum before) sum behind
   -- a line whose sum stayed as it was
   pub sum :
       (before : List ℕ) (line other : Line) → take 17 (line_words before other) ≡ take 17 (line_words before line)
