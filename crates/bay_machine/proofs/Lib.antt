@@ -12,3 +12,4 @@ pub mod HoldsOn
 pub mod Calls
 pub mod Logged
 pub mod LoggedCalls
+pub mod Kept

@@ -1,5 +1,5 @@
 -- What the log says stays true, whatever calls there are.
-use Rattle.std.proofs.Common.{◌≡◌, ◌≢◌, ◌⊎◌, ℕ, zero, suc, ◌+◌, ◌<◌, max, Bool, true, false, not, if◌then◌else◌, List, [], ◌∷◌, ◌++◌, length, set, Option, Some, None, Result, Ok, Err, OnOk, OnErr, refl, sym, ap, ◌∙◌, subst, inl, inr, arith}
+use Rattle.std.proofs.Common.{◌≡◌, ◌≢◌, ◌⊎◌, ℕ, zero, suc, ◌+◌, ◌<◌, ◌≤◌, max, Bool, true, false, not, if◌then◌else◌, List, [], ◌∷◌, ◌++◌, length, set, Option, Some, None, Result, Ok, Err, OnOk, OnErr, refl, sym, ap, ◌∙◌, subst, inl, inr, arith}
 use Rattle.std.specs.List.{list_any}
 use Rattle.std.specs.declared.alloc.AllocError.{AllocError}
 use Rattle.std.proofs.lemmas.Bool.{false≢true}
@@ -16,7 +16,9 @@ use Rattle.bay_book.specs.Asks.{ask_at, no_ask, is_holding, holding, over, asker
 use Rattle.bay_book.specs.Books.{BookView, IsSound, with_ask, hold, end, heard, set_gone, purge, reach, add, give_one}
 use Rattle.bay_log.specs.declared.line.Entry.{Entry}
 use Rattle.bay_log.specs.declared.line.Line.{Line}
-use Rattle.bay_log.specs.Logs.{LogView, adding, end_of}
+use Rattle.bay_log.specs.declared.line.Line.TheVariants.{Note}
+use Rattle.bay_log.specs.Lines.{base_of, log_text}
+use Rattle.bay_log.specs.Logs.{LogView, adding, end_of, IsStanding}
 use Rattle.bay_log.specs.Alive.{alive, begins}
 use Rattle.bay_machine.specs.declared.classes.Class.{Class}
 use Rattle.bay_machine.specs.declared.request.Request.{Request}
@@ -33,6 +35,7 @@ use Rattle.bay_machine.specs.Views.{RoomView, core_of, GoesOn}
 use Rattle.bay_machine.specs.Rooms.{Asks, Ends, Leaves, Goes, Passes, Stops, Tells}
 use Rattle.bay_machine.specs.Pages.{entry_of, Pages, pages, WritesThis, WritesOne, WritesTo, WritesAll, Writes, owed_end, owed_hold, IsInLog, IsLogged}
 use Rattle.bay_machine.proofs.Members.{has_at, set_cases, append_cases, filter_cases}
+use Rattle.bay_machine.proofs.Logged.{in_log_more}
 use Rattle.bay_machine.proofs.Alike.{as_far_tied, as_far_set, far_given}
 
 -- ---- one was written over
@@ -185,3 +188,32 @@ pub written_tied : (classes : List Class) (line : LineView) (r : Result (Unit {0
 written_tied classes line r old new (inl w) t =
     tied_to classes line owed_hold w.2.0 w.0 new w.2.1 (tied_to classes line owed_end (length old.book.asks) old w.0 w.1 t)
 written_tied classes line r old new (inr w) t = tied_to classes line owed_end w.0.0 old new w.0.1 t
+
+-- ---- what comes of a call, and what it does to the log
+
+pub logged_result : {E : Type 0} (P : Type 0) (r : Result (Unit {0}) E) (old new : RoomView) (log : LogView) → OnOk r P
+    → (P → IsLogged old.book log → IsLogged new.book log) → OnErr r (new ≡ old) → IsLogged old.book log → IsLogged new.book log
+logged_result P (Ok u) old new log ok does err t = does ok t
+logged_result P (Err e) old new log ok does err t = subst (λ (x : RoomView). IsLogged x.book log) (sym err) t
+
+pub logged_lines : (book : BookView) (log log' : LogView) → log.lines ≡ log'.lines → IsLogged book log → IsLogged book log'
+logged_lines book log log' same t a p h holds mark =
+    let x = t a p h holds mark in
+    record {
+      front = x.front;
+      rest = x.rest;
+      is = sym same ∙ x.is;
+      so_far = subst (λ (l : List Line). base_of l + length (log_text x.front) ≤ p) same x.so_far;
+      once = x.once;
+      holds = subst (λ (l : List Line). alive l a.number ≡ Some (entry_of a)) same x.holds;
+    }
+
+pub logged_note : (book : BookView) (log : LogView) (number : ℕ) (text : List ℕ) → IsStanding log → IsLogged book log
+    → IsLogged book (adding log (Note number text))
+logged_note book log number text standing t a p h holds mark =
+    in_log_more log a p (Note number text) standing.begun (record { begins_not = refl; leaves = λ held. refl }) (t a p h holds mark)
+
+pub logged_noted : {E : Type 0} (r : Result (Unit {0}) E) (book : BookView) (log log' : LogView) (number : ℕ) (text : List ℕ) → IsStanding log
+    → OnOk r (log' ≡ adding log (Note number text)) → OnErr r (log' ≡ log) → IsLogged book log → IsLogged book log'
+logged_noted (Ok u) book log log' number text standing ok err t = subst (IsLogged book) (sym ok) (logged_note book log number text standing t)
+logged_noted (Err e) book log log' number text standing ok err t = subst (IsLogged book) (sym err) t

@@ -10,3 +10,5 @@ pub mod Views
 pub mod Rooms
 pub mod Laws
 pub mod Pages
+pub mod BayViews
+pub mod Bays

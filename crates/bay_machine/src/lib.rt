@@ -5,6 +5,7 @@
 #![tactic(auto)]
 
 mod asking;
+mod bay;
 mod classes;
 mod ending;
 mod following;
@@ -19,8 +20,8 @@ mod telling;
 mod terms;
 mod writing;
 
+pub use bay::{Bay, NotNoted, NotOpened};
 pub use classes::Class;
 pub use request::{NotAsked, NotHeld, Request};
-pub use room::Room;
 pub use telling::Told;
 pub use terms::Terms;
