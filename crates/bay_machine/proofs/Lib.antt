@@ -13,3 +13,4 @@ pub mod Calls
 pub mod Logged
 pub mod LoggedCalls
 pub mod Kept
+pub mod Next

@@ -17,7 +17,6 @@ use Rattle.bay_machine.specs.declared.request.Request.{Request}
 use Rattle.bay_machine.specs.declared.telling.Told.{Told}
 use Rattle.bay_machine.specs.declared.terms.Terms.{Terms}
 use Rattle.bay_machine.specs.Cores.{Core, core, ended}
-use Rattle.bay_machine.specs.Following.{NobodyIsDue}
 use Rattle.bay_machine.specs.Requests.{why_not, asked, IsWhyNotTaken}
 use Rattle.bay_machine.specs.Stopping.{StopsTo}
 use Rattle.bay_machine.specs.Tellings.{is_still_told, TellsNext}
@@ -45,11 +44,6 @@ IsOpened classes terms limit most x = x ≡ record {
 -- time goes by
 abbrev pub Passes : ℕ → RoomView → RoomView → Type 0
 Passes now old new = GoesOn now (core_of old) old new
-
--- nobody's time is over at any moment before this one; if there is none, at no moment
-abbrev pub IsNextMoment : RoomView → Option ℕ → Type 0
-IsNextMoment x (Some next) = (moment : ℕ) → moment < next → NobodyIsDue x.classes x.terms moment (core_of x)
-IsNextMoment x None = (moment : ℕ) → moment < 18446744073709551615 → NobodyIsDue x.classes x.terms moment (core_of x)
 
 -- ---- somebody asks
 

@@ -4,6 +4,8 @@ ghost use Rattle.bay_book.specs.declared.ask.End.TheVariants.{LetGo as EndLetGo,
 ghost use Rattle.bay_log.specs.declared.line.Line.TheVariants.{Note as NoteLine};
 ghost use Rattle.bay_log.specs.Logs.{end_of, unsent_of, beginning, adding, sending, reaching, failing};
 ghost use Rattle.bay_machine.specs.Rooms.{IsOpened, Asks, IsWhyNot, Ends, IsWhyNotHeld, Leaves, Goes, Passes, Stops, reached, Tells};
+ghost use Rattle.bay_machine.specs.Following.{IsNextMoment};
+ghost use Rattle.bay_machine.specs.Views.{core_of};
 ghost use Rattle.bay_machine.specs.Bays.{with_room, with_log, IsKept, Writes, IsWhyNotNoted};
 
 use crate::classes::Class;
@@ -87,6 +89,13 @@ impl Bay {
         ensures log { self.new.log ≡ self.old.log }
     {
         self.room.time(now);
+    }
+
+    /// The next moment at which somebody's time is over, as things stand: call `time` then. None, if nothing comes to be due by time alone.
+    pub fn next_moment(&self) -> Option<u64>
+        ensures { IsNextMoment self.now.room.classes self.now.room.terms (core_of self.now.room) result }
+    {
+        self.room.next_moment()
     }
 
     /// Somebody asks, for one of these sets of instruments, whichever is free first, and a place of its class. It takes memory.

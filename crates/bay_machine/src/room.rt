@@ -2,11 +2,14 @@
 ghost use Rattle.std.specs.Prelude.{◌≡◌, ◌<◌, ◌≤◌, length, Some, None, OnOk, OnErr, IfErr, IfSome};
 ghost use Rattle.bay_book.specs.declared.ask.End.TheVariants.{LetGo as EndLetGo, TakenAway as EndTakenAway};
 ghost use Rattle.bay_machine.specs.Rooms.{IsOpened, Asks, IsWhyNot, Ends, IsWhyNotHeld, Leaves, Goes, Passes, Stops, reached, with_book, Tells, IsKept};
+ghost use Rattle.bay_machine.specs.Following.{IsNextMoment};
+ghost use Rattle.bay_machine.specs.Views.{core_of};
 ghost use Rattle.bay_machine.specs.Pages.{pages, Writes, IsLogged};
 
 use crate::asking::{take, why_not};
 use crate::classes::Class;
 use crate::following::{end_and_follow, follow};
+use crate::moments::next_moment;
 use crate::place::{Place, mark_gone, place_of};
 use crate::request::{NotAsked, NotHeld, Request};
 use crate::stopping::end_all_that_wait;
@@ -89,6 +92,13 @@ impl Room {
             &mut self.book,
             self.moment,
         );
+    }
+
+    /// The next moment at which somebody's time is over, as things stand.
+    pub fn next_moment(&self) -> Option<u64>
+        ensures { IsNextMoment self.now.classes self.now.terms (core_of self.now) result }
+    {
+        next_moment(&self.classes, self.terms, &self.line, &self.book)
     }
 
     /// Somebody asks, for one of these sets of instruments, whichever is free first, and a place of its class. It takes memory.
