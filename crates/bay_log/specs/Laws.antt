@@ -6,7 +6,7 @@ use Rattle.bay_log.specs.declared.line.Entry.{Entry}
 use Rattle.bay_log.specs.declared.line.Line.{Line}
 use Rattle.bay_log.specs.declared.reading.Found.{Found}
 use Rattle.bay_log.specs.Lines.{body, sum_of, line_words, text_after, last_sum, log_text, AreLines, AreLinesFrom, base_of}
-use Rattle.bay_log.specs.Logs.{LogView, unsent_of, adding, sending, failing, IsStanding}
+use Rattle.bay_log.specs.Logs.{LogView, unsent_of, adding, sending, reaching, failing, IsStanding}
 use Rattle.bay_log.specs.Reads.{IsOneLine, IsRead, IsFault}
 use Rattle.bay_log.specs.Alive.{alive, begins}
 
@@ -83,6 +83,7 @@ pub record FileIsABeginning (log : LogView) : Type 0 where
   pub all : log_text log.lines ≡ handed_of log ++ unsent_of log
   pub added : (line : Line) → handed_of (adding log line) ≡ handed_of log
   pub sent : handed_of (sending log) ≡ handed_of log ++ unsent_of log
+  pub reached : (position : ℕ) → handed_of (reaching log position) ≡ handed_of log
   pub failed : handed_of (failing log) ≡ durable_of log
   pub durable : (rest : List ℕ) × (handed_of log ≡ durable_of log ++ rest)
 
