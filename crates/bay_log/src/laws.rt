@@ -1,5 +1,6 @@
 //! What holds of the journal. Each law is the contract of a function that does nothing.
-ghost use Rattle.bay_log.specs.Laws.{LinesAreRead, CutLinesAreRead, DurableLinesAreRead, ChangedLineIsRefused, FilesAreBeginnings, HoldsAtTheCut, GrowsByALine, DurableHoldsAreRead};
+ghost use Rattle.bay_log.specs.Laws.{LinesAreRead, CutLinesAreRead, DurableLinesAreRead, ChangedLineIsRefused};
+ghost use Rattle.bay_log.specs.Laws.{FilesAreBeginnings, HoldsAtTheCut, GrowsByALine, DurableHoldsAreRead};
 
 /// What is written is read again.
 pub fn lines_are_read()
