@@ -1,5 +1,5 @@
 -- A file in which other words stand in the place of a line.
-use Rattle.std.proofs.Common.{◌≡◌, ℕ, ◌<◌, true, false, List, [], ◌∷◌, ◌++◌, length, take, drop, append_assoc, sym, ap, subst, ◌∙◌, arith, length-append, inl, inr}
+use Rattle.std.proofs.Common.{◌≡◌, ℕ, ◌<◌, true, false, Bool, List, [], ◌∷◌, ◌++◌, length, take, drop, append_assoc, sym, ap, subst, ◌∙◌, arith, length-append, inl, inr}
 use Rattle.std.specs.Prelude.{codes}
 use Rattle.hex.specs.Hex.{encode_lower}
 use Rattle.bay_log.specs.declared.line.Line.{Line}
@@ -58,13 +58,13 @@ changed_fault before behind line words n sound f =
     at x first (inr (l, e, same, here)) = absurd (no_fault f.lines f.words f.rest l e x (subst AreLines same first) f.one f.none here)
 
 -- the lines behind
-agree : (a b : List ℕ) (behind read : List Line) (torn : List ℕ) → AreLinesFrom false behind → AreLinesFrom false read → IsOneLine torn
+agree_from : (f : Bool) (a b : List ℕ) (behind read : List Line) (torn : List ℕ) → AreLinesFrom false behind → AreLinesFrom f read → IsOneLine torn
     → text_after b behind ≡ text_after a read ++ torn → Agrees a b behind
-agree a b [] read torn p q one h = tt
-agree a b (x ∷ behind) [] torn p q one h =
+agree_from f a b [] read torn p q one h = tt
+agree_from f a b (x ∷ behind) [] torn p q one h =
     absurd (no_torn (line_words b x) (text_after (sum_of b (body x)) behind) torn one
     (sym (append_assoc (line_words b x) (codes "\n") (text_after (sum_of b (body x)) behind)) ∙ h))
-agree a b (x ∷ behind) (y ∷ read) torn p q one h =
+agree_from f a b (x ∷ behind) (y ∷ read) torn p q one h =
     let parts = same_line (line_words b x) (line_words a y) (text_after (sum_of b (body x)) behind) (text_after (sum_of a (body y)) read ++ torn)
     (line_one b x p.0) (line_one a y q.0)
     (sym (append_assoc (line_words b x) (codes "\n") (text_after (sum_of b (body x)) behind)) ∙ (h ∙ text_cons a y read torn)) in
@@ -99,11 +99,31 @@ changed_read before behind line words found sound one r =
         let here : AreLinesFrom (is_none before) (o ∷ os) = (lines_split true before (o ∷ os) (subst AreLines same are)).1 in
         let both = same_line words (line_words s o) (text_after (sum_of s (body line)) behind) (text_after (sum_of s (body o)) os ++ torn) one
         (line_one s o here.0) (more ∙ text_cons s o os torn) in
-        (o, sym both.0, agree (sum_of s (body o)) (sum_of s (body line)) behind os torn later here.2 whole both.1)
+        (o, sym both.0, agree_from false (sum_of s (body o)) (sum_of s (body line)) behind os torn later here.2 whole both.1)
     at read torn whole later are (inr (l, e, same, here)) =
         let s : List ℕ = last_sum read in
         let x : List ℕ = words ++ 10 ∷ text_after (sum_of (last_sum before) (body line)) behind in
         absurd (no_torn (line_words s l) (text_after (sum_of s (body l)) e ++ x) torn whole (sym (text_cons s l e x) ∙ here))
 
+moved : (before behind : List Line) (sum : List ℕ) (found : Found) → AreLines before → AreLinesFrom false behind
+    → IsRead (log_text before ++ text_after sum behind) found → Agrees (last_sum before) sum behind
+moved before behind sum found first later r =
+    let file : List ℕ = log_text before ++ text_after sum behind in
+    let torn : List ℕ = drop found.used file in
+    at found.lines.items torn r.torn r.sound.lines behind later
+    (alike no_sum true before found.lines.items (text_after sum behind) torn first r.sound.lines (read_split file found r))
+  where
+    at : (read : List Line) (torn : List ℕ) → IsOneLine torn → AreLines read → (behind : List Line) → AreLinesFrom false behind
+        → Alike no_sum before (text_after sum behind) read torn → Agrees (last_sum before) sum behind
+    at read torn whole are [] later both = tt
+    at read torn whole are (x ∷ behind) later (inl ([], same, more)) = agree_from false (last_sum before) sum (x ∷ behind) [] torn later tt whole more
+    at read torn whole are (x ∷ behind) later (inl (o ∷ os, same, more)) =
+        let here : AreLinesFrom (is_none before) (o ∷ os) = (lines_split true before (o ∷ os) (subst AreLines same are)).1 in
+        agree_from (is_none before) (last_sum before) sum (x ∷ behind) (o ∷ os) torn later here whole more
+    at read torn whole are (x ∷ behind) later (inr (l, e, same, here)) =
+        let s : List ℕ = last_sum read in
+        let end : List ℕ = text_after sum (x ∷ behind) in
+        absurd (no_torn (line_words s l) (text_after (sum_of s (body l)) e ++ end) torn whole (sym (text_cons s l e end) ∙ here))
+
 pub changed_line : ChangedLineIsRefused
-changed_line = record { fault = changed_fault; read = changed_read; sum = λ before line other h. same_sum before before other line h }
+changed_line = record { fault = changed_fault; read = changed_read; moved = moved; sum = λ before line other h. same_sum before before other line h }

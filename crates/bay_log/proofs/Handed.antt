@@ -26,6 +26,7 @@ beginnings log s =
           (λ i. take (log.sent - base_both log.lines (line ∷ []) s.begun i) (text_more log.lines line i))
           ∙ take-append-le n text (line_text (last_sum log.lines) line) (omega (arith, s.sent));
       sent = take_all_of text (base + length text - base) (omega arith) ∙ all;
+      reached = λ position. refl;
       failed = refl;
       durable = taken_of text (log.durable - base) n (omega (arith, s.durable));
     }

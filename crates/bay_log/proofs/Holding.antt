@@ -66,7 +66,7 @@ holds_behind n entry front back h none =
     let held : ℕ → Option Entry = λ m. None in
     before_lines (alive front) back n entry none (sym (ap (λ (f : ℕ → Option Entry). f n) (alive_both held front back)) ∙ h)
 
-holds_once : (n : ℕ) (entry : Entry) (front back : List Line) → alive (front ++ back) n ≡ Some entry → count_by (begins n) (front ++ back) ≤ 1
+pub holds_once : (n : ℕ) (entry : Entry) (front back : List Line) → alive (front ++ back) n ≡ Some entry → count_by (begins n) (front ++ back) ≤ 1
     → list_any (begins n) front ≡ true → alive front n ≡ Some entry
 holds_once n entry front back h few some = at (list_any (begins n) back) refl
   where

@@ -7,3 +7,5 @@ pub mod Handed
 pub mod Cuts
 pub mod Changed
 pub mod Entries
+pub mod Durable
+pub mod Growing

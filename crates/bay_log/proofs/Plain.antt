@@ -25,12 +25,12 @@ both_all (x ∷ a) b p q =
     let parts = and_parts (not (x == 10)) (list_all (λ (c : ℕ). not (c == 10)) a) p in
     λ i. parts.0 i && both_all a b parts.1 q i
 
-infixl 5 ◌⊕◌
-◌⊕◌ : {a b : List ℕ} → One a → One b → One (a ++ b)
-◌⊕◌ {a} {b} p q = record { is = both_all a b p.is q.is }
+both : {a b : List ℕ} → One a → One b → One (a ++ b)
+both {a} {b} p q = record { is = both_all a b p.is q.is }
 
-blank : One (codes " ")
-blank = record { is = refl }
+-- with a blank between them
+field : {a b : List ℕ} → One a → One b → One (a ++ codes " " ++ b)
+field p q = both (both p (record { is = refl })) q
 
 one_at : (l : List ℕ) (n : ℕ) → IsOneLine l → not (get_or l n 0 == 10) ≡ true
 one_at [] n h = refl
@@ -74,19 +74,19 @@ plain_all (x ∷ l) h =
 entry : (e : Entry) → One (entry_text e)
 unfolding entry_text
 entry e =
-    number w32 e.class ⊕ blank ⊕ number w64 e.needs ⊕ blank ⊕ (number w64 _ ⊕ number w64 _) ⊕ blank ⊕ number w64 e.since ⊕ blank ⊕ limit e.limit
+    field (field (field (field (number w32 e.class) (number w64 e.needs)) (both (number w64 _) (number w64 _))) (number w64 e.since)) (limit e.limit)
 
 word : (l : List ℕ) → IsOneLine l → One l
 word l h = record { is = h }
 
 words : (line : Line) → Fits line → One (body line)
 unfolding body
-words (Head bay base next) fits = word (codes "bay ") refl ⊕ hex bay ⊕ blank ⊕ number w64 base ⊕ blank ⊕ number w64 next
-words (Hold ask e) fits = word (codes "hold ") refl ⊕ number w64 ask ⊕ blank ⊕ entry e
-words (Back from to) fits = word (codes "back ") refl ⊕ number w64 from ⊕ blank ⊕ number w64 to
-words (End ask h) fits = word (codes "end ") refl ⊕ number w64 ask ⊕ blank ⊕ how h
-words (Note ask text) fits = word (codes "note ") refl ⊕ number w64 ask ⊕ blank ⊕ word text (plain_all text fits.1.plain)
+words (Head bay base next) fits = field (field (both (word (codes "bay ") refl) (hex bay)) (number w64 base)) (number w64 next)
+words (Hold ask e) fits = field (both (word (codes "hold ") refl) (number w64 ask)) (entry e)
+words (Back from to) fits = field (both (word (codes "back ") refl) (number w64 from)) (number w64 to)
+words (End ask h) fits = field (both (word (codes "end ") refl) (number w64 ask)) (how h)
+words (Note ask text) fits = field (both (word (codes "note ") refl) (number w64 ask)) (word text (plain_all text fits.1.plain))
 
 pub line_one : (before : List ℕ) (line : Line) → Fits line → IsOneLine (line_words before line)
 unfolding line_words
-line_one before line fits = (hex (sum_of before (body line)) ⊕ blank ⊕ words line fits).is
+line_one before line fits = (field (hex (sum_of before (body line))) (words line fits)).is

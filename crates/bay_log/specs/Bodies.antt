@@ -1,5 +1,6 @@
--- What the reader takes from the words of a line, field by field. That this is the inverse of `body` is a law of the crate.
-use Rattle.std.specs.Prelude.{ℕ, ◌+◌, ◌*◌, ◌^◌, ◌==◌, nat_lt, Bool, true, false, not, ◌&&◌, nat_le, if◌then◌else◌, List, ◌++◌, length, take, drop, slice_range, codes, Option, None, Some, Result, Ok, Err}
+-- What the reader takes from the words of a line, field by field. It is the inverse of `body`, as proofs/Back.antt shows.
+use Rattle.std.specs.Prelude.{ℕ, ◌+◌, ◌*◌, ◌^◌, ◌==◌, nat_lt, Bool, true, false, not, ◌&&◌, nat_le, if◌then◌else◌}
+use Rattle.std.specs.Prelude.{List, ◌++◌, length, take, drop, slice_range, codes, Option, None, Some, Result, Ok, Err}
 use Rattle.std.specs.List.{list_all}
 use Rattle.std.specs.Int.{w32, w64}
 use Rattle.std.specs.Str.{bytes_eq}

@@ -1,5 +1,5 @@
 -- For readers: a log, as a list of lines of which a beginning is durable and a longer one was handed out.
-use Rattle.std.specs.Prelude.{◌≡◌, ℕ, ◌+◌, ◌-◌, ◌≤◌, ◌<◌, ◌^◌, false, max, min, List, [], ◌∷◌, ◌++◌, length, drop}
+use Rattle.std.specs.Prelude.{◌≡◌, ℕ, ◌+◌, ◌-◌, ◌≤◌, ◌<◌, ◌^◌, ◌⊎◌, true, false, max, min, List, [], ◌∷◌, ◌++◌, length, drop}
 use Rattle.bay_log.specs.declared.line.Line.{Line}
 use Rattle.bay_log.specs.declared.line.Line.TheVariants.{Head}
 use Rattle.bay_log.specs.declared.reading.Found.{Found}
@@ -28,6 +28,9 @@ beginning bay base next = record { lines = Head bay base next ∷ []; durable = 
 -- behind what was read
 abbrev pub resumed : Found → LogView
 resumed found = (let place = base_of found.lines.items + found.used in record { lines = found.lines.items; durable = place; sent = place })
+
+abbrev pub HasNoPlace : Found → Type 0
+HasNoPlace found = (is_none found.lines.items ≡ true) ⊎ (2 ^ 64 ≤ base_of found.lines.items + found.used)
 
 abbrev pub adding : LogView → Line → LogView
 adding log line = record log { lines = log.lines ++ line ∷ [] }

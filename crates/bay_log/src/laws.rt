@@ -1,5 +1,6 @@
 //! What holds of the journal. Each law is the contract of a function that does nothing.
-ghost use Rattle.bay_log.specs.Laws.{LinesAreRead, CutLinesAreRead, DurableLinesAreRead, ChangedLineIsRefused, FilesAreBeginnings, HoldsAtTheCut};
+ghost use Rattle.bay_log.specs.Laws.{LinesAreRead, CutLinesAreRead, DurableLinesAreRead, ChangedLineIsRefused};
+ghost use Rattle.bay_log.specs.Laws.{FilesAreBeginnings, HoldsAtTheCut, GrowsByALine, DurableHoldsAreRead};
 
 /// What is written is read again.
 pub fn lines_are_read()
@@ -29,4 +30,14 @@ pub fn files_are_beginnings()
 /// Whoever holds after all lines held after each beginning of them that has the line by which it began.
 pub fn holds_at_the_cut()
     ensures { HoldsAtTheCut }
+{}
+
+/// A line more changes who holds as it says, and ends behind all lines before it.
+pub fn grows_by_a_line()
+    ensures { GrowsByALine }
+{}
+
+/// Whoever holds, and whose hold is durable, is found to hold after a crash.
+pub fn durable_holds_are_read()
+    ensures { DurableHoldsAreRead }
 {}

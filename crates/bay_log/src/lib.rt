@@ -21,5 +21,5 @@ pub use alive::{Holder, holders};
 pub use how::How;
 pub use line::{Entry, Line};
 pub use log::Log;
-pub use reading::{Fault, Found};
+pub use reading::{Fault, Found, read};
 pub use text::{Text, is_text};

@@ -1,7 +1,7 @@
 //! The journal as it is written.
-ghost use Rattle.std.specs.Prelude.{◌≡◌, ◌+◌, ◌<◌, ◌^◌, ◌∷◌, [], true, false, length, IfOk, OnOk, OnErr};
+ghost use Rattle.std.specs.Prelude.{◌≡◌, ◌+◌, ◌<◌, ◌^◌, ◌∷◌, [], true, false, length, IfOk, OnOk, OnErr, IfSome, IsNone, ◌↔◌};
 ghost use Rattle.bay_log.specs.Lines.{log_text, base_of, is_head, is_none, Fits};
-ghost use Rattle.bay_log.specs.Logs.{end_of, unsent_of, beginning, resumed, adding, sending, reaching, failing, IsStanding};
+ghost use Rattle.bay_log.specs.Logs.{end_of, unsent_of, beginning, resumed, HasNoPlace, adding, sending, reaching, failing, IsStanding};
 ghost use Rattle.bay_log.specs.Reads.{IsSound};
 
 use crate::line::Line;
@@ -70,20 +70,25 @@ impl Log {
         })
     }
 
-    /// The log goes on behind what was read of its file, which is durable up to there.
-    pub fn resume(alloc: Global, found: &Found) -> Log
-        requires sound { IsSound found.now }
-        requires begun { is_none found.now.lines.items ≡ false }
-        requires room { base_of found.now.lines.items + found.now.used < 2 ^ 64 }
-        ensures { result ≡ resumed found.now }
+    /// The log goes on behind what was read of its file, which is durable up to there. None, if no line was read, or if there is no room for a
+    /// position behind the last.
+    pub fn resume(alloc: Global, found: &Found) -> Option<Log>
+        requires { IsSound found.now }
+        ensures log { IfSome result (λ log. log ≡ resumed found.now) }
+        ensures none { IsNone result ↔ HasNoPlace found.now }
     {
-        Log {
+        let base = base_of(&found.lines);
+        let used = found.used as u64;
+        if found.lines.is_empty() || used > u64::MAX - base {
+            return None;
+        }
+        Some(Log {
             text: Vec::new(alloc),
-            base: base_of(&found.lines) + found.used as u64,
+            base: base + used,
             sent: 0,
             sum: found.sum,
             past: Past::read(found),
-        }
+        })
     }
 
     /// Adds a line. If there is no memory, or no room for a position behind it, the log is as it was.

@@ -18,8 +18,8 @@ use Rattle.bay_machine.specs.Classes.{class_at, is_within}
 use Rattle.bay_machine.specs.Cores.{Core, core, IsItsWish, IsTied}
 use Rattle.bay_machine.specs.Standings.{MarksGone}
 use Rattle.bay_machine.specs.Tellings.{TellsNext}
-use Rattle.bay_machine.proofs.Members.{has_at, set_new, set_other, filter_cases, filter_has, map_cases}
-use Rattle.bay_machine.proofs.Tied.{other_asks, count_set}
+use Rattle.bay_machine.proofs.Members.{has_at, set_cases, set_new, set_other, filter_cases, filter_has, map_cases}
+use Rattle.bay_machine.proofs.Tied.{count_set}
 
 -- both are the same ask, as far as each other
 pub record AsFar (a b : Ask) : Type 0 where
@@ -32,7 +32,7 @@ pub record AsFar (a b : Ask) : Type 0 where
 pub as_far : (a : Ask) → AsFar a a
 as_far a = record { number = refl; class = refl; needs = refl; stage = refl; deadline = refl }
 
-far_given : (at : ℕ) (a : Ask) → AsFar a (given at a)
+pub far_given : (at : ℕ) (a : Ask) → AsFar a (given at a)
 far_given at a = record { number = refl; class = refl; needs = refl; stage = refl; deadline = refl }
 
 far_hearing : (what : Outcome) (a : Ask) → AsFar a (hearing what a)
@@ -83,14 +83,13 @@ same_class k a b h = ap (λ (s : Stage). is_holding s && nat_eq a.class k) h.sta
 same_sum : (m n : ℕ) (b c : Bool) → b ≡ c → m + (if b then 1 else 0) ≡ n + (if c then 1 else 0) → m ≤ n
 same_sum m n b c e h = let g : m + (if c then 1 else 0) ≡ n + (if c then 1 else 0) = subst (λ (d : Bool). m + (if d then 1 else 0) ≡ n + (if c then 1 else 0)) e h in omega (arith, g)
 
-pub as_far_set : (x : BookView) (place : ℕ) (v : Ask) → IsSound x → place < length x.asks → AsFar (ask_at x.asks place) v
-    → AreAsFar x.asks (set x.asks place v)
-as_far_set x place v s inside far =
+pub as_far_set : (x : BookView) (place : ℕ) (v : Ask) → place < length x.asks → AsFar (ask_at x.asks place) v → AreAsFar x.asks (set x.asks place v)
+as_far_set x place v inside far =
     let a0 = ask_at x.asks place in
     record {
-      from = λ b h. elim (other_asks x place v b s inside h) [
+      from = λ b h. elim (set_cases x.asks place v b h) [
         | inl is ↦ (a0, has_at x.asks place _ inside, subst (AsFar a0) is far)
-        | inr was ↦ (b, was.0, as_far b)
+        | inr was ↦ (b, was, as_far b)
       ];
       to = λ a h w. elim (set_other x.asks place v a _ h) [
         | inl is ↦ (v, set_new x.asks place v inside, subst (λ (c : Ask). AsFar c v) is far)
@@ -150,13 +149,13 @@ as_far_purged asks = record {
 pub heard_tied : (classes : List Class) (line : LineView) (x : BookView) (place : ℕ) (what : Outcome) → IsSound x → place < length x.asks
     → IsTied classes (core line x) → IsTied classes (core line (heard x place what))
 heard_tied classes line x place what s inside t =
-    as_far_tied classes line x (heard x place what) (as_far_set x place (hearing what (ask_at x.asks place)) s inside (far_hearing what (ask_at x.asks place))) t
+    as_far_tied classes line x (heard x place what) (as_far_set x place (hearing what (ask_at x.asks place)) inside (far_hearing what (ask_at x.asks place))) t
 
 pub gone_tied : (classes : List Class) (line : LineView) (x : BookView) (place moment : ℕ) → IsSound x → place < length x.asks
     → IsTied classes (core line x) → IsTied classes (core line (set_gone x place moment))
 gone_tied classes line x place moment s inside t =
     as_far_tied classes line x (set_gone x place moment)
-    (as_far_set x place (gone_since moment (ask_at x.asks place)) s inside (far_gone moment (ask_at x.asks place))) t
+    (as_far_set x place (gone_since moment (ask_at x.asks place)) inside (far_gone moment (ask_at x.asks place))) t
 
 pub given_tied : (classes : List Class) (line : LineView) (x : BookView) (at : ℕ) → IsTied classes (core line x) → IsTied classes (core line (give x at))
 given_tied classes line x at t = as_far_tied classes line x (give x at) (as_far_given at x.asks) t

@@ -72,7 +72,7 @@ wanted_is classes x wanted full a are_wanted are_full h = elim (or_cases (common
   | inr class ↦ inr ((are_full a.class).0 (test_is (bit_at full a.class) 1 class))
 ]
 
-is_wanted_so : (classes : List Class) (x : Core) (wanted full : ℕ) (a : Ask) → AreWanted x.line.wishes wanted → AreFull classes x full
+pub is_wanted_so : (classes : List Class) (x : Core) (wanted full : ℕ) (a : Ask) → AreWanted x.line.wishes wanted → AreFull classes x full
     → IsWanted classes x a → is_wanted wanted full a ≡ true
 is_wanted_so classes x wanted full a are_wanted are_full (inl h) =
     let p = place_of x.line.wishes h.0 no_wish h.1 in

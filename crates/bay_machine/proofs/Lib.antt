@@ -10,3 +10,7 @@ pub mod Alike
 pub mod Stops
 pub mod HoldsOn
 pub mod Calls
+pub mod Logged
+pub mod LoggedCalls
+pub mod Kept
+pub mod Next

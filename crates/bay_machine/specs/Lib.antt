@@ -9,3 +9,6 @@ pub mod Stopping
 pub mod Views
 pub mod Rooms
 pub mod Laws
+pub mod Pages
+pub mod BayViews
+pub mod Bays

@@ -8,7 +8,7 @@ use Rattle.bay_book.specs.declared.ask.Stage.TheVariants.{Waits, Holds}
 use Rattle.bay_book.specs.Asks.{ask_at, is_over}
 use Rattle.bay_book.specs.Finding.{IsPlaceOf}
 use Rattle.bay_book.specs.Telling.{IsNextToTell}
-use Rattle.bay_book.specs.Books.{BookView, IsSound, nobody as nobody_in_book, set_gone, give, reach, heard, purge}
+use Rattle.bay_book.specs.Books.{BookView, IsSound, nobody as nobody_in_book, set_gone, reach, heard, purge}
 use Rattle.bay_machine.specs.declared.classes.Class.{Class}
 use Rattle.bay_machine.specs.declared.request.NotAsked.{NotAsked}
 use Rattle.bay_machine.specs.declared.request.NotHeld.{NotHeld}
@@ -17,7 +17,6 @@ use Rattle.bay_machine.specs.declared.request.Request.{Request}
 use Rattle.bay_machine.specs.declared.telling.Told.{Told}
 use Rattle.bay_machine.specs.declared.terms.Terms.{Terms}
 use Rattle.bay_machine.specs.Cores.{Core, core, ended}
-use Rattle.bay_machine.specs.Following.{NobodyIsDue}
 use Rattle.bay_machine.specs.Requests.{why_not, asked, IsWhyNotTaken}
 use Rattle.bay_machine.specs.Stopping.{StopsTo}
 use Rattle.bay_machine.specs.Tellings.{is_still_told, TellsNext}
@@ -45,11 +44,6 @@ IsOpened classes terms limit most x = x ≡ record {
 -- time goes by
 abbrev pub Passes : ℕ → RoomView → RoomView → Type 0
 Passes now old new = GoesOn now (core_of old) old new
-
--- nobody's time is over at any moment before this one; if there is none, at no moment
-abbrev pub IsNextMoment : RoomView → Option ℕ → Type 0
-IsNextMoment x (Some next) = (moment : ℕ) → moment < next → NobodyIsDue x.classes x.terms moment (core_of x)
-IsNextMoment x None = (moment : ℕ) → moment < 18446744073709551615 → NobodyIsDue x.classes x.terms moment (core_of x)
 
 -- ---- somebody asks
 
@@ -120,10 +114,6 @@ with_book x book = with_core x x.moment (core x.line book)
 -- what was given outlives a crash up to there
 abbrev pub reached : RoomView → ℕ → RoomView
 reached x position = with_book x (reach x.book position)
-
--- all that is owed was given
-abbrev pub gave : RoomView → ℕ → RoomView
-gave x at = with_book x (give x.book at)
 
 abbrev pub telling_this : RoomView → Option Told → ℕ → BookView → RoomView
 telling_this x telling serial book = record {

@@ -11,7 +11,7 @@ use bay_book::{Book, End};
 use bay_line::Line;
 
 /// The classes of which somebody waits for a place, and none is free.
-fn full_classes(classes: &[Class], line: &Line, book: &Book) -> u32
+pub(crate) fn full_classes(classes: &[Class], line: &Line, book: &Book) -> u32
     requires { length classes.now ≤ 32 }
     ensures { AreFull classes.now (core line.now book.now) result }
 {

@@ -1,13 +1,15 @@
-//! What holds of every room. Each law is the contract of a function that does nothing.
+//! What holds of every bay. Each law is the contract of a function that does nothing.
+ghost use Rattle.bay_machine.specs.Bays.{ToldIsKept};
 ghost use Rattle.bay_machine.specs.Laws.{IsWellHeld, WhoHoldsHoldsOn, WhoWaitsWaitsOn, AnswersInTime};
 
-use crate::room::Room;
+use crate::bay::Bay;
+use bay_log::laws::{cut_lines_are_read, holds_at_the_cut};
 
 /// No two asks hold one instrument; of each class no more hold than it has places; and each holds what its class may use.
-pub fn is_well_held(room: &Room)
-    ensures { IsWellHeld room.now }
+pub fn is_well_held(bay: &Bay)
+    ensures { IsWellHeld bay.now.room }
 {
-    room.look();
+    bay.look();
 }
 
 /// Whoever holds goes on to hold, whatever others do and whatever time it is, until its own time is over.
@@ -24,3 +26,12 @@ pub fn who_waits_waits_on()
 pub fn answers_in_time()
     ensures { AnswersInTime }
 {}
+
+/// Whoever was told that it holds, and holds still, does so by what is read of the log after a crash.
+pub fn told_is_kept(bay: &Bay)
+    ensures { ToldIsKept bay.now }
+{
+    bay.look();
+    cut_lines_are_read();
+    holds_at_the_cut();
+}

@@ -5,21 +5,24 @@
 #![tactic(auto)]
 
 mod asking;
+mod bay;
 mod classes;
 mod ending;
 mod following;
 mod free;
 pub mod laws;
 mod letting_in;
+mod moments;
 mod place;
 mod request;
 mod room;
 mod stopping;
 mod telling;
 mod terms;
+mod writing;
 
+pub use bay::{Bay, NotNoted, NotOpened};
 pub use classes::Class;
 pub use request::{NotAsked, NotHeld, Request};
-pub use room::Room;
 pub use telling::Told;
 pub use terms::Terms;

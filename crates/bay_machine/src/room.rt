@@ -1,19 +1,25 @@
 //! The room: who waits, who holds, and what is told; all but the log.
 ghost use Rattle.std.specs.Prelude.{◌≡◌, ◌<◌, ◌≤◌, length, Some, None, OnOk, OnErr, IfErr, IfSome};
 ghost use Rattle.bay_book.specs.declared.ask.End.TheVariants.{LetGo as EndLetGo, TakenAway as EndTakenAway};
-ghost use Rattle.bay_machine.specs.Rooms.{IsOpened, Asks, IsWhyNot, Ends, IsWhyNotHeld, Leaves, Goes, Passes, Stops, reached, gave, Tells, IsKept};
+ghost use Rattle.bay_machine.specs.Rooms.{IsOpened, Asks, IsWhyNot, Ends, IsWhyNotHeld, Leaves, Goes, Passes, Stops, reached, with_book, Tells, IsKept};
+ghost use Rattle.bay_machine.specs.Following.{IsNextMoment};
+ghost use Rattle.bay_machine.specs.Views.{core_of};
+ghost use Rattle.bay_machine.specs.Pages.{pages, Writes, IsLogged};
 
 use crate::asking::{take, why_not};
 use crate::classes::Class;
 use crate::following::{end_and_follow, follow};
+use crate::moments::next_moment;
 use crate::place::{Place, mark_gone, place_of};
 use crate::request::{NotAsked, NotHeld, Request};
 use crate::stopping::end_all_that_wait;
 use crate::telling::{Told, is_still_told, tell_next};
 use crate::terms::Terms;
+use crate::writing::write_owed;
 use bay_book::{Book, End};
 use bay_line::Line;
-use std::alloc::Global;
+use bay_log::Log;
+use std::alloc::{AllocError, Global};
 use std::marker::Model;
 
 /// Its classes and terms, who waits, who asked, what time it is, whether it has stopped, and what is being told.
@@ -86,6 +92,13 @@ impl Room {
             &mut self.book,
             self.moment,
         );
+    }
+
+    /// The next moment at which somebody's time is over, as things stand.
+    pub fn next_moment(&self) -> Option<u64>
+        ensures { IsNextMoment self.now.classes self.now.terms (core_of self.now) result }
+    {
+        next_moment(&self.classes, self.terms, &self.line, &self.book)
     }
 
     /// Somebody asks, for one of these sets of instruments, whichever is free first, and a place of its class. It takes memory.
@@ -239,11 +252,14 @@ impl Room {
         self.book.reach(position);
     }
 
-    /// All lines that are owed were given, and the log is so long now.
-    pub fn give(&mut self, at: u64)
-        ensures { self.new ≡ gave self.old at }
+    /// All that is owed is written to the log. If there is no memory, what was written is, and the rest is owed still.
+    pub(crate) fn write(&mut self, log: &mut Log) -> Result<(), AllocError>
+        requires { IsLogged self.old.book log.old }
+        ensures writes { Writes result (pages self.old.book log.old) (pages self.new.book log.new) }
+        ensures same { self.new ≡ with_book self.old self.new.book }
+        ensures logged { IsLogged self.new.book log.new }
     {
-        self.book.give(at);
+        write_owed(&mut self.book, log)
     }
 
     /// What is told next. It stays to be told until its serial number is given back as done.

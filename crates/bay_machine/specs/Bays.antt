@@ -1,0 +1,45 @@
+-- For readers: what the calls of a bay do with its log, and what is true of every bay.
+use Rattle.std.specs.Prelude.{◌≡◌, ℕ, ◌+◌, ◌≤◌, true, List, ◌++◌, length, Option, Some, Result}
+use Rattle.std.specs.declared.alloc.AllocError.{AllocError}
+use Rattle.bay_book.specs.declared.ask.Ask.{Ask}
+use Rattle.bay_book.specs.declared.ask.Heard.TheVariants.{Holds as HeardHolds}
+use Rattle.bay_book.specs.declared.ask.Mark.TheVariants.{At}
+use Rattle.bay_book.specs.declared.ask.Stage.TheVariants.{Holds}
+use Rattle.bay_log.specs.declared.reading.Found.{Found}
+use Rattle.bay_log.specs.Texts.{IsText}
+use Rattle.bay_log.specs.Lines.{base_of, log_text}
+use Rattle.bay_log.specs.Logs.{LogView, IsStanding}
+use Rattle.bay_log.specs.Reads.{IsRead}
+use Rattle.bay_log.specs.Alive.{alive}
+use Rattle.bay_machine.specs.declared.bay.NotNoted.{NotNoted}
+use Rattle.bay_machine.specs.declared.bay.NotNoted.TheVariants.{NoText, NoMemory}
+use Rattle.bay_machine.specs.Members.{Has}
+use Rattle.bay_machine.specs.Rooms.{with_book, IsKept as IsKeptRoom}
+use Rattle.bay_machine.specs.Pages.{entry_of, pages, Writes as WritesOwed, IsLogged}
+pub use Rattle.bay_machine.specs.BayViews.{BayView, with_room, with_log}
+
+-- what is true of every bay
+pub record IsKept (x : BayView) : Type 0 where
+  pub room : IsKeptRoom x.room
+  pub standing : IsStanding x.log
+  pub logged : IsLogged x.room.book x.log
+
+-- all that is owed is added to the log
+pub record Writes (result : Result (Unit {0}) AllocError) (old new : BayView) : Type 0 where
+  pub writes : WritesOwed result (pages old.room.book old.log) (pages new.room.book new.log)
+  pub same : new.room ≡ with_book old.room new.room.book
+
+-- it isn't the text of a note; or it is, and there is no memory
+abbrev pub IsWhyNotNoted : List ℕ → NotNoted → Type 0
+IsWhyNotNoted text NoText = IsText text → ⊥
+IsWhyNotNoted text NoMemory = IsText text
+
+-- ---- what was told is kept
+
+-- An ask holds, and was told so, and its line was given. Whatever is left of the file after a crash, if it has all that is durable by the book: by the lines that
+-- are read of it the ask holds what it holds, for its owner
+abbrev pub ToldIsKept : BayView → Type 0
+ToldIsKept x =
+    (file lost : List ℕ) (found : Found) → log_text x.log.lines ≡ file ++ lost → x.room.book.durable ≤ base_of x.log.lines + length file → IsRead file found
+    → (a : Ask) (position : ℕ) → Has x.room.book.asks a → a.stage ≡ Holds → a.heard ≡ HeardHolds → a.hold_line ≡ At position
+    → alive found.lines.items a.number ≡ Some (entry_of a)

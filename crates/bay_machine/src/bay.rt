@@ -1,0 +1,226 @@
+//! The bay: the room and its log.
+ghost use Rattle.std.specs.Prelude.{◌≡◌, ◌∷◌, ◌++◌, [], OnOk, OnErr, IfOk, IfErr};
+ghost use Rattle.bay_book.specs.declared.ask.End.TheVariants.{LetGo as EndLetGo, TakenAway as EndTakenAway};
+ghost use Rattle.bay_log.specs.declared.line.Line.TheVariants.{Note as NoteLine};
+ghost use Rattle.bay_log.specs.Logs.{end_of, unsent_of, beginning, adding, sending, reaching, failing};
+ghost use Rattle.bay_machine.specs.Rooms.{IsOpened, Asks, IsWhyNot, Ends, IsWhyNotHeld, Leaves, Goes, Passes, Stops, reached, Tells};
+ghost use Rattle.bay_machine.specs.Following.{IsNextMoment};
+ghost use Rattle.bay_machine.specs.Views.{core_of};
+ghost use Rattle.bay_machine.specs.Bays.{with_room, with_log, IsKept, Writes, IsWhyNotNoted};
+
+use crate::classes::Class;
+use crate::request::{NotAsked, NotHeld, Request};
+use crate::room::Room;
+use crate::telling::Told;
+use crate::terms::Terms;
+use bay_log::{Line, Log, Text, is_text};
+use std::alloc::{AllocError, Global};
+use std::marker::Model;
+
+/// Why a bay isn't opened.
+#[derive(Clone, Copy, PartialEq, Eq, Debug)]
+pub enum NotOpened {
+    /// It has more than 32 classes.
+    Classes,
+    /// There is no memory.
+    NoMemory,
+}
+
+/// Why a note isn't written. Nothing changed then.
+#[derive(Clone, Copy, PartialEq, Eq, Debug)]
+pub enum NotNoted {
+    /// It is too long, or has more than one line.
+    NoText,
+    /// There is no memory.
+    NoMemory,
+}
+
+/// A room, and the log of who holds.
+#[derive(Drop)]
+pub struct Bay {
+    room: Room,
+    log: Log,
+}
+
+impl Model for Bay {
+    ghost use Rattle.bay_machine.specs.BayViews.{BayView};
+    ghost use Rattle.bay_machine.specs.Pages.{IsLogged};
+
+    ghost Value = { BayView };
+
+    ghost view = { λ x. record { room = x.room; log = x.log } };
+
+    ghost invariant = { λ x. IsLogged x.room.book x.log };
+}
+
+impl Bay {
+    /// A bay of these classes, of which there are at most 32, with a line for so many sets, in which one is passed by at most so many times. Nobody has asked,
+    /// and its log has its head alone.
+    pub fn open(
+        alloc: Global,
+        classes: Vec<Class, Global>,
+        terms: Terms,
+        limit: usize,
+        most: u32,
+        head: [u8; 32],
+    ) -> Result<Bay, NotOpened>
+        ensures { IfOk result (λ bay. IsOpened classes.items terms limit most bay.room × (bay.log ≡ beginning head 0 0)) }
+    {
+        let Ok(log) = Log::begin(alloc, head, 0, 0) else {
+            return Err(NotOpened::NoMemory);
+        };
+        let Some(room) = Room::open(alloc, classes, terms, limit, most) else {
+            return Err(NotOpened::Classes);
+        };
+        Ok(Bay { room, log })
+    }
+
+    /// What is true of every bay. It does nothing.
+    pub fn look(&self)
+        ensures { IsKept self.now }
+    {
+        self.room.look();
+        let _ = self.log.position();
+    }
+
+    /// It is this moment now, unless it was later before: all follows from that.
+    pub fn time(&mut self, now: u64)
+        ensures room { Passes now self.old.room self.new.room }
+        ensures log { self.new.log ≡ self.old.log }
+    {
+        self.room.time(now);
+    }
+
+    /// The next moment at which somebody's time is over, as things stand: call `time` then. None, if nothing comes to be due by time alone.
+    pub fn next_moment(&self) -> Option<u64>
+        ensures { IsNextMoment self.now.room.classes self.now.room.terms (core_of self.now.room) result }
+    {
+        self.room.next_moment()
+    }
+
+    /// Somebody asks, for one of these sets of instruments, whichever is free first, and a place of its class. It takes memory.
+    pub fn ask(&mut self, sets: &[u64], request: Request, now: u64) -> Result<(), NotAsked>
+        ensures asks { OnOk result (Asks sets.now request now self.old.room self.new.room) }
+        ensures log { self.new.log ≡ self.old.log }
+        ensures refused { OnErr result (self.new ≡ self.old) }
+        ensures why { IfErr result (λ why. IsWhyNot self.old.room sets.now request why) }
+    {
+        self.room.ask(sets, request, now)
+    }
+
+    /// An ask that holds lets go.
+    pub fn let_go(&mut self, number: u64, now: u64) -> Result<(), NotHeld>
+        ensures ends { OnOk result (Ends EndLetGo number now self.old.room self.new.room) }
+        ensures log { self.new.log ≡ self.old.log }
+        ensures refused { OnErr result (self.new ≡ self.old) }
+        ensures why { IfErr result (λ why. IsWhyNotHeld self.old.room number why) }
+    {
+        self.room.let_go(number, now)
+    }
+
+    /// Somebody takes away what an ask holds.
+    pub fn take_away(&mut self, number: u64, now: u64) -> Result<(), NotHeld>
+        ensures ends { OnOk result (Ends EndTakenAway number now self.old.room self.new.room) }
+        ensures log { self.new.log ≡ self.old.log }
+        ensures refused { OnErr result (self.new ≡ self.old) }
+        ensures why { IfErr result (λ why. IsWhyNotHeld self.old.room number why) }
+    {
+        self.room.take_away(number, now)
+    }
+
+    /// The owner of an ask leaves, however far the ask is.
+    pub fn leave(&mut self, number: u64, now: u64)
+        ensures room { Leaves number now self.old.room self.new.room }
+        ensures log { self.new.log ≡ self.old.log }
+    {
+        self.room.leave(number, now);
+    }
+
+    /// The client of an ask is gone from this moment on.
+    pub fn gone(&mut self, number: u64, now: u64)
+        ensures room { Goes number now self.old.room self.new.room }
+        ensures log { self.new.log ≡ self.old.log }
+    {
+        self.room.gone(number, now);
+    }
+
+    /// The bay stops: nobody may ask any more, and all that wait are over. Who holds goes on to hold.
+    pub fn stop(&mut self, now: u64)
+        ensures room { Stops now self.old.room self.new.room }
+        ensures log { self.new.log ≡ self.old.log }
+    {
+        self.room.stop(now);
+    }
+
+    /// What is told next. It stays to be told until its serial number is given back as done.
+    pub fn tell(&mut self, done: u64) -> Option<Told>
+        ensures room { Tells done self.old.room result self.new.room }
+        ensures log { self.new.log ≡ self.old.log }
+    {
+        self.room.tell(done)
+    }
+
+    /// All that is owed is added to the log: who is over, and then who holds. If there is no memory, what was added is, and the rest is owed still.
+    pub fn journal(&mut self) -> Result<(), AllocError>
+        ensures { Writes result self.old self.new }
+    {
+        self.room.write(&mut self.log)
+    }
+
+    /// A note of an ask is added to the log. Answers the position from which on it outlives a crash. It takes memory.
+    pub fn note(&mut self, alloc: Global, number: u64, text: &[u8]) -> Result<u64, NotNoted>
+        ensures notes { OnOk result (self.new ≡ with_log self.old (adding self.old.log (NoteLine number text.now))) }
+        ensures position { IfOk result (λ position. position ≡ end_of self.new.log) }
+        ensures refused { OnErr result (self.new ≡ self.old) }
+        ensures why { IfErr result (λ why. IsWhyNotNoted text.now why) }
+    {
+        if !is_text(text) {
+            return Err(NotNoted::NoText);
+        }
+        let Ok(text) = Text::new(alloc, text) else {
+            return Err(NotNoted::NoMemory);
+        };
+        let _ = self.log.position();
+        match self.log.add(&Line::Note { ask: number, text }) {
+            Ok(()) => Ok(self.log.position()),
+            Err(_) => Err(NotNoted::NoMemory),
+        }
+    }
+
+    /// The position behind all that was added to the log.
+    pub fn position(&self) -> u64
+        ensures { result ≡ end_of self.now.log }
+    {
+        self.log.position()
+    }
+
+    /// The bytes of the log that are to be written next.
+    pub fn unsent(&self) -> &[u8]
+        ensures { result.now ≡ unsent_of self.now.log }
+    {
+        self.log.unsent()
+    }
+
+    /// All these bytes were handed out.
+    pub fn sent(&mut self)
+        ensures { self.new ≡ with_log self.old (sending self.old.log) }
+    {
+        self.log.send();
+    }
+
+    /// What was handed out outlives a crash up to this position.
+    pub fn durable(&mut self, position: u64)
+        ensures room { self.new.room ≡ reached self.old.room position }
+        ensures log { self.new.log ≡ reaching self.old.log position }
+    {
+        self.log.reach(position);
+        self.room.reach(position);
+    }
+
+    /// The file couldn't be written: what isn't durable is handed out again.
+    pub fn failed(&mut self)
+        ensures { self.new ≡ with_log self.old (failing self.old.log) }
+    {
+        self.log.failed();
+    }
+}
