@@ -1,25 +1,32 @@
 -- For readers: what each call leaves in the handle and in the caller's memory, and its status.
-use Rattle.std.specs.Prelude.{◌≡◌, ◌⊎◌, ℕ, ◌<◌, List, map, length, Option, Some, None}
+use Rattle.std.specs.Prelude.{◌≡◌, ◌⊎◌, ℕ, ◌<◌, ◌≤◌, List, ◌++◌, map, length, drop, Option, Some, None, Ok, Err}
+use Rattle.std.specs.declared.alloc.AllocError.{AllocError}
 use Rattle.bay_book.specs.declared.ask.End.{End}
 use Rattle.bay_book.specs.declared.ask.End.TheVariants.{LetGo, TakenAway}
 use Rattle.bay_machine.specs.declared.request.NotAsked.{NotAsked}
 use Rattle.bay_machine.specs.declared.request.NotHeld.{NotHeld}
 use Rattle.bay_machine.specs.declared.telling.Told.{Told}
-use Rattle.bay_machine.specs.Views.{RoomView}
-use Rattle.bay_machine.specs.Rooms.{IsOpened, Asks, IsWhyNot, Ends, IsWhyNotHeld, Leaves, Goes, Stops, Tells}
+use Rattle.bay_log.specs.declared.line.Line.TheVariants.{Note}
+use Rattle.bay_log.specs.Logs.{end_of, unsent_of, beginning, sending, failing, reaching, adding}
+use Rattle.bay_machine.specs.declared.bay.NotNoted.{NotNoted}
+use Rattle.bay_machine.specs.Bays.{BayView, with_log, Writes, IsWhyNotNoted}
+use Rattle.bay_machine.specs.Following.{IsNextMoment}
+use Rattle.bay_machine.specs.Views.{core_of}
+use Rattle.bay_machine.specs.Rooms.{IsOpened, Asks, IsWhyNot, Ends, IsWhyNotHeld, Leaves, Goes, Passes, Stops, reached, Tells}
 use Rattle.bay_c.specs.declared.inside.Inside.{Inside}
 use Rattle.bay_c.specs.declared.inside.Inside.TheVariants.{Open}
 use Rattle.bay_c.specs.declared.told.BayClass.{BayClass}
 use Rattle.bay_c.specs.declared.told.BayTerms.{BayTerms}
 use Rattle.bay_c.specs.declared.told.BayAsked.{BayAsked}
 use Rattle.bay_c.specs.declared.told.BayOutcome.{BayOutcome}
-use Rattle.bay_c.specs.Telling.{class_of, terms_of, request_of, outcome_of, refusal_status, not_held_status}
+use Rattle.bay_c.specs.Telling.{class_of, terms_of, request_of, outcome_of, refusal_status, not_held_status, not_noted_status, number_of}
 
 -- ---- opening
 
--- a bay of these classes and terms, in which nobody has asked
-abbrev pub IsOpenedFor : List BayClass → BayTerms → RoomView → Type 0
-IsOpenedFor classes terms x = IsOpened (map class_of classes) (terms_of terms) terms.line terms.overtakes x
+-- a bay of these classes and terms, in which nobody has asked, and whose log has its head alone
+abbrev pub IsOpenedFor : List BayClass → BayTerms → BayView → Type 0
+IsOpenedFor classes terms x =
+    IsOpened (map class_of classes) (terms_of terms) terms.line terms.overtakes x.room × (x.log ≡ beginning terms.bay 0 0)
 
 abbrev pub IsInsideFor : List BayClass → BayTerms → Inside → Type 0
 IsInsideFor classes terms (Open x) = IsOpenedFor classes terms x
@@ -38,39 +45,40 @@ Opens classes terms None new status =
 -- ---- calls on a bay
 
 -- the bay of the handle went from one to another; or the handle has none, and nothing changed (7)
-abbrev pub InBay : {T : Type 0} → (RoomView → RoomView → T → T → ℕ → Type 0) → Option Inside → Option Inside → T → T → ℕ → Type 0
-InBay Did (Some (Open a)) new told told' status = (b : RoomView) × (new ≡ Some (Open b)) × Did a b told told' status
+abbrev pub InBay : {T : Type 0} → (BayView → BayView → T → T → ℕ → Type 0) → Option Inside → Option Inside → T → T → ℕ → Type 0
+InBay Did (Some (Open a)) new told told' status = (b : BayView) × (new ≡ Some (Open b)) × Did a b told told' status
 InBay Did None new told told' status = (status ≡ 7) × (new ≡ None) × (told' ≡ told)
 
 -- somebody asks (0); or it is refused, by this, and nothing changed
-abbrev pub AsksFor : List ℕ → BayAsked → ℕ → RoomView → RoomView → Unit {0} → Unit {0} → ℕ → Type 0
+abbrev pub AsksFor : List ℕ → BayAsked → ℕ → BayView → BayView → Unit {0} → Unit {0} → ℕ → Type 0
 AsksFor sets asked now a b told told' status =
-    ((status ≡ 0) × Asks sets (request_of asked) now a b)
-    ⊎ ((why : NotAsked) × (status ≡ refusal_status why) × IsWhyNot a sets (request_of asked) why × (b ≡ a))
+    ((status ≡ 0) × Asks sets (request_of asked) now a.room b.room × (b.log ≡ a.log))
+    ⊎ ((why : NotAsked) × (status ≡ refusal_status why) × IsWhyNot a.room sets (request_of asked) why × (b ≡ a))
 
 -- the ask, which held, is over like this (0); or it waits (8), or is over already (26), and nothing changed
-abbrev pub EndsLike : End → ℕ → ℕ → RoomView → RoomView → Unit {0} → Unit {0} → ℕ → Type 0
+abbrev pub EndsLike : End → ℕ → ℕ → BayView → BayView → Unit {0} → Unit {0} → ℕ → Type 0
 EndsLike how number now a b told told' status =
-    ((status ≡ 0) × Ends how number now a b) ⊎ ((why : NotHeld) × (status ≡ not_held_status why) × IsWhyNotHeld a number why × (b ≡ a))
+    ((status ≡ 0) × Ends how number now a.room b.room × (b.log ≡ a.log)) ⊎ ((why : NotHeld) × (status ≡ not_held_status why) × IsWhyNotHeld a.room number why × (b ≡ a))
 
-abbrev pub LetsGo : ℕ → ℕ → RoomView → RoomView → Unit {0} → Unit {0} → ℕ → Type 0
+abbrev pub LetsGo : ℕ → ℕ → BayView → BayView → Unit {0} → Unit {0} → ℕ → Type 0
 LetsGo = EndsLike LetGo
 
-abbrev pub TakesAway : ℕ → ℕ → RoomView → RoomView → Unit {0} → Unit {0} → ℕ → Type 0
+abbrev pub TakesAway : ℕ → ℕ → BayView → BayView → Unit {0} → Unit {0} → ℕ → Type 0
 TakesAway = EndsLike TakenAway
 
 -- its owner left (0)
-pub record LeavesIt (number now : ℕ) (a b : RoomView) (told told' : Unit {0}) (status : ℕ) : Type 0 where
+pub record LeavesIt (number now : ℕ) (a b : BayView) (told told' : Unit {0}) (status : ℕ) : Type 0 where
   pub done : status ≡ 0
-  pub leaves : Leaves number now a b
+  pub leaves : Leaves number now a.room b.room
+  pub log : b.log ≡ a.log
 
 -- its client is gone (0)
-abbrev pub GoesAway : ℕ → ℕ → RoomView → RoomView → Unit {0} → Unit {0} → ℕ → Type 0
-GoesAway number now a b told told' status = (status ≡ 0) × Goes number now a b
+abbrev pub GoesAway : ℕ → ℕ → BayView → BayView → Unit {0} → Unit {0} → ℕ → Type 0
+GoesAway number now a b told told' status = (status ≡ 0) × Goes number now a.room b.room × (b.log ≡ a.log)
 
 -- the bay stops (0)
-abbrev pub StopsAt : ℕ → RoomView → RoomView → Unit {0} → Unit {0} → ℕ → Type 0
-StopsAt now a b told told' status = (status ≡ 0) × Stops now a b
+abbrev pub StopsAt : ℕ → BayView → BayView → Unit {0} → Unit {0} → ℕ → Type 0
+StopsAt now a b told told' status = (status ≡ 0) × Stops now a.room b.room × (b.log ≡ a.log)
 
 -- what was told is in the caller's memory
 abbrev pub IsTold : Option Told → BayOutcome → BayOutcome → ℕ → Type 0
@@ -78,10 +86,56 @@ IsTold (Some t) told told' status = (status ≡ 0) × (told' ≡ outcome_of t)
 IsTold None told told' status = (status ≡ 8) × (told' ≡ told)
 
 -- what is told next (0), or there is nothing (8)
-abbrev pub TellsIt : ℕ → RoomView → RoomView → BayOutcome → BayOutcome → ℕ → Type 0
-TellsIt done a b told told' status = (t : Option Told) × Tells done a t b × IsTold t told told' status
+abbrev pub TellsIt : ℕ → BayView → BayView → BayOutcome → BayOutcome → ℕ → Type 0
+TellsIt done a b told told' status = (t : Option Told) × Tells done a.room t b.room × (b.log ≡ a.log) × IsTold t told told' status
 
 -- the bay is gone, and the handle is empty (0); or it was (7)
 abbrev pub Frees : Option Inside → Option Inside → ℕ → Type 0
 Frees (Some old) new status = (status ≡ 0) × (new ≡ None)
 Frees None new status = (status ≡ 7) × (new ≡ None)
+
+-- ---- the world outside
+
+-- it is this moment, and the next at which something is due is told (0)
+abbrev pub TimeGoes : ℕ → BayView → BayView → ℕ → ℕ → ℕ → Type 0
+TimeGoes now a b told told' status =
+    (status ≡ 0) × Passes now a.room b.room × (b.log ≡ a.log)
+    × ((next : Option ℕ) × IsNextMoment b.room.classes b.room.terms (core_of b.room) next × (told' ≡ number_of next))
+
+-- a note is in the log, and the position behind it is told (0); or it isn't a text (24), or there is no memory (5), and nothing changed
+abbrev pub Notes : ℕ → List ℕ → BayView → BayView → ℕ → ℕ → ℕ → Type 0
+Notes number text a b told told' status =
+    ((status ≡ 0) × (b ≡ with_log a (adding a.log (Note number text))) × (told' ≡ end_of b.log))
+    ⊎ ((why : NotNoted) × (status ≡ not_noted_status why) × IsWhyNotNoted text why × (b ≡ a) × (told' ≡ told))
+
+-- a caller's room, how long the text is that was asked for, and the position behind it
+pub record Handed : Type 0 where
+  pub text : List ℕ
+  pub written : ℕ
+  pub position : ℕ
+
+abbrev pub handed : List ℕ → ℕ → ℕ → Handed
+handed text written position = record { text = text; written = written; position = position }
+
+-- What wasn't handed out is in the room (0); or there is no room for it, and nothing is handed out (6). Its length is told, and the position behind it
+pub record HandsOut (old new : BayView) (told told' : Handed) (status : ℕ) : Type 0 where
+  pub written : told'.written ≡ length (unsent_of old.log)
+  pub position : told'.position ≡ end_of old.log
+  pub given :
+      ((status ≡ 0) × (length (unsent_of old.log) ≤ length told.text)
+      × (told'.text ≡ unsent_of old.log ++ drop (length (unsent_of old.log)) told.text) × (new ≡ with_log old (sending old.log)))
+      ⊎ ((status ≡ 6) × (length told.text < length (unsent_of old.log)) × (told'.text ≡ told.text) × (new ≡ old))
+
+-- all that is owed is in the log, and what wasn't handed out is; or there is no memory for all of it, and nothing is handed out (5)
+pub record TakesJournal (a b : BayView) (told told' : Handed) (status : ℕ) : Type 0 where
+  pub took :
+      ((mid : BayView) × Writes (Ok tt) a mid × HandsOut mid b told told' status)
+      ⊎ ((status ≡ 5) × ((e : AllocError) × Writes (Err e) a b) × (told' ≡ told))
+
+-- what was handed out is durable up to there (0)
+abbrev pub IsDurable : ℕ → BayView → BayView → Unit {0} → Unit {0} → ℕ → Type 0
+IsDurable position a b told told' status = (status ≡ 0) × (b.room ≡ reached a.room position) × (b.log ≡ reaching a.log position)
+
+-- what isn't durable is to be handed out again (0)
+abbrev pub HasFailed : BayView → BayView → Unit {0} → Unit {0} → ℕ → Type 0
+HasFailed a b told told' status = (status ≡ 0) × (b ≡ with_log a (failing a.log))

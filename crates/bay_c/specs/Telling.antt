@@ -9,6 +9,10 @@ use Rattle.bay_machine.specs.declared.request.NotAsked.TheVariants.{Stopped, Num
 use Rattle.bay_machine.specs.declared.request.NotHeld.{NotHeld}
 use Rattle.bay_machine.specs.declared.request.NotHeld.TheVariants.{Over, Waits}
 use Rattle.bay_machine.specs.declared.request.Request.{Request}
+use Rattle.bay_machine.specs.declared.bay.NotOpened.{NotOpened}
+use Rattle.bay_machine.specs.declared.bay.NotOpened.TheVariants.{Classes, NoMemory as NotOpenedMemory}
+use Rattle.bay_machine.specs.declared.bay.NotNoted.{NotNoted}
+use Rattle.bay_machine.specs.declared.bay.NotNoted.TheVariants.{NoText, NoMemory as NotNotedMemory}
 use Rattle.bay_machine.specs.declared.telling.Told.{Told}
 use Rattle.bay_machine.specs.declared.terms.Terms.{Terms}
 use Rattle.bay_c.specs.declared.told.BayClass.{BayClass}
@@ -67,3 +71,16 @@ refusal_status NoMemory = 5
 abbrev pub not_held_status : NotHeld → ℕ
 not_held_status Waits = 8
 not_held_status Over = 26
+
+abbrev pub not_opened_status : NotOpened → ℕ
+not_opened_status Classes = 22
+not_opened_status NotOpenedMemory = 5
+
+abbrev pub not_noted_status : NotNoted → ℕ
+not_noted_status NoText = 24
+not_noted_status NotNotedMemory = 5
+
+-- the number of a moment; the greatest one if there is none
+abbrev pub number_of : Option ℕ → ℕ
+number_of (Some n) = n
+number_of None = 18446744073709551615

@@ -9,6 +9,7 @@ mod owners;
 mod slot;
 mod statuses;
 mod told;
+mod writing;
 
 pub use handle::{BUSY, Handle, IN_USE, NOT_OPEN};
 pub use inside::Inside;

@@ -4,28 +4,30 @@ ghost use Rattle.bay_c.specs.Calls.{IsOpenedFor, IsInsideFor, IsWhyNotOpened, Op
 
 use crate::handle::{Handle, claim, put, release, take};
 use crate::inside::Inside;
-use crate::statuses::{NO_MEMORY, TOO_MANY_CLASSES};
+use crate::statuses::{NO_MEMORY, not_opened_status};
 use crate::told::{BayClass, BayTerms, classes_of, terms_of};
-use bay_machine::Room;
+use bay_machine::Bay;
 use std::alloc::Global;
 
 /// A bay, or the status that says why not.
-fn room_for(alloc: Global, classes: &[BayClass], terms: &BayTerms) -> Result<Room, u32>
+fn bay_for(alloc: Global, classes: &[BayClass], terms: &BayTerms) -> Result<Bay, u32>
     ensures opened { IfOk result (λ x. IsOpenedFor classes.now terms.now x) }
     ensures refused { IfErr result (λ status. IsWhyNotOpened classes.now status) }
 {
     let Ok(made) = classes_of(alloc, classes) else {
         return Err(NO_MEMORY);
     };
-    match Room::open(
+    let limit = terms.line as usize;
+    match Bay::open(
         alloc,
         made,
         terms_of(terms),
-        terms.line as usize,
+        limit,
         terms.overtakes,
+        terms.bay,
     ) {
-        Some(room) => Ok(room),
-        None => Err(TOO_MANY_CLASSES),
+        Ok(bay) => Ok(bay),
+        Err(why) => Err(not_opened_status(why)),
     }
 }
 
@@ -34,8 +36,8 @@ fn boxed(alloc: Global, classes: &[BayClass], terms: &BayTerms) -> Result<Box<In
     ensures opened { IfOk result (λ b. IsInsideFor classes.now terms.now b.value) }
     ensures refused { IfErr result (λ status. IsWhyNotOpened classes.now status) }
 {
-    let room = room_for(alloc, classes, terms)?;
-    match Box::new(alloc, Inside::Open(room)) {
+    let bay = bay_for(alloc, classes, terms)?;
+    match Box::new(alloc, Inside::Open(bay)) {
         Ok(inside) => Ok(inside),
         Err(_) => Err(NO_MEMORY),
     }

@@ -6,47 +6,47 @@ use crate::handle::{Handle, put, take};
 use crate::inside::Inside;
 use crate::statuses::{NOTHING, not_held_status, refusal_status};
 use crate::told::{BayAsked, BayOutcome, outcome_of, request_of};
-use bay_machine::Room;
+use bay_machine::Bay;
 use std::alloc::Global;
 
-fn ask_in(room: &mut Room, asked: &BayAsked, sets: &[u64], now: u64) -> u32
-    ensures { AsksFor sets.now asked.now now room.old room.new tt tt result }
+fn ask_in(machine: &mut Bay, asked: &BayAsked, sets: &[u64], now: u64) -> u32
+    ensures { AsksFor sets.now asked.now now machine.old machine.new tt tt result }
 {
-    match room.ask(sets, request_of(asked), now) {
+    match machine.ask(sets, request_of(asked), now) {
         Ok(()) => 0,
         Err(why) => refusal_status(why),
     }
 }
 
-fn let_go_in(room: &mut Room, number: u64, now: u64) -> u32
-    ensures { LetsGo number now room.old room.new tt tt result }
+fn let_go_in(machine: &mut Bay, number: u64, now: u64) -> u32
+    ensures { LetsGo number now machine.old machine.new tt tt result }
 {
-    match room.let_go(number, now) {
+    match machine.let_go(number, now) {
         Ok(()) => 0,
         Err(why) => not_held_status(why),
     }
 }
 
-fn take_away_in(room: &mut Room, number: u64, now: u64) -> u32
-    ensures { TakesAway number now room.old room.new tt tt result }
+fn take_away_in(machine: &mut Bay, number: u64, now: u64) -> u32
+    ensures { TakesAway number now machine.old machine.new tt tt result }
 {
-    match room.take_away(number, now) {
+    match machine.take_away(number, now) {
         Ok(()) => 0,
         Err(why) => not_held_status(why),
     }
 }
 
-fn leave_in(room: &mut Room, number: u64, now: u64) -> u32
-    ensures { LeavesIt number now room.old room.new tt tt result }
+fn leave_in(machine: &mut Bay, number: u64, now: u64) -> u32
+    ensures { LeavesIt number now machine.old machine.new tt tt result }
 {
-    room.leave(number, now);
+    machine.leave(number, now);
     0
 }
 
-fn tell_in(room: &mut Room, done: u64, outcome: &mut BayOutcome) -> u32
-    ensures { TellsIt done room.old room.new outcome.old outcome.new result }
+fn tell_in(machine: &mut Bay, done: u64, outcome: &mut BayOutcome) -> u32
+    ensures { TellsIt done machine.old machine.new outcome.old outcome.new result }
 {
-    match room.tell(done) {
+    match machine.tell(done) {
         Some(told) => {
             *outcome = outcome_of(told);
             0
@@ -71,7 +71,7 @@ pub extern "C" fn lab_bay_ask(
         Err(status) => return status,
     };
     let status = match &mut *inside {
-        Inside::Open(room) => ask_in(room, asked, sets, now),
+        Inside::Open(machine) => ask_in(machine, asked, sets, now),
     };
     put(&mut bay.slot, &mut bay.live, inside);
     status
@@ -87,7 +87,7 @@ pub extern "C" fn lab_bay_let_go(alloc: Global, bay: &mut Handle, number: u64, n
         Err(status) => return status,
     };
     let status = match &mut *inside {
-        Inside::Open(room) => let_go_in(room, number, now),
+        Inside::Open(machine) => let_go_in(machine, number, now),
     };
     put(&mut bay.slot, &mut bay.live, inside);
     status
@@ -103,7 +103,7 @@ pub extern "C" fn lab_bay_take_away(alloc: Global, bay: &mut Handle, number: u64
         Err(status) => return status,
     };
     let status = match &mut *inside {
-        Inside::Open(room) => take_away_in(room, number, now),
+        Inside::Open(machine) => take_away_in(machine, number, now),
     };
     put(&mut bay.slot, &mut bay.live, inside);
     status
@@ -119,7 +119,7 @@ pub extern "C" fn lab_bay_leave(alloc: Global, bay: &mut Handle, number: u64, no
         Err(status) => return status,
     };
     let status = match &mut *inside {
-        Inside::Open(room) => leave_in(room, number, now),
+        Inside::Open(machine) => leave_in(machine, number, now),
     };
     put(&mut bay.slot, &mut bay.live, inside);
     status
@@ -135,7 +135,7 @@ pub extern "C" fn lab_bay_gone(alloc: Global, bay: &mut Handle, number: u64, now
         Err(status) => return status,
     };
     match &mut *inside {
-        Inside::Open(room) => room.gone(number, now),
+        Inside::Open(machine) => machine.gone(number, now),
     }
     put(&mut bay.slot, &mut bay.live, inside);
     0
@@ -151,7 +151,7 @@ pub extern "C" fn lab_bay_stop(alloc: Global, bay: &mut Handle, now: u64) -> u32
         Err(status) => return status,
     };
     match &mut *inside {
-        Inside::Open(room) => room.stop(now),
+        Inside::Open(machine) => machine.stop(now),
     }
     put(&mut bay.slot, &mut bay.live, inside);
     0
@@ -172,7 +172,7 @@ pub extern "C" fn lab_bay_tell(
         Err(status) => return status,
     };
     let status = match &mut *inside {
-        Inside::Open(room) => tell_in(room, done, outcome),
+        Inside::Open(machine) => tell_in(machine, done, outcome),
     };
     put(&mut bay.slot, &mut bay.live, inside);
     status

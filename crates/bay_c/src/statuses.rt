@@ -1,8 +1,8 @@
 //! The statuses.
 ghost use Rattle.std.specs.Prelude.{◌≡◌};
-ghost use Rattle.bay_c.specs.Telling.{refusal_status, not_held_status};
+ghost use Rattle.bay_c.specs.Telling.{refusal_status, not_held_status, not_opened_status, not_noted_status};
 
-use bay_machine::{NotAsked, NotHeld};
+use bay_machine::{NotAsked, NotHeld, NotNoted, NotOpened};
 
 /// The status if there is no memory.
 pub(crate) const NO_MEMORY: u32 = 5;
@@ -10,8 +10,8 @@ pub(crate) const NO_MEMORY: u32 = 5;
 /// The status if there is nothing to tell.
 pub(crate) const NOTHING: u32 = 8;
 
-/// The status if there are too many classes.
-pub(crate) const TOO_MANY_CLASSES: u32 = 22;
+/// The status if the caller's room is too small.
+pub(crate) const NO_ROOM: u32 = 6;
 
 /// The status that says why nobody asks.
 pub(crate) fn refusal_status(why: NotAsked) -> u32
@@ -36,5 +36,25 @@ pub(crate) fn not_held_status(why: NotHeld) -> u32
     match why {
         NotHeld::Waits => 8,
         NotHeld::Over => 26,
+    }
+}
+
+/// The status that says why there is no bay.
+pub(crate) fn not_opened_status(why: NotOpened) -> u32
+    ensures { result ≡ not_opened_status why }
+{
+    match why {
+        NotOpened::Classes => 22,
+        NotOpened::NoMemory => NO_MEMORY,
+    }
+}
+
+/// The status that says why nothing is noted.
+pub(crate) fn not_noted_status(why: NotNoted) -> u32
+    ensures { result ≡ not_noted_status why }
+{
+    match why {
+        NotNoted::NoText => 24,
+        NotNoted::NoMemory => NO_MEMORY,
     }
 }

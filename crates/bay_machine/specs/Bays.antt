@@ -1,5 +1,5 @@
 -- For readers: what the calls of a bay do with its log, and what is true of every bay.
-use Rattle.std.specs.Prelude.{◌≡◌, ℕ, ◌+◌, ◌≤◌, true, List, ◌++◌, length, Option, Some, Result}
+use Rattle.std.specs.Prelude.{◌≡◌, ℕ, ◌+◌, ◌≤◌, ◌<◌, true, List, ◌++◌, length, Option, Some, Result}
 use Rattle.std.specs.declared.alloc.AllocError.{AllocError}
 use Rattle.bay_book.specs.declared.ask.Ask.{Ask}
 use Rattle.bay_book.specs.declared.ask.Heard.TheVariants.{Holds as HeardHolds}
@@ -11,6 +11,9 @@ use Rattle.bay_log.specs.Lines.{base_of, log_text}
 use Rattle.bay_log.specs.Logs.{LogView, IsStanding}
 use Rattle.bay_log.specs.Reads.{IsRead}
 use Rattle.bay_log.specs.Alive.{alive}
+use Rattle.bay_machine.specs.declared.bay.NotOpened.{NotOpened}
+use Rattle.bay_machine.specs.declared.bay.NotOpened.TheVariants.{Classes, NoMemory as NotOpenedMemory}
+use Rattle.bay_machine.specs.declared.classes.Class.{Class}
 use Rattle.bay_machine.specs.declared.bay.NotNoted.{NotNoted}
 use Rattle.bay_machine.specs.declared.bay.NotNoted.TheVariants.{NoText, NoMemory}
 use Rattle.bay_machine.specs.Members.{Has}
@@ -28,6 +31,11 @@ pub record IsKept (x : BayView) : Type 0 where
 pub record Writes (result : Result (Unit {0}) AllocError) (old new : BayView) : Type 0 where
   pub writes : WritesOwed result (pages old.room.book old.log) (pages new.room.book new.log)
   pub same : new.room ≡ with_book old.room new.room.book
+
+-- it has more than 32 classes; or there is no memory
+abbrev pub IsWhyNotOpened : List Class → NotOpened → Type 0
+IsWhyNotOpened classes Classes = 32 < length classes
+IsWhyNotOpened classes NotOpenedMemory = Unit {0}
 
 -- it isn't the text of a note; or it is, and there is no memory
 abbrev pub IsWhyNotNoted : List ℕ → NotNoted → Type 0

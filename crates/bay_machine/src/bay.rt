@@ -6,7 +6,7 @@ ghost use Rattle.bay_log.specs.Logs.{end_of, unsent_of, beginning, adding, sendi
 ghost use Rattle.bay_machine.specs.Rooms.{IsOpened, Asks, IsWhyNot, Ends, IsWhyNotHeld, Leaves, Goes, Passes, Stops, reached, Tells};
 ghost use Rattle.bay_machine.specs.Following.{IsNextMoment};
 ghost use Rattle.bay_machine.specs.Views.{core_of};
-ghost use Rattle.bay_machine.specs.Bays.{with_room, with_log, IsKept, Writes, IsWhyNotNoted};
+ghost use Rattle.bay_machine.specs.Bays.{with_room, with_log, IsKept, Writes, IsWhyNotOpened, IsWhyNotNoted};
 
 use crate::classes::Class;
 use crate::request::{NotAsked, NotHeld, Request};
@@ -64,7 +64,8 @@ impl Bay {
         most: u32,
         head: [u8; 32],
     ) -> Result<Bay, NotOpened>
-        ensures { IfOk result (λ bay. IsOpened classes.items terms limit most bay.room × (bay.log ≡ beginning head 0 0)) }
+        ensures opened { IfOk result (λ bay. IsOpened classes.items terms limit most bay.room × (bay.log ≡ beginning head 0 0)) }
+        ensures why { IfErr result (λ why. IsWhyNotOpened classes.items why) }
     {
         let Ok(log) = Log::begin(alloc, head, 0, 0) else {
             return Err(NotOpened::NoMemory);
