@@ -14,3 +14,4 @@ pub mod Logged
 pub mod LoggedCalls
 pub mod Kept
 pub mod Next
+pub mod Restored

@@ -15,6 +15,7 @@ mod letting_in;
 mod moments;
 mod place;
 mod request;
+mod restoring;
 mod room;
 mod stopping;
 mod telling;
