@@ -1,5 +1,5 @@
 -- For readers: those that held by the log hold again.
-use Rattle.std.specs.Prelude.{◌≡◌, ℕ, ◌<◌, ◌≤◌, Bool, true, false, List, [], slice_index_or, length, Option, Some, None}
+use Rattle.std.specs.Prelude.{◌≡◌, ℕ, ◌+◌, ◌<◌, ◌≤◌, min, Bool, true, false, List, [], ◌∷◌, All, slice_index_or, length, Option, Some, None}
 use Rattle.bay_line.specs.Lines.{LineView}
 use Rattle.bay_book.specs.declared.ask.Ask.{Ask}
 use Rattle.bay_book.specs.declared.ask.Heard.TheVariants.{Holds as HeardHolds}
@@ -11,12 +11,14 @@ use Rattle.bay_book.specs.Books.{BookView, restore}
 use Rattle.bay_log.specs.declared.alive.Holder.{Holder}
 use Rattle.bay_log.specs.declared.line.Entry.{Entry}
 use Rattle.bay_log.specs.declared.line.Line.{Line}
+use Rattle.bay_log.specs.declared.line.Line.TheVariants.{Head, Hold as HoldLine, Back, End as EndLine, Note}
 use Rattle.bay_log.specs.Alive.{alive}
 use Rattle.bay_machine.specs.declared.classes.Class.{Class}
 use Rattle.bay_machine.specs.Members.{Has}
 use Rattle.bay_machine.specs.Classes.{class_at, is_within}
 use Rattle.bay_machine.specs.Cores.{core, IsTied, IsFreeClass}
 use Rattle.bay_machine.specs.Pages.{entry_of}
+use Rattle.bay_machine.specs.Views.{RoomView}
 
 -- (none)
 abbrev pub no_holder : Holder
@@ -73,3 +75,32 @@ IsThere book n e = (a : Ask) × Has book.asks a × (a.number ≡ n) × (entry_of
 -- so is each that holds by these lines
 abbrev pub AreDone : List Line → BookView → Type 0
 AreDone lines book = (n : ℕ) (e : Entry) → alive lines n ≡ Some e → IsThere book n e
+
+-- ---- all of it
+
+-- the number behind the one that a line has, if there is one; a head says which numbers were given before
+abbrev pub after_line : Line → ℕ
+after_line (Head bay base next) = next
+after_line (HoldLine ask entry) = min (ask + 1) 18446744073709551615
+after_line (Back from to) = min (to + 1) 18446744073709551615
+after_line (EndLine ask how) = min (ask + 1) 18446744073709551615
+after_line (Note ask text) = min (ask + 1) 18446744073709551615
+
+-- the head of these lines is this bay's
+abbrev pub IsOf : List ℕ → List Line → Type 0
+IsOf head [] = ⊥
+IsOf head (Head bay base next ∷ lines) = bay ≡ head
+IsOf head (HoldLine ask entry ∷ lines) = ⊥
+IsOf head (Back from to ∷ lines) = ⊥
+IsOf head (EndLine ask how ∷ lines) = ⊥
+IsOf head (Note ask text ∷ lines) = ⊥
+
+-- Just those hold that held by these lines, each what it held. They were told so, and the lines outlive a crash. Their clients are gone since this moment. Nobody
+-- waits. And the next number is behind all that the lines have
+pub record IsBack (lines : List Line) (moment position : ℕ) (x : RoomView) : Type 0 where
+  pub nobody_waits : x.line.wishes ≡ []
+  pub each : (a : Ask) → Has x.book.asks a → IsRestored lines moment position a
+  pub all : AreDone lines x.book
+  pub next : All (λ line. after_line line ≤ x.book.next) lines
+  pub moment_is : x.moment ≡ moment
+  pub durable : x.book.durable ≡ position

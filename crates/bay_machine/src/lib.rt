@@ -25,5 +25,6 @@ mod writing;
 pub use bay::{Bay, NotNoted, NotOpened};
 pub use classes::Class;
 pub use request::{NotAsked, NotHeld, Request};
+pub use restoring::NotBack;
 pub use telling::Told;
 pub use terms::Terms;

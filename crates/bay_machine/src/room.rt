@@ -1,9 +1,10 @@
 //! The room: who waits, who holds, and what is told; all but the log.
-ghost use Rattle.std.specs.Prelude.{◌≡◌, ◌<◌, ◌≤◌, length, Some, None, OnOk, OnErr, IfErr, IfSome};
+ghost use Rattle.std.specs.Prelude.{◌≡◌, false, ◌<◌, ◌≤◌, length, Some, None, OnOk, OnErr, IfErr, IfSome, IfOk};
 ghost use Rattle.bay_book.specs.declared.ask.End.TheVariants.{LetGo as EndLetGo, TakenAway as EndTakenAway};
 ghost use Rattle.bay_machine.specs.Rooms.{IsOpened, Asks, IsWhyNot, Ends, IsWhyNotHeld, Leaves, Goes, Passes, Stops, reached, with_book, Tells, IsKept};
 ghost use Rattle.bay_machine.specs.Following.{IsNextMoment};
 ghost use Rattle.bay_machine.specs.Views.{core_of};
+ghost use Rattle.bay_machine.specs.Restoring.{IsBack};
 ghost use Rattle.bay_machine.specs.Pages.{pages, Writes, IsLogged};
 
 use crate::asking::{take, why_not};
@@ -12,13 +13,14 @@ use crate::following::{end_and_follow, follow};
 use crate::moments::next_moment;
 use crate::place::{Place, mark_gone, place_of};
 use crate::request::{NotAsked, NotHeld, Request};
+use crate::restoring::{NotBack, restored_book};
 use crate::stopping::end_all_that_wait;
 use crate::telling::{Told, is_still_told, tell_next};
 use crate::terms::Terms;
 use crate::writing::write_owed;
 use bay_book::{Book, End};
-use bay_line::Line;
-use bay_log::Log;
+use bay_line::Line as Waiting;
+use bay_log::{Line, Log};
 use std::alloc::{AllocError, Global};
 use std::marker::Model;
 
@@ -27,7 +29,7 @@ use std::marker::Model;
 pub struct Room {
     classes: Vec<Class, Global>,
     terms: Terms,
-    line: Line,
+    line: Waiting,
     book: Book,
     moment: u64,
     stopped: bool,
@@ -63,9 +65,39 @@ impl Room {
         Some(Room {
             classes,
             terms,
-            line: Line::nobody(alloc, limit, most),
+            line: Waiting::nobody(alloc, limit, most),
             book: Book::nobody(alloc),
             moment: 0,
+            stopped: false,
+            telling: None,
+            serial: 0,
+        })
+    }
+
+    /// A room in which just those hold that held by these lines of a log. They outlive a crash up to this position. It takes memory.
+    pub(crate) fn resume(
+        alloc: Global,
+        classes: Vec<Class, Global>,
+        terms: Terms,
+        limit: usize,
+        most: u32,
+        lines: &[Line],
+        position: u64,
+        now: u64,
+    ) -> Result<Room, NotBack>
+        ensures back { IfOk result (λ room. IsBack lines.now now position room) }
+        ensures terms { IfOk result (λ room. (room.classes ≡ classes.items) × (room.terms ≡ terms) × (room.stopped ≡ false)) }
+    {
+        if 32 < classes.len() {
+            return Err(NotBack::Classes);
+        }
+        let book = restored_book(alloc, &classes, lines, position, now)?;
+        Ok(Room {
+            classes,
+            terms,
+            line: Waiting::nobody(alloc, limit, most),
+            book,
+            moment: now,
             stopped: false,
             telling: None,
             serial: 0,
