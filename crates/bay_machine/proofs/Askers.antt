@@ -23,7 +23,7 @@ use Rattle.bay_machine.proofs.InLine.{wishes_cases, below_of}
 
 -- ---- the request fits
 
-if_none : (b : Bool) (why : NotAsked) (rest : Option NotAsked) → (if b then Some why else rest) ≡ None → (b ≡ false) × (rest ≡ None)
+pub if_none : (b : Bool) (why : NotAsked) (rest : Option NotAsked) → (if b then Some why else rest) ≡ None → (b ≡ false) × (rest ≡ None)
 if_none true why rest h = absurd (cc)
 if_none false why rest h = (refl, h)
 

@@ -81,7 +81,13 @@ in_service old new now a h (inr (inr (inl (other, ne, inl c)))) = record {
 }
 in_service old new now a h (inr (inr (inl (other, ne, inr c)))) = record { mid = _; goes = c.1; has = h }
 in_service old new now a h (inr (inr (inr (inl (other, ne, c))))) = record { mid = _; goes = c.2; has = marked_other other _ old.book c.0 a ne c.1 h }
-in_service old new now a h (inr (inr (inr (inr c)))) = record { mid = _; goes = c; has = h }
+in_service old new now a h (inr (inr (inr (inr (inl (other, owner, needs, ne, c)))))) = record {
+  mid = _;
+  goes = c.2;
+  has = subst (λ (b : BookView). Has b.asks a) (sym c.1.6)
+      (kept_set old.book.asks c.1.0 _ a h (λ is. ne (sym c.1.2.its ∙ ap (λ (b : Ask). b.number) is)));
+}
+in_service old new now a h (inr (inr (inr (inr (inr c))))) = record { mid = _; goes = c; has = h }
 
 pub who_holds : (old new : RoomView) (now : ℕ) (a : Ask) → HoldsIn old.book a → IsCallOfOthers a.number now old new
     → HoldsOn old.classes old.terms new.moment new.book.asks a
@@ -91,8 +97,10 @@ who_holds old new now a h (inr (inr (inl c))) = let l = in_service old new now a
 who_holds old new now a h (inr (inr (inr (inl c)))) =
     let l = in_service old new now a h.0 (inr (inr (inr (inl c)))) in goes_on_holds now l.mid old new a l.goes h.1 l.has
 who_holds old new now a h (inr (inr (inr (inr (inl c))))) =
-    let l = in_service old new now a h.0 (inr (inr (inr (inr c)))) in goes_on_holds now l.mid old new a l.goes h.1 l.has
-who_holds old new now a h (inr (inr (inr (inr (inr c))))) =
+    let l = in_service old new now a h.0 (inr (inr (inr (inr (inl c))))) in goes_on_holds now l.mid old new a l.goes h.1 l.has
+who_holds old new now a h (inr (inr (inr (inr (inr (inl c)))))) =
+    let l = in_service old new now a h.0 (inr (inr (inr (inr (inr c))))) in goes_on_holds now l.mid old new a l.goes h.1 l.has
+who_holds old new now a h (inr (inr (inr (inr (inr (inr c)))))) =
     goes_on_holds now c.0 _ new a c.2 h.1 (stop_all (length old.book.asks) (core_of old) c.0 a h.1 c.1 h.0)
 
 pub who_waits : (old new : RoomView) (now : ℕ) (a : Ask) → Has old.book.asks a → a.stage ≡ Waits → IsCallInService a.number now old new

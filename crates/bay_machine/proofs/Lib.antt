@@ -15,3 +15,4 @@ pub mod LoggedCalls
 pub mod Kept
 pub mod Next
 pub mod Restored
+pub mod Waited

@@ -2,7 +2,6 @@
 use Rattle.std.proofs.Common.{◌≡◌, ◌≢◌, ◌⊎◌, ℕ, zero, suc, ◌+◌, ◌<◌, ◌≤◌, Bool, true, false, not, nat_eq, if◌then◌else◌, List, [], ◌∷◌, ◌++◌, length, get_or, Option, Some, None, refl, sym, ap, ◌∙◌, subst, inl, inr, arith}
 use Rattle.std.specs.List.{count_by}
 use Rattle.std.proofs.lemmas.Bool.{cases_eq, cases_Bool, eq-eqb, ne_eqb, false≢true}
-use Rattle.std.proofs.lemmas.List.{append-nil}
 use Rattle.std.proofs.lemmas.List.Sums.{sum_by_push}
 use Rattle.bay_line.specs.Lines.{LineView}
 use Rattle.bay_line.specs.declared.wish.Wish.{Wish}
@@ -17,14 +16,13 @@ use Rattle.bay_book.specs.Books.{BookView, restore, skip}
 use Rattle.bay_log.specs.declared.alive.Holder.{Holder}
 use Rattle.bay_log.specs.declared.line.Entry.{Entry}
 use Rattle.bay_log.specs.declared.line.Line.{Line}
-use Rattle.bay_log.specs.Logs.{LogView, end_of}
 use Rattle.bay_log.specs.Alive.{alive}
 use Rattle.bay_log.specs.Holders.{entry_in, AreApart, AreHolders}
 use Rattle.bay_machine.specs.declared.classes.Class.{Class}
 use Rattle.bay_machine.specs.Members.{Has}
 use Rattle.bay_machine.specs.Classes.{class_at, is_within}
 use Rattle.bay_machine.specs.Cores.{core, IsTied, IsFreeClass, HoldsIn}
-use Rattle.bay_machine.specs.Pages.{entry_of, IsLogged}
+use Rattle.bay_machine.specs.Pages.{entry_of}
 use Rattle.bay_machine.specs.Restoring.{holder_at, no_holder, IsUnused, MayHold, IsNextTo, AreAlone, Restores, IsRestored, AreRestored, IsThere, AreDone}
 use Rattle.bay_machine.proofs.Members.{place_of, append_cases, append_first, append_second}
 use Rattle.bay_machine.proofs.Sets.{common_comm}
@@ -182,19 +180,3 @@ all_done lines holders book are none done n e is =
 pub skipped_alone : (classes : List Class) (book : BookView) (next : ℕ) → AreAlone classes book → AreAlone classes (skip book next)
 skipped_alone classes book next alone line none =
     let t = alone line none in record { in_line = t.in_line; by_book = t.by_book; apart = t.apart; few = t.few; within = t.within }
-
--- the log of those that hold again says so
-pub restored_logged : (book : BookView) (log : LogView) (moment position : ℕ) → position ≡ end_of log → AreRestored log.lines moment position book
-    → IsLogged book log
-restored_logged book log moment position at each a p h holds mark =
-    let r = each.1 a h in
-    let same : At position ≡ At p = sym r.line ∙ mark in
-    let is : position ≡ p = cc in
-    record {
-      front = log.lines;
-      rest = [];
-      is = sym (append-nil log.lines);
-      so_far = omega (arith, at, is);
-      once = refl;
-      holds = r.by_log;
-    }

@@ -17,7 +17,7 @@ use Rattle.bay_machine.specs.Classes.{class_at, is_within}
 use Rattle.bay_machine.specs.Cores.{Core, HoldsIn, ended}
 use Rattle.bay_machine.specs.Following.{IsDue, IsWanted, HasSteps}
 use Rattle.bay_machine.specs.Views.{RoomView, core_of, GoesOn}
-use Rattle.bay_machine.specs.Rooms.{Asks, Ends, Leaves, Goes, Passes, Stops}
+use Rattle.bay_machine.specs.Rooms.{Asks, Ends, Leaves, Goes, ComesBack, Passes, Stops}
 
 -- ---- who holds
 
@@ -50,6 +50,7 @@ IsCallOfOthers number now old new =
     ⊎ ((how : End) × (other : ℕ) × (other ≢ number) × Ends how other now old new)
     ⊎ ((other : ℕ) × (other ≢ number) × Leaves other now old new)
     ⊎ ((other : ℕ) × (other ≢ number) × Goes other now old new)
+    ⊎ ((other : ℕ) × (owner : ℕ) × (needs : ℕ) × (other ≢ number) × ComesBack other owner now old (Some needs) new)
     ⊎ Passes now old new
     ⊎ Stops now old new
 
@@ -66,6 +67,7 @@ IsCallInService number now old new =
     ⊎ ((how : End) × (other : ℕ) × (other ≢ number) × Ends how other now old new)
     ⊎ ((other : ℕ) × (other ≢ number) × Leaves other now old new)
     ⊎ ((other : ℕ) × (other ≢ number) × Goes other now old new)
+    ⊎ ((other : ℕ) × (owner : ℕ) × (needs : ℕ) × (other ≢ number) × ComesBack other owner now old (Some needs) new)
     ⊎ Passes now old new
 
 -- whoever waits goes on to wait, or lapses, or comes to hold

@@ -13,3 +13,4 @@ pub mod Pages
 pub mod BayViews
 pub mod Bays
 pub mod Restoring
+pub mod LineLaws

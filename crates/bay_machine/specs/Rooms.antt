@@ -20,7 +20,7 @@ use Rattle.bay_machine.specs.Cores.{Core, core, ended}
 use Rattle.bay_machine.specs.Requests.{why_not, asked, IsWhyNotTaken}
 use Rattle.bay_machine.specs.Stopping.{StopsTo}
 use Rattle.bay_machine.specs.Tellings.{is_still_told, TellsNext}
-use Rattle.bay_machine.specs.Standings.{StandsAt, IsGone, MarksGone}
+use Rattle.bay_machine.specs.Standings.{StandsAt, IsGone, MarksGone, MarksBack}
 use Rattle.bay_machine.specs.Views.{RoomView, core_of, IsRoom, with_core, GoesOn}
 
 -- what is true of every room
@@ -87,6 +87,11 @@ Leaves number now old new =
 abbrev pub Goes : ℕ → ℕ → RoomView → RoomView → Type 0
 Goes number now old new =
     (book : BookView) × MarksGone number (max old.moment now) old.book book × GoesOn now (core old.line book) old new
+
+-- Its client is there again, and holds this; and all follows from that. Or it is over, or another's, and nothing changed
+abbrev pub ComesBack : ℕ → ℕ → ℕ → RoomView → Option ℕ → RoomView → Type 0
+ComesBack number owner now old (Some needs) new = (book : BookView) × MarksBack number owner old.book (Some needs) book × GoesOn now (core old.line book) old new
+ComesBack number owner now old None new = MarksBack number owner old.book None old.book × (new ≡ old)
 
 -- ---- the room stops
 

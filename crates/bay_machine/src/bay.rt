@@ -1,10 +1,11 @@
 //! The bay: the room and its log.
-ghost use Rattle.std.specs.Prelude.{◌≡◌, ◌∷◌, ◌++◌, [], OnOk, OnErr, IfOk, IfErr};
+ghost use Rattle.std.specs.Prelude.{◌≡◌, ◌<◌, length, ◌∷◌, ◌++◌, [], OnOk, OnErr, IfOk, IfErr};
 ghost use Rattle.bay_book.specs.declared.ask.End.TheVariants.{LetGo as EndLetGo, TakenAway as EndTakenAway};
 ghost use Rattle.bay_log.specs.declared.line.Line.TheVariants.{Note as NoteLine};
+ghost use Rattle.bay_book.specs.Asks.{ask_at};
 ghost use Rattle.bay_log.specs.Reads.{IsRead};
 ghost use Rattle.bay_log.specs.Logs.{end_of, unsent_of, beginning, adding, sending, reaching, failing};
-ghost use Rattle.bay_machine.specs.Rooms.{IsOpened, Asks, IsWhyNot, Ends, IsWhyNotHeld, Leaves, Goes, Passes, Stops, reached, Tells};
+ghost use Rattle.bay_machine.specs.Rooms.{IsOpened, Asks, IsWhyNot, Ends, IsWhyNotHeld, Leaves, Goes, ComesBack, Passes, Stops, reached, Tells};
 ghost use Rattle.bay_machine.specs.Following.{IsNextMoment};
 ghost use Rattle.bay_machine.specs.Views.{core_of};
 ghost use Rattle.bay_machine.specs.Bays.{Resumes, with_log, IsKept, Writes, IsWhyNotNoted};
@@ -15,6 +16,7 @@ use crate::restoring::{NotBack, is_of};
 use crate::room::Room;
 use crate::telling::Told;
 use crate::terms::Terms;
+use bay_book::Ask;
 use bay_log::{Fault, Found, Line, Log, Text, is_text, read};
 use std::alloc::{AllocError, Global};
 use std::marker::Model;
@@ -189,6 +191,29 @@ impl Bay {
         ensures log { self.new.log ≡ self.old.log }
     {
         self.room.gone(number, now);
+    }
+
+    /// The client of an ask is there again. Answers what the ask holds; none, if it is over, or isn't this owner's.
+    pub fn back(&mut self, number: u64, owner: u128, now: u64) -> Option<u64>
+        ensures room { ComesBack number owner now self.old.room result self.new.room }
+        ensures log { self.new.log ≡ self.old.log }
+    {
+        self.room.back(number, owner, now)
+    }
+
+    /// How many asks are in the book.
+    pub fn len(&self) -> usize
+        ensures { result ≡ length self.now.room.book.asks }
+    {
+        self.room.len()
+    }
+
+    /// The ask at this place of the book.
+    pub fn ask_at(&self, place: usize) -> Ask
+        requires { place < length self.now.room.book.asks }
+        ensures { result ≡ ask_at self.now.room.book.asks place }
+    {
+        self.room.ask_at(place)
     }
 
     /// The bay stops: nobody may ask any more, and all that wait are over. Who holds goes on to hold.
