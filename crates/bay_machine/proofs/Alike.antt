@@ -1,7 +1,7 @@
 -- Asks that are as far as they were.
-use Rattle.std.proofs.Common.{◌≡◌, ◌⊎◌, ℕ, zero, suc, ◌+◌, ◌<◌, ◌≤◌, Bool, true, false, ◌&&◌, ◌||◌, not, nat_eq, if◌then◌else◌, is_some, List, [], ◌∷◌, length, set, map, ◌^◌, Option, Some, None, refl, sym, ap, ◌∙◌, subst, inl, inr, arith}
+use Rattle.std.proofs.Common.{◌≡◌, ℕ, ◌+◌, ◌<◌, ◌≤◌, Bool, true, ◌&&◌, ◌||◌, not, nat_eq, if◌then◌else◌, is_some, List, [], ◌∷◌, length, set, map, ◌^◌, Option, Some, None, refl, sym, ap, ◌∙◌, subst, inl, inr, arith}
 use Rattle.std.specs.List.{count_by, filter}
-use Rattle.std.proofs.lemmas.Bool.{cases_Bool, false≢true}
+use Rattle.std.proofs.lemmas.Bool.{cases_Bool}
 use Rattle.std.proofs.lemmas.List.Sums.{sum_by-cons}
 use Rattle.bay_line.specs.Lines.{LineView}
 use Rattle.bay_book.specs.declared.ask.Ask.{Ask}
@@ -10,12 +10,12 @@ use Rattle.bay_book.specs.declared.ask.Stage.{Stage}
 use Rattle.bay_book.specs.declared.ask.Stage.TheVariants.{Waits}
 use Rattle.bay_book.specs.Asks.{ask_at, is_holding, is_over, holds_class, given, hearing, gone_since, back_again, is_done, has_heard_end, has_left, is_owed}
 use Rattle.bay_book.specs.Moments.{common}
-use Rattle.bay_book.specs.Books.{BookView, IsSound, give, heard, set_gone, is_back, purge, reach}
+use Rattle.bay_book.specs.Books.{BookView, IsSound, give, heard, set_gone, is_back, purge}
 use Rattle.bay_machine.specs.declared.classes.Class.{Class}
 use Rattle.bay_machine.specs.declared.telling.Told.{Told}
 use Rattle.bay_machine.specs.Members.{Has}
 use Rattle.bay_machine.specs.Classes.{class_at, is_within}
-use Rattle.bay_machine.specs.Cores.{Core, core, IsItsWish, IsTied}
+use Rattle.bay_machine.specs.Cores.{core, IsTied}
 use Rattle.bay_machine.specs.Standings.{MarksGone, MarksBack}
 use Rattle.bay_machine.specs.Tellings.{TellsNext}
 use Rattle.bay_machine.proofs.Members.{has_at, set_cases, set_new, set_other, filter_cases, filter_has, map_cases}

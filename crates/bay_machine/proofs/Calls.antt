@@ -1,29 +1,27 @@
 -- What the calls leave of others.
-use Rattle.std.proofs.Common.{◌≡◌, ◌≢◌, ◌⊎◌, ℕ, zero, suc, ◌+◌, ◌<◌, max, min, Bool, true, false, not, nat_eq, List, [], ◌∷◌, ◌++◌, length, Option, Some, None, refl, sym, ap, ◌∙◌, subst, inl, inr, arith}
+use Rattle.std.proofs.Common.{◌≡◌, ◌≢◌, ℕ, zero, suc, true, false, not, nat_eq, List, length, Some, sym, ap, ◌∙◌, subst, inl, inr, arith}
 use Rattle.std.specs.Int.{bit_at}
 use Rattle.std.specs.Int.Bits.{bit_and}
-use Rattle.std.proofs.lemmas.Bool.{false≢true, cases_eq, eq-eqb, ne_eqb}
-use Rattle.std.proofs.lemmas.Nat.Bits.{bit_at_and, bit_at-lt, bit_at-zero}
+use Rattle.std.proofs.lemmas.Bool.{false≢true, cases_eq, ne_eqb}
+use Rattle.std.proofs.lemmas.Nat.Bits.{bit_at_and, bit_at-zero}
 use Rattle.bay_book.specs.declared.ask.Ask.{Ask}
 use Rattle.bay_book.specs.declared.ask.End.{End}
 use Rattle.bay_book.specs.declared.ask.End.TheVariants.{Lapsed, NotWritten, Limit, Grace}
 use Rattle.bay_book.specs.declared.ask.Heard.{Heard}
-use Rattle.bay_book.specs.declared.ask.Heard.TheVariants.{Nothing}
 use Rattle.bay_book.specs.declared.ask.Stage.{Stage}
-use Rattle.bay_book.specs.declared.ask.Stage.TheVariants.{Waits, Holds, Over}
-use Rattle.bay_book.specs.Asks.{ask_at, no_ask, asker, over, is_holding}
-use Rattle.bay_book.specs.Moments.{common, is_past, is_late, until_at, later, after, limit_end, kept_until, if_holds}
-use Rattle.bay_book.specs.Books.{BookView, IsSound, set_gone}
+use Rattle.bay_book.specs.declared.ask.Stage.TheVariants.{Waits, Holds}
+use Rattle.bay_book.specs.Asks.{ask_at, no_ask, is_holding}
+use Rattle.bay_book.specs.Moments.{common, is_past, until_at, after, if_holds}
+use Rattle.bay_book.specs.Books.{BookView}
 use Rattle.bay_machine.specs.declared.classes.Class.{Class}
-use Rattle.bay_machine.specs.declared.request.Request.{Request}
 use Rattle.bay_machine.specs.declared.terms.Terms.{Terms}
 use Rattle.bay_machine.specs.Members.{Has}
-use Rattle.bay_machine.specs.Cores.{Core, core, HoldsIn, IsTied, ended}
-use Rattle.bay_machine.specs.Following.{IsDue, IsWanted, NobodyIsDue}
+use Rattle.bay_machine.specs.Cores.{Core, HoldsIn, ended}
+use Rattle.bay_machine.specs.Following.{IsDue, NobodyIsDue}
 use Rattle.bay_machine.specs.Standings.{MarksGone}
 use Rattle.bay_machine.specs.Stopping.{StopsOne, StopsTo}
 use Rattle.bay_machine.specs.Views.{RoomView, core_of, GoesOn}
-use Rattle.bay_machine.specs.Rooms.{IsKept, Asks, Ends, Leaves, Goes, Passes, Stops}
+use Rattle.bay_machine.specs.Rooms.{IsKept}
 use Rattle.bay_machine.specs.Laws.{HoldsOn, WaitsOn, IsCallOfOthers, IsCallInService, IsInTime, IsWellHeld}
 use Rattle.bay_machine.proofs.Members.{append_first, place_of, one_number}
 use Rattle.bay_machine.proofs.HoldsOn.{kept_set, steps_on, steps_waits_on, holds_not_waits}

@@ -1,10 +1,7 @@
 -- Those that held by the log hold again.
-use Rattle.std.proofs.Common.{◌≡◌, ◌≢◌, ◌⊎◌, ℕ, zero, suc, ◌+◌, ◌<◌, ◌≤◌, Bool, true, false, not, nat_eq, if◌then◌else◌, List, [], ◌∷◌, ◌++◌, length, get_or, Option, Some, None, refl, sym, ap, ◌∙◌, subst, inl, inr, arith}
-use Rattle.std.specs.List.{count_by}
-use Rattle.std.proofs.lemmas.Bool.{cases_eq, cases_Bool, eq-eqb, ne_eqb, false≢true}
+use Rattle.std.proofs.Common.{◌≡◌, ◌⊎◌, ℕ, zero, suc, ◌+◌, ◌<◌, ◌≤◌, Bool, true, false, nat_eq, if◌then◌else◌, List, [], ◌∷◌, ◌++◌, length, Option, Some, None, refl, sym, ap, ◌∙◌, subst, inl, inr, arith}
+use Rattle.std.proofs.lemmas.Bool.{cases_eq, eq-eqb, ne_eqb, false≢true}
 use Rattle.std.proofs.lemmas.List.Sums.{sum_by_push}
-use Rattle.bay_line.specs.Lines.{LineView}
-use Rattle.bay_line.specs.declared.wish.Wish.{Wish}
 use Rattle.bay_book.specs.declared.ask.Ask.{Ask}
 use Rattle.bay_book.specs.declared.ask.Mark.TheVariants.{At}
 use Rattle.bay_book.specs.declared.ask.Stage.{Stage}
@@ -21,9 +18,8 @@ use Rattle.bay_log.specs.Holders.{entry_in, AreApart, AreHolders}
 use Rattle.bay_machine.specs.declared.classes.Class.{Class}
 use Rattle.bay_machine.specs.Members.{Has}
 use Rattle.bay_machine.specs.Classes.{class_at, is_within}
-use Rattle.bay_machine.specs.Cores.{core, IsTied, IsFreeClass, HoldsIn}
-use Rattle.bay_machine.specs.Pages.{entry_of}
-use Rattle.bay_machine.specs.Restoring.{holder_at, no_holder, IsUnused, MayHold, IsNextTo, AreAlone, Restores, IsRestored, AreRestored, IsThere, AreDone}
+use Rattle.bay_machine.specs.Cores.{IsFreeClass}
+use Rattle.bay_machine.specs.Restoring.{holder_at, IsUnused, MayHold, IsNextTo, AreAlone, Restores, IsRestored, AreRestored, IsThere, AreDone}
 use Rattle.bay_machine.proofs.Members.{place_of, append_cases, append_first, append_second}
 use Rattle.bay_machine.proofs.Sets.{common_comm}
 

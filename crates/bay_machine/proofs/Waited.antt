@@ -1,26 +1,24 @@
 -- Calls are times of waiting.
-use Rattle.std.proofs.Common.{◌≡◌, ◌≢◌, ◌⊎◌, ℕ, zero, suc, ◌+◌, ◌<◌, ◌≤◌, max, Bool, false, List, length, length-append, Option, Some, None, refl, sym, ap, ◌∙◌, subst, inl, inr, arith}
+use Rattle.std.proofs.Common.{◌≡◌, ◌≢◌, ℕ, zero, suc, ◌+◌, ◌<◌, ◌≤◌, max, Bool, false, List, length, length-append, Option, Some, None, refl, sym, ap, ◌∙◌, subst, inl, inr, arith}
 use Rattle.std.proofs.lemmas.List.{length-map}
 use Rattle.bay_line.specs.declared.wish.Wish.{Wish}
 use Rattle.bay_line.specs.Turns.{pass_all, others}
-use Rattle.bay_line.specs.Lines.{LineView, Below, LetsIn as LineLetsIn, NextIsLetIn, asking, leaving, gone, wishes_of}
+use Rattle.bay_line.specs.Lines.{LineView, LetsIn as LineLetsIn, NextIsLetIn, asking, leaving, wishes_of}
 use Rattle.bay_line.specs.Bounds.{Waits, WaitsOnce}
 use Rattle.bay_line.specs.Chains.{EachReasonEnds}
-use Rattle.bay_book.specs.declared.ask.Ask.{Ask}
 use Rattle.bay_book.specs.declared.ask.End.{End}
 use Rattle.bay_book.specs.Asks.{ask_at}
-use Rattle.bay_book.specs.Books.{BookView, IsSound}
+use Rattle.bay_book.specs.Books.{BookView}
 use Rattle.bay_machine.specs.declared.classes.Class.{Class}
 use Rattle.bay_machine.specs.declared.request.Request.{Request}
 use Rattle.bay_machine.specs.declared.terms.Terms.{Terms}
-use Rattle.bay_machine.specs.Members.{Has}
 use Rattle.bay_machine.specs.Classes.{class_bit}
-use Rattle.bay_machine.specs.Cores.{Core, core, LetsIn, AreFree, ended}
-use Rattle.bay_machine.specs.Following.{Step, Steps, EndsInTime}
+use Rattle.bay_machine.specs.Cores.{Core, core, AreFree, ended}
+use Rattle.bay_machine.specs.Following.{Step, Steps}
 use Rattle.bay_machine.specs.Requests.{why_not, asked}
 use Rattle.bay_machine.specs.Standings.{MarksGone}
 use Rattle.bay_machine.specs.Views.{RoomView, core_of, GoesOn}
-use Rattle.bay_machine.specs.Rooms.{IsKept, Asks, Ends, Leaves, Goes, ComesBack, Passes}
+use Rattle.bay_machine.specs.Rooms.{IsKept, Asks}
 use Rattle.bay_machine.specs.LineLaws.{HasWish, IsCall, CallsAreWaited, EachHasAReason, NumbersRise}
 use Rattle.bay_machine.proofs.InLine.{others_cases, passed_cases}
 use Rattle.bay_machine.proofs.Askers.{if_none, fits_of, fits_next, tied_below}

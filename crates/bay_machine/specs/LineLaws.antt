@@ -1,15 +1,14 @@
 -- For readers: what holds of everybody who waits, and of numbers.
-use Rattle.std.specs.Prelude.{◌≡◌, ◌≢◌, ◌⊎◌, ℕ, ◌+◌, ◌<◌, ◌≤◌, List, length, Option, Some}
+use Rattle.std.specs.Prelude.{◌≡◌, ◌⊎◌, ℕ, ◌<◌, ◌≤◌, List, length, Some}
 use Rattle.bay_line.specs.declared.wish.Wish.{Wish}
 use Rattle.bay_line.specs.Bounds.{Waits}
 use Rattle.bay_line.specs.Chains.{HasWholeReason}
-use Rattle.bay_book.specs.declared.ask.Ask.{Ask}
 use Rattle.bay_book.specs.declared.ask.End.{End}
 use Rattle.bay_book.specs.Finding.{IsInUse}
 use Rattle.bay_machine.specs.declared.request.Request.{Request}
 use Rattle.bay_machine.specs.Members.{Has}
 use Rattle.bay_machine.specs.Cores.{Core, AreFree}
-use Rattle.bay_machine.specs.Views.{RoomView, core_of, GoesOn}
+use Rattle.bay_machine.specs.Views.{RoomView, GoesOn}
 use Rattle.bay_machine.specs.Rooms.{IsKept, Asks, Ends, Leaves, Goes, ComesBack, Passes}
 
 -- ---- who waits

@@ -1,14 +1,12 @@
 -- For readers: what the calls of a room do.
-use Rattle.std.specs.Prelude.{◌≡◌, ◌≢◌, ◌⊎◌, ℕ, zero, suc, ◌+◌, ◌<◌, ◌≤◌, max, Bool, true, false, List, [], length, Option, Some, None}
+use Rattle.std.specs.Prelude.{◌≡◌, ◌⊎◌, ℕ, ◌+◌, ◌<◌, ◌≤◌, max, true, false, List, length, Option, Some, None}
 use Rattle.bay_line.specs.Lines.{nobody as nobody_in_line}
 use Rattle.bay_book.specs.declared.ask.Ask.{Ask}
 use Rattle.bay_book.specs.declared.ask.End.{End}
 use Rattle.bay_book.specs.declared.ask.End.TheVariants.{Left}
 use Rattle.bay_book.specs.declared.ask.Stage.TheVariants.{Waits, Holds}
 use Rattle.bay_book.specs.Asks.{ask_at, is_over}
-use Rattle.bay_book.specs.Finding.{IsPlaceOf}
-use Rattle.bay_book.specs.Telling.{IsNextToTell}
-use Rattle.bay_book.specs.Books.{BookView, IsSound, nobody as nobody_in_book, set_gone, reach, heard, purge}
+use Rattle.bay_book.specs.Books.{BookView, IsSound, nobody as nobody_in_book, reach}
 use Rattle.bay_machine.specs.declared.classes.Class.{Class}
 use Rattle.bay_machine.specs.declared.request.NotAsked.{NotAsked}
 use Rattle.bay_machine.specs.declared.request.NotHeld.{NotHeld}

@@ -2,7 +2,7 @@
 use Rattle.std.specs.Prelude.{◌≡◌, ◌≢◌, ◌⊎◌, ℕ, ◌<◌, List, length, Option, Some, None}
 use Rattle.bay_book.specs.declared.ask.Ask.{Ask}
 use Rattle.bay_book.specs.declared.ask.Stage.{Stage}
-use Rattle.bay_book.specs.declared.ask.Stage.TheVariants.{Waits, Holds, Over}
+use Rattle.bay_book.specs.declared.ask.Stage.TheVariants.{Waits, Holds}
 use Rattle.bay_book.specs.Asks.{ask_at}
 use Rattle.bay_book.specs.Finding.{IsPlaceOf}
 use Rattle.bay_book.specs.Books.{BookView, set_gone, is_back}

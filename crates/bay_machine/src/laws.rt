@@ -1,5 +1,5 @@
 //! What holds of every bay. Each law is the contract of a function that does nothing.
-ghost use Rattle.bay_machine.specs.Bays.{ToldIsKept};
+ghost use Rattle.bay_machine.specs.Bays.{ToldIsKept, ToldComesBack};
 ghost use Rattle.bay_machine.specs.LineLaws.{CallsAreWaited, NobodyWaitsForNothing, NumbersRise};
 ghost use Rattle.bay_machine.specs.Laws.{IsWellHeld, WhoHoldsHoldsOn, WhoWaitsWaitsOn, AnswersInTime};
 
@@ -36,6 +36,13 @@ pub fn told_is_kept(bay: &Bay)
     bay.look();
     cut_lines_are_read();
     holds_at_the_cut();
+}
+
+/// So it comes back: in the bay that comes back after a crash, it holds what it held.
+pub fn told_comes_back(bay: &Bay)
+    ensures { ToldComesBack bay.now }
+{
+    told_is_kept(bay);
 }
 
 /// Each call is a time in which whoever is in line behind it waits. So the line's laws say by how many it is passed.

@@ -1,4 +1,4 @@
-use Rattle.std.proofs.Common.{ℕ, length, Some, None, subst}
+use Rattle.std.proofs.Common.{length, Some, None, subst}
 use Rattle.bay_machine.specs.Restoring.{IsNextTo}
 use Rattle.bay_machine.proofs.Restored.{so_far_more, all_done}
 use Rattle.bay_machine.proofs.restoring.restore_all.Goals as goal

@@ -1,6 +1,5 @@
 use Rattle.std.proofs.Common.{ℕ, List, refl, subst}
 use Rattle.bay_log.specs.declared.line.Line.{Line}
-use Rattle.bay_log.specs.Logs.{end_of}
 use Rattle.bay_machine.specs.Restoring.{IsOf, IsBack}
 use Rattle.bay_machine.proofs.bay.Bay.resume.Goals as goal
 

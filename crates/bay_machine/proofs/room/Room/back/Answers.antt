@@ -1,4 +1,4 @@
-use Rattle.std.proofs.Common.{ℕ, Option, Some, refl, sym, subst, List}
+use Rattle.std.proofs.Common.{Some, refl, sym, subst, List}
 use Rattle.bay_machine.specs.declared.classes.Class.{Class}
 use Rattle.bay_machine.specs.Cores.{core, IsTied}
 use Rattle.bay_machine.specs.Following.{Follows}
