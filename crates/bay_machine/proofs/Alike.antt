@@ -1,22 +1,22 @@
 -- Asks that are as far as they were.
-use Rattle.std.proofs.Common.{◌≡◌, ◌⊎◌, ℕ, zero, suc, ◌+◌, ◌<◌, ◌≤◌, Bool, true, false, ◌&&◌, ◌||◌, not, nat_eq, if◌then◌else◌, is_some, List, [], ◌∷◌, length, set, map, ◌^◌, Option, Some, None, refl, sym, ap, ◌∙◌, subst, inl, inr, arith}
+use Rattle.std.proofs.Common.{◌≡◌, ℕ, ◌+◌, ◌<◌, ◌≤◌, Bool, true, ◌&&◌, ◌||◌, not, nat_eq, if◌then◌else◌, is_some, List, [], ◌∷◌, length, set, map, ◌^◌, Option, Some, None, refl, sym, ap, ◌∙◌, subst, inl, inr, arith}
 use Rattle.std.specs.List.{count_by, filter}
-use Rattle.std.proofs.lemmas.Bool.{cases_Bool, false≢true}
+use Rattle.std.proofs.lemmas.Bool.{cases_Bool}
 use Rattle.std.proofs.lemmas.List.Sums.{sum_by-cons}
 use Rattle.bay_line.specs.Lines.{LineView}
 use Rattle.bay_book.specs.declared.ask.Ask.{Ask}
 use Rattle.bay_book.specs.declared.ask.Outcome.{Outcome}
 use Rattle.bay_book.specs.declared.ask.Stage.{Stage}
 use Rattle.bay_book.specs.declared.ask.Stage.TheVariants.{Waits}
-use Rattle.bay_book.specs.Asks.{ask_at, is_holding, is_over, holds_class, given, hearing, gone_since, is_done, has_heard_end, has_left, is_owed}
+use Rattle.bay_book.specs.Asks.{ask_at, is_holding, is_over, holds_class, given, hearing, gone_since, back_again, is_done, has_heard_end, has_left, is_owed}
 use Rattle.bay_book.specs.Moments.{common}
-use Rattle.bay_book.specs.Books.{BookView, IsSound, give, heard, set_gone, purge, reach}
+use Rattle.bay_book.specs.Books.{BookView, IsSound, give, heard, set_gone, is_back, purge}
 use Rattle.bay_machine.specs.declared.classes.Class.{Class}
 use Rattle.bay_machine.specs.declared.telling.Told.{Told}
 use Rattle.bay_machine.specs.Members.{Has}
 use Rattle.bay_machine.specs.Classes.{class_at, is_within}
-use Rattle.bay_machine.specs.Cores.{Core, core, IsItsWish, IsTied}
-use Rattle.bay_machine.specs.Standings.{MarksGone}
+use Rattle.bay_machine.specs.Cores.{core, IsTied}
+use Rattle.bay_machine.specs.Standings.{MarksGone, MarksBack}
 use Rattle.bay_machine.specs.Tellings.{TellsNext}
 use Rattle.bay_machine.proofs.Members.{has_at, set_cases, set_new, set_other, filter_cases, filter_has, map_cases}
 use Rattle.bay_machine.proofs.Tied.{count_set}
@@ -40,6 +40,9 @@ far_hearing what a = record { number = refl; class = refl; needs = refl; stage =
 
 far_gone : (moment : ℕ) (a : Ask) → AsFar a (gone_since moment a)
 far_gone moment a = record { number = refl; class = refl; needs = refl; stage = refl; deadline = refl }
+
+far_back : (a : Ask) → AsFar a (back_again a)
+far_back a = record { number = refl; class = refl; needs = refl; stage = refl; deadline = refl }
 
 -- each in the second was in the first; each that waits is in the second still; and of no class more hold
 pub record AreAsFar (old new : List Ask) : Type 0 where
@@ -176,3 +179,10 @@ told_tied classes line serial s old new (Some told) sound h t =
     subst (λ (b : BookView). IsTied classes (core line b)) (sym is.then) (heard_tied classes line old h.0.0 told.outcome sound is.next.0 t)
 told_tied classes line serial s old new None sound h t =
     subst (λ (b : BookView). IsTied classes (core line b)) (sym h.1) (purged_tied classes line old t)
+
+pub back_tied : (classes : List Class) (line : LineView) (number owner : ℕ) (old new : BookView) (needs : ℕ) → MarksBack number owner old (Some needs) new
+    → IsTied classes (core line old) → IsTied classes (core line new)
+back_tied classes line number owner old new needs m t =
+    subst (λ (b : BookView). IsTied classes (core line b)) (sym m.6)
+    (as_far_tied classes line old (is_back old m.0)
+    (as_far_set old m.0 (back_again (ask_at old.asks m.0)) m.2.inside (far_back (ask_at old.asks m.0))) t)

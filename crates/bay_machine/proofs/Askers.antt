@@ -1,29 +1,27 @@
 -- Somebody asks.
-use Rattle.std.proofs.Common.{◌≡◌, ◌≢◌, ◌⊎◌, ℕ, ◌+◌, ◌<◌, ◌≤◌, Bool, true, false, ◌||◌, not, nat_eq, nat_lt, nat_le, if◌then◌else◌, List, [], ◌∷◌, ◌++◌, length, get_or, Option, Some, None, refl, sym, ap, ◌∙◌, subst, inl, inr, arith, rules}
-use Rattle.std.specs.List.{count_by, list_any}
-use Rattle.std.proofs.lemmas.Bool.{cases_Bool, cases_eq, eq-eqb, ne_eqb, false≢true}
+use Rattle.std.proofs.Common.{◌≡◌, ◌≢◌, ℕ, ◌<◌, ◌≤◌, Bool, true, false, ◌||◌, not, nat_eq, nat_lt, nat_le, if◌then◌else◌, List, [], ◌∷◌, ◌++◌, length, get_or, Option, Some, None, refl, sym, ap, ◌∙◌, subst, inl, inr, arith, rules}
+use Rattle.std.specs.List.{list_any}
+use Rattle.std.proofs.lemmas.Bool.{eq-eqb, ne_eqb, false≢true}
 use Rattle.std.proofs.lemmas.List.Sums.{sum_by_push}
-use Rattle.std.proofs.lemmas.Bool.Decides.{nat_tests}
 use Rattle.bay_line.specs.declared.wish.Wish.{Wish}
 use Rattle.bay_line.specs.Turns.{others}
 use Rattle.bay_line.specs.Lines.{LineView, Below, wishes_of, asking, leaving}
 use Rattle.bay_book.specs.declared.ask.Ask.{Ask}
-use Rattle.bay_book.specs.declared.ask.Stage.TheVariants.{Waits}
 use Rattle.bay_book.specs.Asks.{asker, is_holding, holds_class, no_ask}
 use Rattle.bay_book.specs.Books.{BookView, IsSound}
 use Rattle.bay_machine.specs.declared.classes.Class.{Class}
 use Rattle.bay_machine.specs.declared.request.Request.{Request}
 use Rattle.bay_machine.specs.declared.request.NotAsked.{NotAsked}
 use Rattle.bay_machine.specs.Members.{Has}
-use Rattle.bay_machine.specs.Classes.{class_at, class_bit, is_within, has_no_set, has_empty, leaves}
-use Rattle.bay_machine.specs.Cores.{Core, core, IsTied, IsInLine, IsByBook}
-use Rattle.bay_machine.specs.Requests.{why_not, is_no_number, has_owner, asked}
-use Rattle.bay_machine.proofs.Members.{append_cases, append_first, append_second, has_at, place_of}
+use Rattle.bay_machine.specs.Classes.{class_at, class_bit, is_within, has_no_set, leaves}
+use Rattle.bay_machine.specs.Cores.{Core, IsTied}
+use Rattle.bay_machine.specs.Requests.{why_not, is_no_number, asked}
+use Rattle.bay_machine.proofs.Members.{append_cases, append_first, append_second, place_of}
 use Rattle.bay_machine.proofs.InLine.{wishes_cases, below_of}
 
 -- ---- the request fits
 
-if_none : (b : Bool) (why : NotAsked) (rest : Option NotAsked) → (if b then Some why else rest) ≡ None → (b ≡ false) × (rest ≡ None)
+pub if_none : (b : Bool) (why : NotAsked) (rest : Option NotAsked) → (if b then Some why else rest) ≡ None → (b ≡ false) × (rest ≡ None)
 if_none true why rest h = absurd (cc)
 if_none false why rest h = (refl, h)
 

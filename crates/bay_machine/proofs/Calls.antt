@@ -1,29 +1,27 @@
 -- What the calls leave of others.
-use Rattle.std.proofs.Common.{◌≡◌, ◌≢◌, ◌⊎◌, ℕ, zero, suc, ◌+◌, ◌<◌, max, min, Bool, true, false, not, nat_eq, List, [], ◌∷◌, ◌++◌, length, Option, Some, None, refl, sym, ap, ◌∙◌, subst, inl, inr, arith}
+use Rattle.std.proofs.Common.{◌≡◌, ◌≢◌, ℕ, zero, suc, true, false, not, nat_eq, List, length, Some, sym, ap, ◌∙◌, subst, inl, inr, arith}
 use Rattle.std.specs.Int.{bit_at}
 use Rattle.std.specs.Int.Bits.{bit_and}
-use Rattle.std.proofs.lemmas.Bool.{false≢true, cases_eq, eq-eqb, ne_eqb}
-use Rattle.std.proofs.lemmas.Nat.Bits.{bit_at_and, bit_at-lt, bit_at-zero}
+use Rattle.std.proofs.lemmas.Bool.{false≢true, cases_eq, ne_eqb}
+use Rattle.std.proofs.lemmas.Nat.Bits.{bit_at_and, bit_at-zero}
 use Rattle.bay_book.specs.declared.ask.Ask.{Ask}
 use Rattle.bay_book.specs.declared.ask.End.{End}
 use Rattle.bay_book.specs.declared.ask.End.TheVariants.{Lapsed, NotWritten, Limit, Grace}
 use Rattle.bay_book.specs.declared.ask.Heard.{Heard}
-use Rattle.bay_book.specs.declared.ask.Heard.TheVariants.{Nothing}
 use Rattle.bay_book.specs.declared.ask.Stage.{Stage}
-use Rattle.bay_book.specs.declared.ask.Stage.TheVariants.{Waits, Holds, Over}
-use Rattle.bay_book.specs.Asks.{ask_at, no_ask, asker, over, is_holding}
-use Rattle.bay_book.specs.Moments.{common, is_past, is_late, until_at, later, after, limit_end, kept_until, if_holds}
-use Rattle.bay_book.specs.Books.{BookView, IsSound, set_gone}
+use Rattle.bay_book.specs.declared.ask.Stage.TheVariants.{Waits, Holds}
+use Rattle.bay_book.specs.Asks.{ask_at, no_ask, is_holding}
+use Rattle.bay_book.specs.Moments.{common, is_past, until_at, after, if_holds}
+use Rattle.bay_book.specs.Books.{BookView}
 use Rattle.bay_machine.specs.declared.classes.Class.{Class}
-use Rattle.bay_machine.specs.declared.request.Request.{Request}
 use Rattle.bay_machine.specs.declared.terms.Terms.{Terms}
 use Rattle.bay_machine.specs.Members.{Has}
-use Rattle.bay_machine.specs.Cores.{Core, core, HoldsIn, IsTied, ended}
-use Rattle.bay_machine.specs.Following.{IsDue, IsWanted, NobodyIsDue}
+use Rattle.bay_machine.specs.Cores.{Core, HoldsIn, ended}
+use Rattle.bay_machine.specs.Following.{IsDue, NobodyIsDue}
 use Rattle.bay_machine.specs.Standings.{MarksGone}
 use Rattle.bay_machine.specs.Stopping.{StopsOne, StopsTo}
 use Rattle.bay_machine.specs.Views.{RoomView, core_of, GoesOn}
-use Rattle.bay_machine.specs.Rooms.{IsKept, Asks, Ends, Leaves, Goes, Passes, Stops}
+use Rattle.bay_machine.specs.Rooms.{IsKept}
 use Rattle.bay_machine.specs.Laws.{HoldsOn, WaitsOn, IsCallOfOthers, IsCallInService, IsInTime, IsWellHeld}
 use Rattle.bay_machine.proofs.Members.{append_first, place_of, one_number}
 use Rattle.bay_machine.proofs.HoldsOn.{kept_set, steps_on, steps_waits_on, holds_not_waits}
@@ -81,7 +79,13 @@ in_service old new now a h (inr (inr (inl (other, ne, inl c)))) = record {
 }
 in_service old new now a h (inr (inr (inl (other, ne, inr c)))) = record { mid = _; goes = c.1; has = h }
 in_service old new now a h (inr (inr (inr (inl (other, ne, c))))) = record { mid = _; goes = c.2; has = marked_other other _ old.book c.0 a ne c.1 h }
-in_service old new now a h (inr (inr (inr (inr c)))) = record { mid = _; goes = c; has = h }
+in_service old new now a h (inr (inr (inr (inr (inl (other, owner, needs, ne, c)))))) = record {
+  mid = _;
+  goes = c.2;
+  has = subst (λ (b : BookView). Has b.asks a) (sym c.1.6)
+      (kept_set old.book.asks c.1.0 _ a h (λ is. ne (sym c.1.2.its ∙ ap (λ (b : Ask). b.number) is)));
+}
+in_service old new now a h (inr (inr (inr (inr (inr c))))) = record { mid = _; goes = c; has = h }
 
 pub who_holds : (old new : RoomView) (now : ℕ) (a : Ask) → HoldsIn old.book a → IsCallOfOthers a.number now old new
     → HoldsOn old.classes old.terms new.moment new.book.asks a
@@ -91,8 +95,10 @@ who_holds old new now a h (inr (inr (inl c))) = let l = in_service old new now a
 who_holds old new now a h (inr (inr (inr (inl c)))) =
     let l = in_service old new now a h.0 (inr (inr (inr (inl c)))) in goes_on_holds now l.mid old new a l.goes h.1 l.has
 who_holds old new now a h (inr (inr (inr (inr (inl c))))) =
-    let l = in_service old new now a h.0 (inr (inr (inr (inr c)))) in goes_on_holds now l.mid old new a l.goes h.1 l.has
-who_holds old new now a h (inr (inr (inr (inr (inr c))))) =
+    let l = in_service old new now a h.0 (inr (inr (inr (inr (inl c))))) in goes_on_holds now l.mid old new a l.goes h.1 l.has
+who_holds old new now a h (inr (inr (inr (inr (inr (inl c)))))) =
+    let l = in_service old new now a h.0 (inr (inr (inr (inr (inr c))))) in goes_on_holds now l.mid old new a l.goes h.1 l.has
+who_holds old new now a h (inr (inr (inr (inr (inr (inr c)))))) =
     goes_on_holds now c.0 _ new a c.2 h.1 (stop_all (length old.book.asks) (core_of old) c.0 a h.1 c.1 h.0)
 
 pub who_waits : (old new : RoomView) (now : ℕ) (a : Ask) → Has old.book.asks a → a.stage ≡ Waits → IsCallInService a.number now old new

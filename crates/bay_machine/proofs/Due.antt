@@ -1,14 +1,13 @@
 -- Whose time is over.
-use Rattle.std.proofs.Common.{◌≡◌, ◌≢◌, ◌⊎◌, ◌↔◌, ℕ, zero, suc, ◌<◌, Bool, true, false, ◌||◌, nat_eq, bit_and, bit_xor, List, [], ◌∷◌, length, Option, Some, None, refl, sym, ap, ◌∙◌, subst, inl, inr, arith}
+use Rattle.std.proofs.Common.{◌≡◌, ◌⊎◌, ℕ, zero, suc, ◌<◌, Bool, true, false, ◌||◌, nat_eq, bit_and, bit_xor, List, [], ◌∷◌, length, Option, Some, None, refl, sym, ap, ◌∙◌, subst, inl, inr, arith}
 use Rattle.std.specs.Int.{bit_at}
-use Rattle.std.proofs.lemmas.Bool.{cases_Bool, cases_eq, eq-eqb, ne_eqb, false≢true}
+use Rattle.std.proofs.lemmas.Bool.{cases_eq, eq-eqb, ne_eqb, false≢true}
 use Rattle.bay_line.specs.declared.wish.Wish.{Wish}
 use Rattle.bay_line.specs.Wishes.{wish_at, no_wish}
 use Rattle.bay_line.specs.Wanted.{AreWanted, AreClasses}
 use Rattle.bay_book.specs.declared.ask.Ask.{Ask}
 use Rattle.bay_book.specs.declared.ask.End.{End}
 use Rattle.bay_book.specs.declared.ask.End.TheVariants.{LetGo, Left, Lapsed, NotWritten, Limit, Grace, TakenAway, Replaced, Stopped}
-use Rattle.bay_book.specs.declared.ask.Heard.{Heard}
 use Rattle.bay_book.specs.declared.ask.Stage.{Stage}
 use Rattle.bay_book.specs.declared.ask.Stage.TheVariants.{Waits, Holds, Over}
 use Rattle.std.specs.List.{count_by}
@@ -17,10 +16,9 @@ use Rattle.bay_book.specs.Moments.{common, is_past, is_wanted, is_late, is_over_
 use Rattle.bay_book.specs.Finding.{IsFirst, IsFirstLate}
 use Rattle.bay_machine.specs.declared.classes.Class.{Class}
 use Rattle.bay_machine.specs.declared.terms.Terms.{Terms}
-use Rattle.bay_machine.specs.Members.{Has}
 use Rattle.bay_machine.specs.Classes.{class_at}
 use Rattle.bay_machine.specs.Cores.{Core, AreFree, IsFreeClass}
-use Rattle.bay_machine.specs.Following.{IsFull, AreFull, IsWanted, IsDue, NobodyOverLimit, IsFirstOverLimit, NobodyIsDue, IsFirstDue}
+use Rattle.bay_machine.specs.Following.{AreFull, IsWanted, IsDue, NobodyOverLimit, IsFirstOverLimit, IsFirstDue}
 use Rattle.bay_machine.proofs.Members.{has_at, place_of}
 use Rattle.bay_machine.proofs.Sets.{without}
 

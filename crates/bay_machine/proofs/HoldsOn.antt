@@ -1,19 +1,19 @@
 -- Who holds goes on to hold, and who waits to wait.
-use Rattle.std.proofs.Common.{◌≡◌, ◌≢◌, ◌⊎◌, ℕ, zero, suc, ◌+◌, ◌<◌, max, Bool, true, false, List, [], ◌∷◌, ◌++◌, length, set, Option, Some, refl, sym, ap, ◌∙◌, subst, inl, inr, arith}
+use Rattle.std.proofs.Common.{◌≡◌, ℕ, zero, suc, Bool, true, List, set, Some, refl, sym, ap, ◌∙◌, subst, inl, inr}
 use Rattle.std.proofs.lemmas.Bool.{false≢true}
 use Rattle.bay_book.specs.declared.ask.Ask.{Ask}
 use Rattle.bay_book.specs.declared.ask.End.{End}
 use Rattle.bay_book.specs.declared.ask.End.TheVariants.{LetGo, Left, Lapsed, NotWritten, Limit, Grace, TakenAway, Replaced, Stopped}
 use Rattle.bay_book.specs.declared.ask.Stage.{Stage}
-use Rattle.bay_book.specs.declared.ask.Stage.TheVariants.{Waits, Holds, Over}
-use Rattle.bay_book.specs.Asks.{ask_at, no_ask, holding, over, asker, gone_since, is_holding, is_over}
+use Rattle.bay_book.specs.declared.ask.Stage.TheVariants.{Waits, Holds}
+use Rattle.bay_book.specs.Asks.{ask_at, no_ask, holding, over, is_holding, is_over}
 use Rattle.bay_book.specs.Moments.{is_late, is_past, if_holds, after}
-use Rattle.bay_book.specs.Books.{BookView, hold, end}
+use Rattle.bay_book.specs.Books.{BookView}
 use Rattle.bay_machine.specs.declared.classes.Class.{Class}
 use Rattle.bay_machine.specs.declared.terms.Terms.{Terms}
 use Rattle.bay_machine.specs.Members.{Has}
-use Rattle.bay_machine.specs.Cores.{Core, HoldsIn, LetsIn, ended}
-use Rattle.bay_machine.specs.Following.{IsDue, EndsInTime, Step, Steps}
+use Rattle.bay_machine.specs.Cores.{Core, LetsIn}
+use Rattle.bay_machine.specs.Following.{IsDue, Step, Steps}
 use Rattle.bay_machine.specs.Laws.{EndedInTime, HoldsOn, WaitsOn}
 use Rattle.bay_machine.proofs.Members.{set_new, set_other}
 use Rattle.bay_machine.proofs.Due.{due_open}

@@ -1,24 +1,19 @@
 -- What was told is kept.
-use Rattle.std.proofs.Common.{◌≡◌, ◌⊎◌, ℕ, ◌+◌, ◌≤◌, Bool, true, false, ◌||◌, nat_le, List, [], ◌∷◌, ◌++◌, append_assoc, length, Option, Some, refl, sym, ap, ◌∙◌, subst, inl, inr, arith, rules}
+use Rattle.std.proofs.Common.{◌≡◌, ℕ, ◌≤◌, Bool, true, false, ◌||◌, nat_le, List, ◌++◌, append_assoc, length, sym, ap, ◌∙◌, subst, arith, rules}
 use Rattle.std.specs.List.{list_any}
 use Rattle.std.proofs.lemmas.Bool.{false≢true}
 use Rattle.std.proofs.lemmas.List.Folds.{list_any-append}
 use Rattle.std.proofs.lemmas.List.{append_cancel_left}
 use Rattle.bay_book.specs.declared.ask.Ask.{Ask}
 use Rattle.bay_book.specs.declared.ask.Heard.TheVariants.{Holds as HeardHolds}
-use Rattle.bay_book.specs.declared.ask.Mark.{Mark}
 use Rattle.bay_book.specs.declared.ask.Mark.TheVariants.{At}
-use Rattle.bay_book.specs.declared.ask.Stage.{Stage}
 use Rattle.bay_book.specs.declared.ask.Stage.TheVariants.{Holds}
 use Rattle.bay_book.specs.Asks.{is_holding, is_written, no_ask, IsSoundAsk, IsSoundAt}
 use Rattle.bay_book.specs.Books.{BookView}
 use Rattle.bay_log.specs.declared.line.Line.{Line}
-use Rattle.bay_log.specs.declared.reading.Found.{Found}
-use Rattle.bay_log.specs.Lines.{base_of, log_text}
-use Rattle.bay_log.specs.Reads.{IsRead}
+use Rattle.bay_log.specs.Lines.{log_text}
 use Rattle.bay_log.specs.Alive.{alive, begins}
 use Rattle.bay_log.specs.Laws.{CutLinesAreRead, HoldsAtTheCut}
-use Rattle.bay_machine.specs.Members.{Has}
 use Rattle.bay_machine.specs.Pages.{entry_of}
 use Rattle.bay_machine.specs.Bays.{BayView, IsKept, ToldIsKept}
 use Rattle.bay_machine.proofs.Members.{place_of}

@@ -1,5 +1,5 @@
 -- One after another is let in.
-use Rattle.std.proofs.Common.{◌≡◌, ℕ, suc, ◌+◌, ◌<◌, Bool, List, length, refl, sym, ap, ◌∙◌, subst, arith}
+use Rattle.std.proofs.Common.{◌≡◌, ℕ, suc, Bool, List, sym, ap, ◌∙◌, subst}
 use Rattle.bay_line.specs.declared.going_in.Seated.{Seated}
 use Rattle.bay_line.specs.Wishes.{wish_at, no_wish}
 use Rattle.bay_line.specs.Lines.{LineView, IsNext, gone}
@@ -9,7 +9,7 @@ use Rattle.bay_book.specs.Finding.{IsInUse}
 use Rattle.bay_book.specs.Books.{BookView, IsSound}
 use Rattle.bay_machine.specs.declared.classes.Class.{Class}
 use Rattle.bay_machine.specs.Cores.{Core, core, IsTied, AreFree, LetsIn}
-use Rattle.bay_machine.specs.Following.{WaitsAt, WaitsSomewhere, Holds, LetIn, LetsAllIn}
+use Rattle.bay_machine.specs.Following.{WaitsSomewhere, Holds, LetsAllIn}
 use Rattle.bay_machine.proofs.Members.{has_at, place_of}
 use Rattle.bay_machine.proofs.Tied.{let_in_tied}
 

@@ -14,3 +14,5 @@ pub mod Logged
 pub mod LoggedCalls
 pub mod Kept
 pub mod Next
+pub mod Restored
+pub mod Waited

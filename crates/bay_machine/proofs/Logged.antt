@@ -1,12 +1,10 @@
 -- What the log says of who holds.
-use Rattle.std.proofs.Common.{◌≡◌, ◌≢◌, ◌⊎◌, ℕ, zero, suc, ◌+◌, ◌<◌, ◌≤◌, Bool, true, false, ◌||◌, nat_eq, if◌then◌else◌, List, [], ◌∷◌, ◌++◌, append_assoc, length, length-set, set, Option, Some, None, Result, Ok, Err, OnOk, OnErr, refl, sym, ap, ◌∙◌, subst, inl, inr, arith}
-use Rattle.std.specs.List.{list_any}
+use Rattle.std.proofs.Common.{◌≡◌, ◌≢◌, ℕ, ◌+◌, ◌<◌, ◌≤◌, Bool, true, false, ◌||◌, nat_eq, if◌then◌else◌, List, [], ◌∷◌, ◌++◌, append_assoc, length, length-set, Option, Some, None, Result, Ok, Err, OnOk, OnErr, refl, sym, ap, ◌∙◌, subst, inl, inr, arith}
 use Rattle.std.specs.declared.alloc.AllocError.{AllocError}
 use Rattle.std.proofs.lemmas.Bool.{false≢true, eq-eqb, ne_eqb}
 use Rattle.std.proofs.lemmas.List.{append-nil}
 use Rattle.std.proofs.lemmas.List.Folds.{list_any-append}
 use Rattle.bay_book.specs.declared.ask.Ask.{Ask}
-use Rattle.bay_book.specs.declared.ask.End.{End}
 use Rattle.bay_book.specs.declared.ask.Mark.{Mark}
 use Rattle.bay_book.specs.declared.ask.Mark.TheVariants.{None as NoLine, Due, At}
 use Rattle.bay_book.specs.declared.ask.Stage.{Stage}
@@ -17,10 +15,9 @@ use Rattle.bay_log.specs.declared.how.How.{How}
 use Rattle.bay_log.specs.declared.line.Entry.{Entry}
 use Rattle.bay_log.specs.declared.line.Line.{Line}
 use Rattle.bay_log.specs.declared.line.Line.TheVariants.{Head, Hold as HoldLine, Back, End as EndLine, Note}
-use Rattle.bay_log.specs.Lines.{base_of, log_text, is_none, is_head}
+use Rattle.bay_log.specs.Lines.{base_of, log_text, is_none}
 use Rattle.bay_log.specs.Logs.{LogView, adding, end_of, IsStanding}
 use Rattle.bay_log.specs.Alive.{alive, alive_from, after, begins}
-use Rattle.bay_machine.specs.Members.{Has}
 use Rattle.bay_machine.specs.Pages.{entry_of, how_of, if_due, end_line_at, owed_end, owed_hold, Pages, pages, WritesThis, WritesOne, IsInLog, IsLogged}
 use Rattle.bay_machine.proofs.Tied.{other_asks}
 

@@ -1,5 +1,5 @@
 -- What the log says stays true, whatever calls there are.
-use Rattle.std.proofs.Common.{◌≡◌, ◌≢◌, ◌⊎◌, ℕ, zero, suc, ◌+◌, ◌<◌, ◌≤◌, max, Bool, true, false, not, if◌then◌else◌, List, [], ◌∷◌, ◌++◌, length, set, Option, Some, None, Result, Ok, Err, OnOk, OnErr, refl, sym, ap, ◌∙◌, subst, inl, inr, arith}
+use Rattle.std.proofs.Common.{◌≡◌, ℕ, zero, suc, ◌+◌, ◌<◌, ◌≤◌, max, Bool, true, false, not, if◌then◌else◌, List, [], ◌∷◌, length, Option, Some, None, Result, Ok, Err, OnOk, OnErr, refl, sym, ap, ◌∙◌, subst, inl, inr}
 use Rattle.std.specs.List.{list_any}
 use Rattle.std.specs.declared.alloc.AllocError.{AllocError}
 use Rattle.std.proofs.lemmas.Bool.{false≢true}
@@ -7,13 +7,9 @@ use Rattle.bay_line.specs.Lines.{LineView}
 use Rattle.bay_book.specs.declared.ask.Ask.{Ask}
 use Rattle.bay_book.specs.declared.ask.End.{End}
 use Rattle.bay_book.specs.declared.ask.End.TheVariants.{Stopped}
-use Rattle.bay_book.specs.declared.ask.Mark.{Mark}
 use Rattle.bay_book.specs.declared.ask.Mark.TheVariants.{None as NoLine, Due, At}
-use Rattle.bay_book.specs.declared.ask.Outcome.{Outcome}
-use Rattle.bay_book.specs.declared.ask.Stage.{Stage}
-use Rattle.bay_book.specs.declared.ask.Stage.TheVariants.{Waits, Holds, Over}
-use Rattle.bay_book.specs.Asks.{ask_at, no_ask, is_holding, holding, over, asker, gone_since, hearing, given, is_done}
-use Rattle.bay_book.specs.Books.{BookView, IsSound, with_ask, hold, end, heard, set_gone, purge, reach, add, give_one}
+use Rattle.bay_book.specs.Asks.{ask_at, no_ask, is_holding, holding, over, asker, gone_since, back_again, hearing, given, is_done}
+use Rattle.bay_book.specs.Books.{BookView, with_ask, give_one}
 use Rattle.bay_log.specs.declared.line.Entry.{Entry}
 use Rattle.bay_log.specs.declared.line.Line.{Line}
 use Rattle.bay_log.specs.declared.line.Line.TheVariants.{Note}
@@ -26,14 +22,14 @@ use Rattle.bay_machine.specs.declared.telling.Told.{Told}
 use Rattle.bay_machine.specs.declared.terms.Terms.{Terms}
 use Rattle.bay_machine.specs.Members.{Has}
 use Rattle.bay_machine.specs.Cores.{Core, core, LetsIn, IsTied, ended}
-use Rattle.bay_machine.specs.Following.{EndsInTime, Step, Steps}
+use Rattle.bay_machine.specs.Following.{Step, Steps}
 use Rattle.bay_machine.specs.Requests.{asked}
 use Rattle.bay_machine.specs.Standings.{MarksGone}
 use Rattle.bay_machine.specs.Stopping.{StopsOne, StopsTo}
 use Rattle.bay_machine.specs.Tellings.{TellsNext}
 use Rattle.bay_machine.specs.Views.{RoomView, core_of, GoesOn}
-use Rattle.bay_machine.specs.Rooms.{Asks, Ends, Leaves, Goes, Passes, Stops, Tells}
-use Rattle.bay_machine.specs.Pages.{entry_of, Pages, pages, WritesThis, WritesOne, WritesTo, WritesAll, Writes, owed_end, owed_hold, IsInLog, IsLogged}
+use Rattle.bay_machine.specs.Rooms.{Asks, Ends, Leaves, Goes, ComesBack, Passes, Stops, Tells}
+use Rattle.bay_machine.specs.Pages.{entry_of, Pages, WritesThis, WritesTo, Writes, owed_end, owed_hold, IsInLog, IsLogged}
 use Rattle.bay_machine.proofs.Members.{has_at, set_cases, append_cases, filter_cases}
 use Rattle.bay_machine.proofs.Logged.{in_log_more}
 use Rattle.bay_machine.proofs.Alike.{as_far_tied, as_far_set, far_given}
@@ -141,6 +137,15 @@ logged_marks number moment old new log (inr m) t = subst (λ (b : BookView). IsL
 pub after_goes : (number now : ℕ) (old new : RoomView) (log : LogView) → Goes number now old new → IsLogged old.book log → IsLogged new.book log
 after_goes number now old new log c t =
     goes_on now _ old new log c.2 (logged_marks number (max old.moment now) old.book c.0 log c.1 t)
+
+pub after_comes_back : (number owner now : ℕ) (old new : RoomView) (r : Option ℕ) (log : LogView) → ComesBack number owner now old r new
+    → IsLogged old.book log → IsLogged new.book log
+after_comes_back number owner now old new (Some needs) log c t =
+    let m = c.1 in
+    let like : SaysTheSame (ask_at old.book.asks m.0) (back_again (ask_at old.book.asks m.0)) = record { number = refl; entry = refl; stage = refl; mark = refl } in
+    goes_on now _ old new log c.2
+    (subst (λ (b : BookView). IsLogged b log) (sym m.6) (logged_like old.book log m.0 (back_again (ask_at old.book.asks m.0)) m.2.inside like t))
+after_comes_back number owner now old new None log c t = subst (λ (x : RoomView). IsLogged x.book log) (sym c.1) t
 
 logged_stop : (place : ℕ) (old new : Core) (log : LogView) → StopsOne place old new → IsLogged old.book log → IsLogged new.book log
 logged_stop place old new log (inl s) t = subst (λ (x : Core). IsLogged x.book log) (sym s.1) (logged_ended old place Stopped log t)

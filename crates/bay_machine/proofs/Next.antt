@@ -1,5 +1,5 @@
 -- When something is due next.
-use Rattle.std.proofs.Common.{◌≡◌, ◌⊎◌, ℕ, ◌<◌, ◌≤◌, min, Bool, true, false, nat_le, List, length, Option, Some, None, refl, sym, ap, ◌∙◌, subst, inl, inr, arith, rules}
+use Rattle.std.proofs.Common.{◌≡◌, ℕ, ◌<◌, ◌≤◌, min, Bool, true, false, nat_le, List, length, Option, Some, None, refl, sym, ◌∙◌, arith, rules}
 use Rattle.std.proofs.lemmas.Bool.{false≢true}
 use Rattle.bay_line.specs.Wanted.{AreWanted}
 use Rattle.bay_book.specs.declared.ask.Ask.{Ask}
@@ -11,7 +11,7 @@ use Rattle.bay_book.specs.Finding.{IsLeast}
 use Rattle.bay_machine.specs.declared.classes.Class.{Class}
 use Rattle.bay_machine.specs.declared.terms.Terms.{Terms}
 use Rattle.bay_machine.specs.Cores.{Core}
-use Rattle.bay_machine.specs.Following.{AreFull, IsDue, NobodyIsDue, IsNextMoment}
+use Rattle.bay_machine.specs.Following.{AreFull, IsDue, IsNextMoment}
 use Rattle.bay_machine.proofs.Due.{is_wanted_so}
 
 le_of : (a b : ℕ) → nat_le a b ≡ true → a ≤ b

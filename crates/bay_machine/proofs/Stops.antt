@@ -1,9 +1,9 @@
 -- All that wait end.
-use Rattle.std.proofs.Common.{◌≡◌, ◌⊎◌, ℕ, zero, suc, ◌<◌, length, length-set, refl, sym, ap, ◌∙◌, subst, inl, inr, arith}
+use Rattle.std.proofs.Common.{◌≡◌, ℕ, length, length-set, ap, ◌∙◌, inl, inr}
 use Rattle.bay_book.specs.declared.ask.End.TheVariants.{Stopped}
 use Rattle.bay_book.specs.Asks.{ask_at, over}
-use Rattle.bay_machine.specs.Cores.{Core, ended}
-use Rattle.bay_machine.specs.Stopping.{StopsOne, StopsTo}
+use Rattle.bay_machine.specs.Cores.{Core}
+use Rattle.bay_machine.specs.Stopping.{StopsOne}
 
 -- there are as many asks as before
 pub as_many : (place : ℕ) (old new : Core) → StopsOne place old new → length new.book.asks ≡ length old.book.asks

@@ -1,14 +1,13 @@
 -- What is true of line and book stays true.
-use Rattle.std.proofs.Common.{◌≡◌, ◌≢◌, ◌⊎◌, ℕ, ◌+◌, ◌<◌, ◌≤◌, Bool, true, false, ◌&&◌, nat_eq, if◌then◌else◌, List, length, set, get_or, refl, sym, ap, ◌∙◌, subst, inl, inr, arith}
+use Rattle.std.proofs.Common.{◌≡◌, ◌≢◌, ◌⊎◌, ℕ, ◌+◌, ◌<◌, ◌≤◌, Bool, true, false, ◌&&◌, nat_eq, if◌then◌else◌, List, length, set, refl, sym, ap, ◌∙◌, subst, inl, inr, arith}
 use Rattle.std.specs.List.{count_by}
 use Rattle.std.specs.Int.{bit_at}
-use Rattle.std.proofs.lemmas.Bool.{cases_eq, ne_eqb, eq-eqb, false≢true}
+use Rattle.std.proofs.lemmas.Bool.{cases_eq, ne_eqb, false≢true}
 use Rattle.std.proofs.lemmas.List.Sums.{sum_by-set}
-use Rattle.bay_line.specs.declared.wish.Wish.{Wish}
 use Rattle.bay_line.specs.declared.going_in.Seated.{Seated}
 use Rattle.bay_line.specs.Wishes.{wish_at, no_wish}
 use Rattle.bay_line.specs.Turns.{pass_all}
-use Rattle.bay_line.specs.Lines.{LineView, IsNext, gone, leaving}
+use Rattle.bay_line.specs.Lines.{LineView, IsNext, gone}
 use Rattle.bay_book.specs.declared.ask.Ask.{Ask}
 use Rattle.bay_book.specs.declared.ask.End.{End}
 use Rattle.bay_book.specs.declared.ask.Stage.{Stage}
@@ -16,12 +15,12 @@ use Rattle.bay_book.specs.declared.ask.Stage.TheVariants.{Waits, Holds, Over}
 use Rattle.bay_book.specs.Asks.{ask_at, no_ask, holding, over, is_holding, is_over, holds_class}
 use Rattle.bay_book.specs.Moments.{common}
 use Rattle.bay_book.specs.Finding.{IsInUse}
-use Rattle.bay_book.specs.Books.{BookView, IsSound, hold, end}
+use Rattle.bay_book.specs.Books.{BookView, IsSound, hold}
 use Rattle.bay_machine.specs.declared.classes.Class.{Class}
 use Rattle.bay_machine.specs.Members.{Has}
 use Rattle.bay_machine.specs.Classes.{class_at, class_bit, is_within}
-use Rattle.bay_machine.specs.Cores.{Core, core, IsItsWish, IsInLine, IsByBook, HoldsIn, IsTied, AreFree, IsFreeClass, LetsIn, ended}
-use Rattle.bay_machine.proofs.Members.{has_at, place_of, set_others, set_new, set_other, one_number}
+use Rattle.bay_machine.specs.Cores.{Core, core, HoldsIn, IsTied, AreFree, IsFreeClass, ended}
+use Rattle.bay_machine.proofs.Members.{has_at, place_of, set_others, set_other, one_number}
 use Rattle.bay_machine.proofs.InLine.{passed_cases, passed_has, others_cases, others_has}
 use Rattle.bay_machine.proofs.Sets.{common_comm, one_class}
 

@@ -1,17 +1,15 @@
 -- For readers: the line and the book together, what is true of both, and how one is let in or ends.
-use Rattle.std.specs.Prelude.{◌≡◌, ◌≢◌, ◌↔◌, ◌⊎◌, ℕ, ◌<◌, ◌≤◌, Bool, true, false, not, List, length, Option}
+use Rattle.std.specs.Prelude.{◌≡◌, ◌≢◌, ◌↔◌, ℕ, ◌<◌, ◌≤◌, Bool, true, false, List, length}
 use Rattle.std.specs.List.{count_by}
 use Rattle.std.specs.Int.{bit_at}
-use Rattle.std.specs.Int.Bits.{bit_and}
 use Rattle.bay_line.specs.declared.wish.Wish.{Wish}
 use Rattle.bay_line.specs.declared.going_in.Seated.{Seated}
-use Rattle.bay_line.specs.Wishes.{is_ready}
 use Rattle.bay_line.specs.Turns.{HasReason}
 use Rattle.bay_line.specs.Lines.{LineView, IsNext, gone, leaving}
 use Rattle.bay_book.specs.declared.ask.Ask.{Ask}
 use Rattle.bay_book.specs.declared.ask.End.{End}
 use Rattle.bay_book.specs.declared.ask.Stage.TheVariants.{Waits}
-use Rattle.bay_book.specs.Asks.{ask_at, is_holding, is_over, holds_class}
+use Rattle.bay_book.specs.Asks.{ask_at, is_holding, holds_class}
 use Rattle.bay_book.specs.Moments.{common}
 use Rattle.bay_book.specs.Finding.{IsInUse}
 use Rattle.bay_book.specs.Books.{BookView, hold, end}

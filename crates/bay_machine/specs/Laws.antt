@@ -1,5 +1,5 @@
 -- For readers: what holds of every room.
-use Rattle.std.specs.Prelude.{◌≡◌, ◌≢◌, ◌⊎◌, ℕ, ◌+◌, ◌≤◌, true, List, length, Option, Some}
+use Rattle.std.specs.Prelude.{◌≡◌, ◌≢◌, ◌⊎◌, ℕ, ◌≤◌, true, List, Some}
 use Rattle.std.specs.List.{count_by}
 use Rattle.std.specs.Int.{bit_at}
 use Rattle.bay_book.specs.declared.ask.Ask.{Ask}
@@ -7,17 +7,17 @@ use Rattle.bay_book.specs.declared.ask.End.{End}
 use Rattle.bay_book.specs.declared.ask.End.TheVariants.{Lapsed}
 use Rattle.bay_book.specs.declared.ask.Heard.TheVariants.{Nothing}
 use Rattle.bay_book.specs.declared.ask.Stage.TheVariants.{Waits, Holds}
-use Rattle.bay_book.specs.Asks.{is_holding, holding, over, holds_class}
-use Rattle.bay_book.specs.Moments.{is_past, is_late, later, after, limit_end, kept_until}
+use Rattle.bay_book.specs.Asks.{holding, over, holds_class}
+use Rattle.bay_book.specs.Moments.{is_past, is_late, later, after}
 use Rattle.bay_machine.specs.declared.classes.Class.{Class}
 use Rattle.bay_machine.specs.declared.request.Request.{Request}
 use Rattle.bay_machine.specs.declared.terms.Terms.{Terms}
 use Rattle.bay_machine.specs.Members.{Has}
 use Rattle.bay_machine.specs.Classes.{class_at, is_within}
-use Rattle.bay_machine.specs.Cores.{Core, HoldsIn, ended}
-use Rattle.bay_machine.specs.Following.{IsDue, IsWanted, HasSteps}
+use Rattle.bay_machine.specs.Cores.{Core, HoldsIn}
+use Rattle.bay_machine.specs.Following.{IsDue, IsWanted}
 use Rattle.bay_machine.specs.Views.{RoomView, core_of, GoesOn}
-use Rattle.bay_machine.specs.Rooms.{Asks, Ends, Leaves, Goes, Passes, Stops}
+use Rattle.bay_machine.specs.Rooms.{Asks, Ends, Leaves, Goes, ComesBack, Passes, Stops}
 
 -- ---- who holds
 
@@ -50,6 +50,7 @@ IsCallOfOthers number now old new =
     ⊎ ((how : End) × (other : ℕ) × (other ≢ number) × Ends how other now old new)
     ⊎ ((other : ℕ) × (other ≢ number) × Leaves other now old new)
     ⊎ ((other : ℕ) × (other ≢ number) × Goes other now old new)
+    ⊎ ((other : ℕ) × (owner : ℕ) × (needs : ℕ) × (other ≢ number) × ComesBack other owner now old (Some needs) new)
     ⊎ Passes now old new
     ⊎ Stops now old new
 
@@ -66,6 +67,7 @@ IsCallInService number now old new =
     ⊎ ((how : End) × (other : ℕ) × (other ≢ number) × Ends how other now old new)
     ⊎ ((other : ℕ) × (other ≢ number) × Leaves other now old new)
     ⊎ ((other : ℕ) × (other ≢ number) × Goes other now old new)
+    ⊎ ((other : ℕ) × (owner : ℕ) × (needs : ℕ) × (other ≢ number) × ComesBack other owner now old (Some needs) new)
     ⊎ Passes now old new
 
 -- whoever waits goes on to wait, or lapses, or comes to hold

@@ -12,3 +12,5 @@ pub mod Laws
 pub mod Pages
 pub mod BayViews
 pub mod Bays
+pub mod Restoring
+pub mod LineLaws

@@ -1,5 +1,5 @@
 -- For readers: what is asked, and why it is refused.
-use Rattle.std.specs.Prelude.{◌≡◌, ℕ, ◌+◌, ◌<◌, ◌≤◌, ◌==◌, nat_lt, nat_le, Bool, true, false, ◌&&◌, ◌||◌, not, if◌then◌else◌, List, length, Option, Some, None}
+use Rattle.std.specs.Prelude.{ℕ, ◌+◌, ◌<◌, ◌≤◌, ◌==◌, nat_lt, nat_le, Bool, ◌&&◌, ◌||◌, not, if◌then◌else◌, List, length, Option, Some, None}
 use Rattle.std.specs.List.{list_any}
 use Rattle.bay_line.specs.Lines.{LineView, asking}
 use Rattle.bay_book.specs.declared.ask.Ask.{Ask}

@@ -1,14 +1,12 @@
 -- For readers: what the calls of a room do.
-use Rattle.std.specs.Prelude.{◌≡◌, ◌≢◌, ◌⊎◌, ℕ, zero, suc, ◌+◌, ◌<◌, ◌≤◌, max, Bool, true, false, List, [], length, Option, Some, None}
+use Rattle.std.specs.Prelude.{◌≡◌, ◌⊎◌, ℕ, ◌+◌, ◌<◌, ◌≤◌, max, true, false, List, length, Option, Some, None}
 use Rattle.bay_line.specs.Lines.{nobody as nobody_in_line}
 use Rattle.bay_book.specs.declared.ask.Ask.{Ask}
 use Rattle.bay_book.specs.declared.ask.End.{End}
 use Rattle.bay_book.specs.declared.ask.End.TheVariants.{Left}
 use Rattle.bay_book.specs.declared.ask.Stage.TheVariants.{Waits, Holds}
 use Rattle.bay_book.specs.Asks.{ask_at, is_over}
-use Rattle.bay_book.specs.Finding.{IsPlaceOf}
-use Rattle.bay_book.specs.Telling.{IsNextToTell}
-use Rattle.bay_book.specs.Books.{BookView, IsSound, nobody as nobody_in_book, set_gone, reach, heard, purge}
+use Rattle.bay_book.specs.Books.{BookView, IsSound, nobody as nobody_in_book, reach}
 use Rattle.bay_machine.specs.declared.classes.Class.{Class}
 use Rattle.bay_machine.specs.declared.request.NotAsked.{NotAsked}
 use Rattle.bay_machine.specs.declared.request.NotHeld.{NotHeld}
@@ -20,7 +18,7 @@ use Rattle.bay_machine.specs.Cores.{Core, core, ended}
 use Rattle.bay_machine.specs.Requests.{why_not, asked, IsWhyNotTaken}
 use Rattle.bay_machine.specs.Stopping.{StopsTo}
 use Rattle.bay_machine.specs.Tellings.{is_still_told, TellsNext}
-use Rattle.bay_machine.specs.Standings.{StandsAt, IsGone, MarksGone}
+use Rattle.bay_machine.specs.Standings.{StandsAt, IsGone, MarksGone, MarksBack}
 use Rattle.bay_machine.specs.Views.{RoomView, core_of, IsRoom, with_core, GoesOn}
 
 -- what is true of every room
@@ -87,6 +85,11 @@ Leaves number now old new =
 abbrev pub Goes : ℕ → ℕ → RoomView → RoomView → Type 0
 Goes number now old new =
     (book : BookView) × MarksGone number (max old.moment now) old.book book × GoesOn now (core old.line book) old new
+
+-- Its client is there again, and holds this; and all follows from that. Or it is over, or another's, and nothing changed
+abbrev pub ComesBack : ℕ → ℕ → ℕ → RoomView → Option ℕ → RoomView → Type 0
+ComesBack number owner now old (Some needs) new = (book : BookView) × MarksBack number owner old.book (Some needs) book × GoesOn now (core old.line book) old new
+ComesBack number owner now old None new = MarksBack number owner old.book None old.book × (new ≡ old)
 
 -- ---- the room stops
 

@@ -1,11 +1,11 @@
 -- For readers: where the ask with a number stands, and how far it is.
-use Rattle.std.specs.Prelude.{◌≡◌, ◌⊎◌, ℕ, ◌<◌, List, length, Some, None}
+use Rattle.std.specs.Prelude.{◌≡◌, ◌≢◌, ◌⊎◌, ℕ, ◌<◌, List, length, Option, Some, None}
 use Rattle.bay_book.specs.declared.ask.Ask.{Ask}
 use Rattle.bay_book.specs.declared.ask.Stage.{Stage}
-use Rattle.bay_book.specs.declared.ask.Stage.TheVariants.{Waits, Holds, Over}
+use Rattle.bay_book.specs.declared.ask.Stage.TheVariants.{Waits, Holds}
 use Rattle.bay_book.specs.Asks.{ask_at}
 use Rattle.bay_book.specs.Finding.{IsPlaceOf}
-use Rattle.bay_book.specs.Books.{BookView, set_gone}
+use Rattle.bay_book.specs.Books.{BookView, set_gone, is_back}
 use Rattle.bay_machine.specs.declared.place.Place.{Place}
 use Rattle.bay_machine.specs.declared.place.Place.TheVariants.{Over as IsOver, Waits as IsWaiting, Holds as IsHolding}
 
@@ -33,3 +33,11 @@ IsStanding asks number IsOver = IsGone asks number
 abbrev pub MarksGone : ℕ → ℕ → BookView → BookView → Type 0
 MarksGone number moment old new =
     ((place : ℕ) × IsPlaceOf old.asks number (Some place) × (new ≡ set_gone old place moment)) ⊎ (IsPlaceOf old.asks number None × (new ≡ old))
+
+-- it isn't over, and is this owner's: its client is there again; or it is over, or another's
+abbrev pub MarksBack : ℕ → ℕ → BookView → Option ℕ → BookView → Type 0
+MarksBack number owner old (Some needs) new =
+    (place : ℕ) × (stage : Stage) × StandsAt old.asks number place stage × ((stage ≡ Waits) ⊎ (stage ≡ Holds))
+    × ((ask_at old.asks place).owner ≡ owner) × ((ask_at old.asks place).needs ≡ needs) × (new ≡ is_back old place)
+MarksBack number owner old None new =
+    (new ≡ old) × (IsGone old.asks number ⊎ ((place : ℕ) × (stage : Stage) × StandsAt old.asks number place stage × ((ask_at old.asks place).owner ≢ owner)))

@@ -1,5 +1,5 @@
 -- For readers: all that wait end.
-use Rattle.std.specs.Prelude.{◌≡◌, ◌⊎◌, ℕ, zero, suc, length}
+use Rattle.std.specs.Prelude.{◌≡◌, ◌⊎◌, ℕ, zero, suc}
 use Rattle.bay_book.specs.declared.ask.End.TheVariants.{Stopped}
 use Rattle.bay_book.specs.declared.ask.Stage.TheVariants.{Waits}
 use Rattle.bay_book.specs.Asks.{ask_at}

@@ -1,5 +1,5 @@
 -- For readers: what is told next.
-use Rattle.std.specs.Prelude.{◌≡◌, ◌⊎◌, ℕ, ◌+◌, Bool, true, false, not, ◌==◌, Option, Some, None}
+use Rattle.std.specs.Prelude.{◌≡◌, ◌⊎◌, ℕ, ◌+◌, Bool, false, not, ◌==◌, Option, Some, None}
 use Rattle.bay_book.specs.Asks.{ask_at}
 use Rattle.bay_book.specs.Telling.{IsNextToTell}
 use Rattle.bay_book.specs.Books.{BookView, heard, purge}

@@ -1,7 +1,7 @@
 -- For readers: a room as contracts see it, and what is true of every room.
 use Rattle.std.specs.Prelude.{◌≡◌, ℕ, ◌≤◌, max, Bool, List, length, Option}
 use Rattle.bay_line.specs.Lines.{LineView}
-use Rattle.bay_book.specs.Books.{BookView, IsSound}
+use Rattle.bay_book.specs.Books.{BookView}
 use Rattle.bay_machine.specs.declared.classes.Class.{Class}
 use Rattle.bay_machine.specs.declared.telling.Told.{Told}
 use Rattle.bay_machine.specs.declared.terms.Terms.{Terms}

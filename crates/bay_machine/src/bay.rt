@@ -1,19 +1,23 @@
 //! The bay: the room and its log.
-ghost use Rattle.std.specs.Prelude.{◌≡◌, ◌∷◌, ◌++◌, [], OnOk, OnErr, IfOk, IfErr};
+ghost use Rattle.std.specs.Prelude.{◌≡◌, ◌<◌, length, ◌∷◌, ◌++◌, [], OnOk, OnErr, IfOk, IfErr};
 ghost use Rattle.bay_book.specs.declared.ask.End.TheVariants.{LetGo as EndLetGo, TakenAway as EndTakenAway};
 ghost use Rattle.bay_log.specs.declared.line.Line.TheVariants.{Note as NoteLine};
+ghost use Rattle.bay_book.specs.Asks.{ask_at};
+ghost use Rattle.bay_log.specs.Reads.{IsRead};
 ghost use Rattle.bay_log.specs.Logs.{end_of, unsent_of, beginning, adding, sending, reaching, failing};
-ghost use Rattle.bay_machine.specs.Rooms.{IsOpened, Asks, IsWhyNot, Ends, IsWhyNotHeld, Leaves, Goes, Passes, Stops, reached, Tells};
+ghost use Rattle.bay_machine.specs.Rooms.{IsOpened, Asks, IsWhyNot, Ends, IsWhyNotHeld, Leaves, Goes, ComesBack, Passes, Stops, reached, Tells};
 ghost use Rattle.bay_machine.specs.Following.{IsNextMoment};
 ghost use Rattle.bay_machine.specs.Views.{core_of};
-ghost use Rattle.bay_machine.specs.Bays.{with_room, with_log, IsKept, Writes, IsWhyNotOpened, IsWhyNotNoted};
+ghost use Rattle.bay_machine.specs.Bays.{Resumes, with_log, IsKept, Writes, IsWhyNotOpened, IsWhyNotNoted};
 
 use crate::classes::Class;
 use crate::request::{NotAsked, NotHeld, Request};
+use crate::restoring::{NotBack, is_of};
 use crate::room::Room;
 use crate::telling::Told;
 use crate::terms::Terms;
-use bay_log::{Line, Log, Text, is_text};
+use bay_book::Ask;
+use bay_log::{Fault, Found, Line, Log, Text, is_text, read};
 use std::alloc::{AllocError, Global};
 use std::marker::Model;
 
@@ -53,6 +57,17 @@ impl Model for Bay {
     ghost invariant = { λ x. IsLogged x.room.book x.log };
 }
 
+/// The lines of a file.
+fn read_lines(alloc: Global, bytes: &[u8]) -> Result<Found, NotBack>
+    ensures { IfOk result (λ found. IsRead bytes.now found) }
+{
+    match read(alloc, bytes) {
+        Ok(found) => Ok(found),
+        Err(Fault::Memory) => Err(NotBack::NoMemory),
+        Err(Fault::Wrong(line)) => Err(NotBack::Line(line)),
+    }
+}
+
 impl Bay {
     /// A bay of these classes, of which there are at most 32, with a line for so many sets, in which one is passed by at most so many times. Nobody has asked,
     /// and its log has its head alone.
@@ -74,6 +89,40 @@ impl Bay {
             return Err(NotOpened::Classes);
         };
         Ok(Bay { room, log })
+    }
+
+    /// The bay comes back from what is left of its file: just those hold that held by the lines that are read, and their clients are gone since this moment.
+    /// Answers, too, how many bytes of the file are used; what is behind them is torn, and has to be cut off. It takes memory.
+    pub fn resume(
+        alloc: Global,
+        classes: Vec<Class, Global>,
+        terms: Terms,
+        limit: usize,
+        most: u32,
+        head: [u8; 32],
+        bytes: &[u8],
+        now: u64,
+    ) -> Result<(Bay, usize), NotBack>
+        ensures { IfOk result (λ r. Resumes classes.items terms head bytes.now now r.0 r.1) }
+    {
+        let found = read_lines(alloc, bytes)?;
+        if !is_of(&found.lines, head) {
+            return Err(NotBack::Another);
+        }
+        let Some(log) = Log::resume(alloc, &found) else {
+            return Err(NotBack::NoPlace);
+        };
+        let room = Room::resume(
+            alloc,
+            classes,
+            terms,
+            limit,
+            most,
+            &found.lines,
+            log.position(),
+            now,
+        )?;
+        Ok((Bay { room, log }, found.used))
     }
 
     /// What is true of every bay. It does nothing.
@@ -143,6 +192,29 @@ impl Bay {
         ensures log { self.new.log ≡ self.old.log }
     {
         self.room.gone(number, now);
+    }
+
+    /// The client of an ask is there again. Answers what the ask holds; none, if it is over, or isn't this owner's.
+    pub fn back(&mut self, number: u64, owner: u128, now: u64) -> Option<u64>
+        ensures room { ComesBack number owner now self.old.room result self.new.room }
+        ensures log { self.new.log ≡ self.old.log }
+    {
+        self.room.back(number, owner, now)
+    }
+
+    /// How many asks are in the book.
+    pub fn len(&self) -> usize
+        ensures { result ≡ length self.now.room.book.asks }
+    {
+        self.room.len()
+    }
+
+    /// The ask at this place of the book.
+    pub fn ask_at(&self, place: usize) -> Ask
+        requires { place < length self.now.room.book.asks }
+        ensures { result ≡ ask_at self.now.room.book.asks place }
+    {
+        self.room.ask_at(place)
     }
 
     /// The bay stops: nobody may ask any more, and all that wait are over. Who holds goes on to hold.

@@ -6,7 +6,7 @@ use crate::classes::{Class, class_bit};
 use bay_book::Book;
 
 /// Whether a place of the class is free.
-fn is_free(classes: &[Class], book: &Book, class: usize) -> bool
+pub(crate) fn is_free(classes: &[Class], book: &Book, class: usize) -> bool
     requires inside { class < length classes.now }
     requires few { length classes.now ≤ 32 }
     ensures { IsTrue result ↔ IsFreeClass classes.now book.now.asks class }

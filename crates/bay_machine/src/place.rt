@@ -1,7 +1,7 @@
 //! How far the ask with a number is.
 ghost use Rattle.std.specs.Prelude.{◌≡◌, ◌<◌, length};
 ghost use Rattle.bay_book.specs.Asks.{ask_at};
-ghost use Rattle.bay_machine.specs.Standings.{IsStanding, IsStandingAt, MarksGone};
+ghost use Rattle.bay_machine.specs.Standings.{IsStanding, IsStandingAt, MarksGone, MarksBack};
 
 use bay_book::{Book, Stage};
 
@@ -46,4 +46,21 @@ pub(crate) fn mark_gone(book: &mut Book, number: u64, moment: u64)
         None => {}
         Some(place) => book.set_gone(place, moment),
     }
+}
+
+/// The client of the ask with this number is there again, if the ask isn't over and is this owner's. Answers what it holds.
+pub(crate) fn mark_back(book: &mut Book, number: u64, owner: u128) -> Option<u64>
+    ensures { MarksBack number owner book.old result book.new }
+{
+    let place = match place_of(book, number) {
+        Place::Over => return None,
+        Place::Waits(place) => place,
+        Place::Holds(place) => place,
+    };
+    let ask = book.ask_at(place);
+    if ask.owner != owner {
+        return None;
+    }
+    book.is_back(place);
+    Some(ask.needs)
 }

@@ -1,24 +1,27 @@
 //! The room: who waits, who holds, and what is told; all but the log.
-ghost use Rattle.std.specs.Prelude.{◌≡◌, ◌<◌, ◌≤◌, length, Some, None, OnOk, OnErr, IfErr, IfSome};
+ghost use Rattle.std.specs.Prelude.{◌≡◌, false, ◌<◌, ◌≤◌, length, Some, None, OnOk, OnErr, IfErr, IfSome, IfOk};
 ghost use Rattle.bay_book.specs.declared.ask.End.TheVariants.{LetGo as EndLetGo, TakenAway as EndTakenAway};
-ghost use Rattle.bay_machine.specs.Rooms.{IsOpened, Asks, IsWhyNot, Ends, IsWhyNotHeld, Leaves, Goes, Passes, Stops, reached, with_book, Tells, IsKept};
+ghost use Rattle.bay_book.specs.Asks.{ask_at};
+ghost use Rattle.bay_machine.specs.Rooms.{IsOpened, Asks, IsWhyNot, Ends, IsWhyNotHeld, Leaves, Goes, ComesBack, Passes, Stops, reached, with_book, Tells, IsKept};
 ghost use Rattle.bay_machine.specs.Following.{IsNextMoment};
 ghost use Rattle.bay_machine.specs.Views.{core_of};
+ghost use Rattle.bay_machine.specs.Restoring.{IsBack};
 ghost use Rattle.bay_machine.specs.Pages.{pages, Writes, IsLogged};
 
 use crate::asking::{take, why_not};
 use crate::classes::Class;
 use crate::following::{end_and_follow, follow};
 use crate::moments::next_moment;
-use crate::place::{Place, mark_gone, place_of};
+use crate::place::{Place, mark_back, mark_gone, place_of};
 use crate::request::{NotAsked, NotHeld, Request};
+use crate::restoring::{NotBack, restored_book};
 use crate::stopping::end_all_that_wait;
 use crate::telling::{Told, is_still_told, tell_next};
 use crate::terms::Terms;
 use crate::writing::write_owed;
-use bay_book::{Book, End};
-use bay_line::Line;
-use bay_log::Log;
+use bay_book::{Ask, Book, End};
+use bay_line::Line as Waiting;
+use bay_log::{Line, Log};
 use std::alloc::{AllocError, Global};
 use std::marker::Model;
 
@@ -27,7 +30,7 @@ use std::marker::Model;
 pub struct Room {
     classes: Vec<Class, Global>,
     terms: Terms,
-    line: Line,
+    line: Waiting,
     book: Book,
     moment: u64,
     stopped: bool,
@@ -63,9 +66,39 @@ impl Room {
         Some(Room {
             classes,
             terms,
-            line: Line::nobody(alloc, limit, most),
+            line: Waiting::nobody(alloc, limit, most),
             book: Book::nobody(alloc),
             moment: 0,
+            stopped: false,
+            telling: None,
+            serial: 0,
+        })
+    }
+
+    /// A room in which just those hold that held by these lines of a log. They outlive a crash up to this position. It takes memory.
+    pub(crate) fn resume(
+        alloc: Global,
+        classes: Vec<Class, Global>,
+        terms: Terms,
+        limit: usize,
+        most: u32,
+        lines: &[Line],
+        position: u64,
+        now: u64,
+    ) -> Result<Room, NotBack>
+        ensures back { IfOk result (λ room. IsBack lines.now now position room) }
+        ensures terms { IfOk result (λ room. (room.classes ≡ classes.items) × (room.terms ≡ terms) × (room.stopped ≡ false)) }
+    {
+        if 32 < classes.len() {
+            return Err(NotBack::Classes);
+        }
+        let book = restored_book(alloc, &classes, lines, position, now)?;
+        Ok(Room {
+            classes,
+            terms,
+            line: Waiting::nobody(alloc, limit, most),
+            book,
+            moment: now,
             stopped: false,
             telling: None,
             serial: 0,
@@ -227,6 +260,39 @@ impl Room {
             &mut self.book,
             self.moment,
         );
+    }
+
+    /// The client of an ask is there again. Answers what the ask holds; none, if it is over, or isn't this owner's.
+    pub fn back(&mut self, number: u64, owner: u128, now: u64) -> Option<u64>
+        ensures { ComesBack number owner now self.old result self.new }
+    {
+        let Some(needs) = mark_back(&mut self.book, number, owner) else {
+            return None;
+        };
+        self.moment = self.moment.max(now);
+        follow(
+            &self.classes,
+            self.terms,
+            &mut self.line,
+            &mut self.book,
+            self.moment,
+        );
+        Some(needs)
+    }
+
+    /// How many asks are in the book.
+    pub fn len(&self) -> usize
+        ensures { result ≡ length self.now.book.asks }
+    {
+        self.book.len()
+    }
+
+    /// The ask at this place of the book.
+    pub fn ask_at(&self, place: usize) -> Ask
+        requires { place < length self.now.book.asks }
+        ensures { result ≡ ask_at self.now.book.asks place }
+    {
+        self.book.ask_at(place)
     }
 
     /// The bay stops: nobody may ask any more, and all that wait are over. Who holds goes on to hold.

@@ -1,7 +1,7 @@
 use Rattle.std.proofs.Common.{◌≡◌, sym, ap, ◌∙◌, subst}
 use Rattle.bay_line.specs.Lines.{LineView, leaving, asking}
 use Rattle.bay_machine.specs.Classes.{class_bit}
-use Rattle.bay_machine.specs.Cores.{Core, core, IsTied}
+use Rattle.bay_machine.specs.Cores.{core, IsTied}
 use Rattle.bay_machine.proofs.Tied.{same_core}
 use Rattle.bay_machine.proofs.Askers.{fits_of, fits_next, tied_below, left_again, asked_tied}
 use Rattle.bay_machine.proofs.asking.take.Goals as goal

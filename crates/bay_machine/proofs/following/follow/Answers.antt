@@ -1,7 +1,7 @@
-use Rattle.std.proofs.Common.{◌<◌, sym, subst, ap, ◌∙◌, arith}
+use Rattle.std.proofs.Common.{sym, subst, ap, arith}
 use Rattle.std.specs.List.{count_by}
 use Rattle.bay_book.specs.Asks.{ask_at}
-use Rattle.bay_machine.specs.Cores.{Core, core, ended, IsTied}
+use Rattle.bay_machine.specs.Cores.{Core, core, IsTied}
 use Rattle.bay_machine.specs.Following.{EndsInTime}
 use Rattle.bay_machine.proofs.Tied.{ended_tied}
 use Rattle.bay_machine.proofs.Due.{due_open}

@@ -1,4 +1,4 @@
-use Rattle.std.proofs.Common.{◌<◌, ℕ, length, refl, sym, subst}
+use Rattle.std.proofs.Common.{◌<◌, length, sym, subst}
 use Rattle.bay_line.specs.Lines.{LineView}
 use Rattle.bay_line.proofs.Overtaken.{fewer_after}
 use Rattle.bay_machine.specs.Cores.{core}

@@ -1,4 +1,4 @@
-use Rattle.std.proofs.Common.{◌≡◌, ℕ, suc, length, add-one, sym, subst, ◌∙◌, arith}
+use Rattle.std.proofs.Common.{◌≡◌, length, add-one, sym, subst, ◌∙◌, arith}
 use Rattle.bay_machine.specs.Cores.{core}
 use Rattle.bay_machine.specs.Stopping.{StopsTo}
 use Rattle.bay_machine.proofs.Stops.{as_many}

@@ -1,5 +1,4 @@
 use Rattle.std.proofs.Common.{ap, ◌∙◌}
-use Rattle.bay_log.specs.Logs.{adding, end_of}
 use Rattle.bay_machine.specs.Pages.{owed_hold}
 use Rattle.bay_machine.proofs.Logged.{logged_hold, logged_after}
 use Rattle.bay_machine.proofs.writing.write_hold.Goals as goal
