@@ -14,7 +14,8 @@ use Rattle.bay_log.specs.Alive.{alive}
 use Rattle.bay_machine.specs.declared.bay.NotOpened.{NotOpened}
 use Rattle.bay_machine.specs.declared.bay.NotOpened.TheVariants.{Classes, NoMemory as NotOpenedMemory}
 use Rattle.bay_machine.specs.declared.bay.NotNoted.{NotNoted}
-use Rattle.bay_machine.specs.declared.bay.NotNoted.TheVariants.{NoText, NoMemory}
+use Rattle.bay_machine.specs.declared.bay.NotNoted.TheVariants.{NotHeld, NoText, NoMemory}
+use Rattle.bay_machine.specs.Standings.{HoldsTold}
 use Rattle.bay_machine.specs.declared.classes.Class.{Class}
 use Rattle.bay_machine.specs.declared.terms.Terms.{Terms}
 use Rattle.bay_machine.specs.Members.{Has}
@@ -39,10 +40,11 @@ abbrev pub IsWhyNotOpened : List Class → NotOpened → Type 0
 IsWhyNotOpened classes Classes = 32 < length classes
 IsWhyNotOpened classes NotOpenedMemory = Unit {0}
 
--- it isn't the text of a note; or it is, and there is no memory
-abbrev pub IsWhyNotNoted : List ℕ → NotNoted → Type 0
-IsWhyNotNoted text NoText = IsText text → ⊥
-IsWhyNotNoted text NoMemory = IsText text
+-- the ask doesn't hold, or wasn't told so; or this isn't the text of a note; or it is, and there is no memory
+abbrev pub IsWhyNotNoted : BayView → ℕ → List ℕ → NotNoted → Type 0
+IsWhyNotNoted x number text NotHeld = HoldsTold x.room.book.asks number → ⊥
+IsWhyNotNoted x number text NoText = IsText text → ⊥
+IsWhyNotNoted x number text NoMemory = IsText text
 
 -- ---- what was told is kept
 

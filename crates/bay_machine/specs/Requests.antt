@@ -12,9 +12,9 @@ use Rattle.bay_machine.specs.declared.request.NotAsked.TheVariants.{Stopped, Num
 use Rattle.bay_machine.specs.Classes.{class_at, class_bit, has_no_set, leaves}
 use Rattle.bay_machine.specs.Cores.{Core}
 
--- the ask isn't over, and is this owner's
+-- the ask isn't over, and is this owner's (0 is nobody)
 abbrev pub is_of : ℕ → Ask → Bool
-is_of owner a = not (is_over a.stage) && a.owner == owner
+is_of owner a = not (is_over a.stage) && not (owner == 0) && a.owner == owner
 
 -- an ask of this owner isn't over
 abbrev pub has_owner : ℕ → List Ask → Bool

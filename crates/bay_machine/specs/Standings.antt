@@ -1,6 +1,7 @@
 -- For readers: where the ask with a number stands, and how far it is.
 use Rattle.std.specs.Prelude.{◌≡◌, ◌≢◌, ◌⊎◌, ℕ, ◌<◌, List, length, Option, Some, None}
 use Rattle.bay_book.specs.declared.ask.Ask.{Ask}
+use Rattle.bay_book.specs.declared.ask.Heard.TheVariants.{Holds as HeardHolds}
 use Rattle.bay_book.specs.declared.ask.Stage.{Stage}
 use Rattle.bay_book.specs.declared.ask.Stage.TheVariants.{Waits, Holds}
 use Rattle.bay_book.specs.Asks.{ask_at}
@@ -28,6 +29,10 @@ abbrev pub IsStanding : List Ask → ℕ → Place → Type 0
 IsStanding asks number (IsWaiting place) = StandsAt asks number place Waits
 IsStanding asks number (IsHolding place) = StandsAt asks number place Holds
 IsStanding asks number IsOver = IsGone asks number
+
+-- the ask with this number holds, and was told so
+abbrev pub HoldsTold : List Ask → ℕ → Type 0
+HoldsTold asks number = (place : ℕ) × StandsAt asks number place Holds × ((ask_at asks place).heard ≡ HeardHolds)
 
 -- its client is gone since this moment; or it isn't in the book
 abbrev pub MarksGone : ℕ → ℕ → BookView → BookView → Type 0

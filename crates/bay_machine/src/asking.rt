@@ -9,7 +9,7 @@ use crate::request::{NotAsked, Request};
 use bay_book::{Book, Stage};
 use bay_line::{Line, NotInLine};
 
-/// Whether the ask isn't over, and is this owner's.
+/// Whether the ask isn't over, and is this owner's. 0 is nobody.
 fn is_of(book: &Book, place: usize, owner: u128) -> bool
     requires { place < length book.now.asks }
     ensures { result ≡ is_of owner (ask_at book.now.asks place) }
@@ -20,7 +20,7 @@ fn is_of(book: &Book, place: usize, owner: u128) -> bool
         Stage::Holds => false,
         Stage::Over(_) => true,
     };
-    !over && ask.owner == owner
+    !over && owner != 0 && ask.owner == owner
 }
 
 /// Whether an ask of this owner isn't over.

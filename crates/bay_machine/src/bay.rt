@@ -7,6 +7,7 @@ ghost use Rattle.bay_log.specs.Reads.{IsRead};
 ghost use Rattle.bay_log.specs.Logs.{end_of, unsent_of, beginning, adding, sending, reaching, failing};
 ghost use Rattle.bay_machine.specs.Rooms.{IsOpened, Asks, IsWhyNot, Ends, IsWhyNotHeld, Leaves, Goes, ComesBack, Passes, Stops, reached, Tells};
 ghost use Rattle.bay_machine.specs.Following.{IsNextMoment};
+ghost use Rattle.bay_machine.specs.Standings.{HoldsTold};
 ghost use Rattle.bay_machine.specs.Views.{core_of};
 ghost use Rattle.bay_machine.specs.Bays.{Resumes, with_log, IsKept, Writes, IsWhyNotOpened, IsWhyNotNoted};
 
@@ -33,6 +34,8 @@ pub enum NotOpened {
 /// Why a note isn't written. Nothing changed then.
 #[derive(Clone, Copy, PartialEq, Eq, Debug)]
 pub enum NotNoted {
+    /// The ask doesn't hold, or wasn't told so yet.
+    NotHeld,
     /// It is too long, or has more than one line.
     NoText,
     /// There is no memory.
@@ -240,13 +243,17 @@ impl Bay {
         self.room.write(&mut self.log)
     }
 
-    /// A note of an ask is added to the log. Answers the position from which on it outlives a crash. It takes memory.
+    /// An ask that holds, and was told so, notes something: that is added to the log. Answers the position from which on it outlives a crash. It takes memory.
     pub fn note(&mut self, alloc: Global, number: u64, text: &[u8]) -> Result<u64, NotNoted>
+        ensures holds { OnOk result (HoldsTold self.old.room.book.asks number) }
         ensures notes { OnOk result (self.new ≡ with_log self.old (adding self.old.log (NoteLine number text.now))) }
         ensures position { IfOk result (λ position. position ≡ end_of self.new.log) }
         ensures refused { OnErr result (self.new ≡ self.old) }
-        ensures why { IfErr result (λ why. IsWhyNotNoted text.now why) }
+        ensures why { IfErr result (λ why. IsWhyNotNoted self.old number text.now why) }
     {
+        if !self.room.holds_told(number) {
+            return Err(NotNoted::NotHeld);
+        }
         if !is_text(text) {
             return Err(NotNoted::NoText);
         }

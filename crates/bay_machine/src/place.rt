@@ -1,9 +1,10 @@
 //! How far the ask with a number is.
-ghost use Rattle.std.specs.Prelude.{◌≡◌, ◌<◌, length};
+ghost use Rattle.std.specs.Prelude.{◌≡◌, ◌<◌, ◌↔◌, length, IsTrue};
+ghost use Rattle.bay_book.specs.declared.ask.Heard.TheVariants.{Holds as HeardHolds};
 ghost use Rattle.bay_book.specs.Asks.{ask_at};
-ghost use Rattle.bay_machine.specs.Standings.{IsStanding, IsStandingAt, MarksGone, MarksBack};
+ghost use Rattle.bay_machine.specs.Standings.{IsStanding, IsStandingAt, HoldsTold, MarksGone, MarksBack};
 
-use bay_book::{Book, Stage};
+use bay_book::{Ask, Book, Heard, Stage};
 
 /// Where an ask stands in the book, if it isn't over.
 #[derive(Clone, Copy)]
@@ -35,6 +36,38 @@ pub(crate) fn place_of(book: &Book, number: u64) -> Place
     match book.place_of(number) {
         None => Place::Over,
         Some(place) => standing_at(book, place),
+    }
+}
+
+/// Whether the ask was told that it holds.
+fn heard_that_it_holds(heard: Heard) -> bool
+    ensures { IsTrue result ↔ (heard ≡ HeardHolds) }
+{
+    match heard {
+        Heard::Nothing => false,
+        Heard::Holds => true,
+        Heard::End => false,
+    }
+}
+
+/// Whether the ask holds, and was told so.
+fn is_told(ask: Ask) -> bool
+    ensures { IsTrue result ↔ ((ask.stage ≡ Stage.Holds) × (ask.heard ≡ HeardHolds)) }
+{
+    match ask.stage {
+        Stage::Waits => false,
+        Stage::Holds => heard_that_it_holds(ask.heard),
+        Stage::Over(_) => false,
+    }
+}
+
+/// Whether the ask with this number holds, and was told so.
+pub(crate) fn holds_told(book: &Book, number: u64) -> bool
+    ensures { IsTrue result ↔ HoldsTold book.now.asks number }
+{
+    match book.place_of(number) {
+        None => false,
+        Some(place) => is_told(book.ask_at(place)),
     }
 }
 

@@ -7,7 +7,7 @@ pub struct Request {
     pub number: u64,
     /// The class of the place that it wants.
     pub class: u32,
-    /// Who asks: a hash of the ticket that only the owner knows.
+    /// Who asks: a hash of the ticket that only the owner knows; 0 for nobody. An owner has one ask at a time.
     pub owner: u128,
     /// Until when it waits.
     pub deadline: Option<u64>,

@@ -1,18 +1,19 @@
 //! The room: who waits, who holds, and what is told; all but the log.
-ghost use Rattle.std.specs.Prelude.{◌≡◌, false, ◌<◌, ◌≤◌, length, Some, None, OnOk, OnErr, IfErr, IfSome, IfOk};
+ghost use Rattle.std.specs.Prelude.{◌≡◌, false, ◌<◌, ◌≤◌, length, Some, None, OnOk, OnErr, IfErr, IfSome, IfOk, IsTrue, ◌↔◌};
 ghost use Rattle.bay_book.specs.declared.ask.End.TheVariants.{LetGo as EndLetGo, TakenAway as EndTakenAway};
 ghost use Rattle.bay_book.specs.Asks.{ask_at};
 ghost use Rattle.bay_machine.specs.Rooms.{IsOpened, Asks, IsWhyNot, Ends, IsWhyNotHeld, Leaves, Goes, ComesBack, Passes, Stops, reached, with_book, Tells, IsKept};
 ghost use Rattle.bay_machine.specs.Following.{IsNextMoment};
 ghost use Rattle.bay_machine.specs.Views.{core_of};
 ghost use Rattle.bay_machine.specs.Restoring.{IsBack};
+ghost use Rattle.bay_machine.specs.Standings.{HoldsTold};
 ghost use Rattle.bay_machine.specs.Pages.{pages, Writes, IsLogged};
 
 use crate::asking::{take, why_not};
 use crate::classes::Class;
 use crate::following::{end_and_follow, follow};
 use crate::moments::next_moment;
-use crate::place::{Place, mark_back, mark_gone, place_of};
+use crate::place::{Place, holds_told, mark_back, mark_gone, place_of};
 use crate::request::{NotAsked, NotHeld, Request};
 use crate::restoring::{NotBack, restored_book};
 use crate::stopping::end_all_that_wait;
@@ -244,6 +245,14 @@ impl Room {
                 );
             }
         }
+    }
+
+    /// Whether the ask holds, and was told so.
+    pub fn holds_told(&self, number: u64) -> bool
+        ensures { IsTrue result ↔ HoldsTold self.now.book.asks number }
+    {
+        self.book.is_sound();
+        holds_told(&self.book, number)
     }
 
     /// The client of an ask is gone from this moment on.
