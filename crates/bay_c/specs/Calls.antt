@@ -9,17 +9,19 @@ use Rattle.bay_machine.specs.declared.telling.Told.{Told}
 use Rattle.bay_log.specs.declared.line.Line.TheVariants.{Note}
 use Rattle.bay_log.specs.Logs.{end_of, unsent_of, beginning, sending, failing, reaching, adding}
 use Rattle.bay_machine.specs.declared.bay.NotNoted.{NotNoted}
-use Rattle.bay_machine.specs.Bays.{BayView, with_log, Writes, IsWhyNotNoted}
+use Rattle.bay_machine.specs.Bays.{BayView, with_log, Resumes, Writes, IsWhyNotNoted}
+use Rattle.bay_machine.specs.declared.restoring.NotBack.{NotBack}
+use Rattle.bay_machine.specs.Standings.{HoldsTold}
 use Rattle.bay_machine.specs.Following.{IsNextMoment}
 use Rattle.bay_machine.specs.Views.{core_of}
-use Rattle.bay_machine.specs.Rooms.{IsOpened, Asks, IsWhyNot, Ends, IsWhyNotHeld, Leaves, Goes, Passes, Stops, reached, Tells}
+use Rattle.bay_machine.specs.Rooms.{IsOpened, Asks, IsWhyNot, Ends, IsWhyNotHeld, Leaves, Goes, ComesBack, Passes, Stops, reached, Tells}
 use Rattle.bay_c.specs.declared.inside.Inside.{Inside}
 use Rattle.bay_c.specs.declared.inside.Inside.TheVariants.{Open}
 use Rattle.bay_c.specs.declared.told.BayClass.{BayClass}
 use Rattle.bay_c.specs.declared.told.BayTerms.{BayTerms}
 use Rattle.bay_c.specs.declared.told.BayAsked.{BayAsked}
 use Rattle.bay_c.specs.declared.told.BayOutcome.{BayOutcome}
-use Rattle.bay_c.specs.Telling.{class_of, terms_of, request_of, outcome_of, refusal_status, not_held_status, not_noted_status, number_of}
+use Rattle.bay_c.specs.Telling.{class_of, terms_of, request_of, outcome_of, refusal_status, not_held_status, not_noted_status, not_back_status, not_back_number, number_of}
 
 -- ---- opening
 
@@ -41,6 +43,28 @@ Opens classes terms (Some held) new status = (status ≡ 11) × (new ≡ Some he
 Opens classes terms None new status =
     ((status ≡ 0) × (h : Inside) × (new ≡ Some h) × IsInsideFor classes terms h)
     ⊎ ((new ≡ None) × IsWhyNotOpened classes status)
+
+-- how many bytes were read; or the line that isn't sound, or the number of the ask that may not hold
+pub record Read : Type 0 where
+  pub used : ℕ
+  pub fault : ℕ
+
+abbrev pub read : ℕ → ℕ → Read
+read used fault = record { used = used; fault = fault }
+
+-- such a bay came back from the journal, of which so many bytes were read
+abbrev pub IsResumedFor : List BayClass → BayTerms → List ℕ → ℕ → BayView → ℕ → Type 0
+IsResumedFor classes terms journal now x used = Resumes (map class_of classes) (terms_of terms) terms.bay journal now x used
+
+abbrev pub IsInsideBack : List BayClass → BayTerms → List ℕ → ℕ → Inside → ℕ → Type 0
+IsInsideBack classes terms journal now (Open x) used = IsResumedFor classes terms journal now x used
+
+-- an empty handle has it (0); or there is none for this reason, and the handle is as it was; or it is in use, and stays as it is (11)
+abbrev pub ComesFrom : List BayClass → BayTerms → List ℕ → ℕ → Option Inside → Option Inside → Read → Read → ℕ → Type 0
+ComesFrom classes terms journal now (Some held) new told told' status = (status ≡ 11) × (new ≡ Some held) × (told' ≡ told)
+ComesFrom classes terms journal now None new told told' status =
+    ((status ≡ 0) × (h : Inside) × (new ≡ Some h) × IsInsideBack classes terms journal now h told'.used × (told'.fault ≡ told.fault))
+    ⊎ ((new ≡ None) × (why : NotBack) × (status ≡ not_back_status why) × (told' ≡ read told.used (not_back_number why)))
 
 -- ---- calls on a bay
 
@@ -76,6 +100,17 @@ pub record LeavesIt (number now : ℕ) (a b : BayView) (told told' : Unit {0}) (
 abbrev pub GoesAway : ℕ → ℕ → BayView → BayView → Unit {0} → Unit {0} → ℕ → Type 0
 GoesAway number now a b told told' status = (status ≡ 0) × Goes number now a.room b.room × (b.log ≡ a.log)
 
+-- its client is there again, and what the ask holds is told (0); or it is over, or isn't this owner's (26), and nothing changed
+abbrev pub IsThereAgain : Option ℕ → ℕ → ℕ → ℕ → Type 0
+IsThereAgain (Some needs) told told' status = (status ≡ 0) × (told' ≡ needs)
+IsThereAgain None told told' status = (status ≡ 26) × (told' ≡ told)
+
+pub record Returns (number owner now : ℕ) (a b : BayView) (told told' : ℕ) (status : ℕ) : Type 0 where
+  pub needs : Option ℕ
+  pub back : ComesBack number owner now a.room needs b.room
+  pub log : b.log ≡ a.log
+  pub is_told : IsThereAgain needs told told' status
+
 -- the bay stops (0)
 abbrev pub StopsAt : ℕ → BayView → BayView → Unit {0} → Unit {0} → ℕ → Type 0
 StopsAt now a b told told' status = (status ≡ 0) × Stops now a.room b.room × (b.log ≡ a.log)
@@ -102,11 +137,12 @@ TimeGoes now a b told told' status =
     (status ≡ 0) × Passes now a.room b.room × (b.log ≡ a.log)
     × ((next : Option ℕ) × IsNextMoment b.room.classes b.room.terms (core_of b.room) next × (told' ≡ number_of next))
 
--- a note is in the log, and the position behind it is told (0); or it isn't a text (24), or there is no memory (5), and nothing changed
+-- A note of an ask that holds, and was told so, is in the log, and the position behind it is told (0). Or the ask isn't so far (8), or it isn't a text (24), or there
+-- is no memory (5), and nothing changed
 abbrev pub Notes : ℕ → List ℕ → BayView → BayView → ℕ → ℕ → ℕ → Type 0
 Notes number text a b told told' status =
-    ((status ≡ 0) × (b ≡ with_log a (adding a.log (Note number text))) × (told' ≡ end_of b.log))
-    ⊎ ((why : NotNoted) × (status ≡ not_noted_status why) × IsWhyNotNoted text why × (b ≡ a) × (told' ≡ told))
+    ((status ≡ 0) × HoldsTold a.room.book.asks number × (b ≡ with_log a (adding a.log (Note number text))) × (told' ≡ end_of b.log))
+    ⊎ ((why : NotNoted) × (status ≡ not_noted_status why) × IsWhyNotNoted a number text why × (b ≡ a) × (told' ≡ told))
 
 -- a caller's room, how long the text is that was asked for, and the position behind it
 pub record Handed : Type 0 where

@@ -12,7 +12,9 @@ use Rattle.bay_machine.specs.declared.request.Request.{Request}
 use Rattle.bay_machine.specs.declared.bay.NotOpened.{NotOpened}
 use Rattle.bay_machine.specs.declared.bay.NotOpened.TheVariants.{Classes, NoMemory as NotOpenedMemory}
 use Rattle.bay_machine.specs.declared.bay.NotNoted.{NotNoted}
-use Rattle.bay_machine.specs.declared.bay.NotNoted.TheVariants.{NoText, NoMemory as NotNotedMemory}
+use Rattle.bay_machine.specs.declared.bay.NotNoted.TheVariants.{NotHeld as NotNotedHeld, NoText, NoMemory as NotNotedMemory}
+use Rattle.bay_machine.specs.declared.restoring.NotBack.{NotBack}
+use Rattle.bay_machine.specs.declared.restoring.NotBack.TheVariants.{NoMemory as NotBackMemory, NoPlace, Line, Another, Classes as NotBackClasses, MayNot}
 use Rattle.bay_machine.specs.declared.telling.Told.{Told}
 use Rattle.bay_machine.specs.declared.terms.Terms.{Terms}
 use Rattle.bay_c.specs.declared.told.BayClass.{BayClass}
@@ -77,6 +79,7 @@ not_opened_status Classes = 22
 not_opened_status NotOpenedMemory = 5
 
 abbrev pub not_noted_status : NotNoted → ℕ
+not_noted_status NotNotedHeld = 8
 not_noted_status NoText = 24
 not_noted_status NotNotedMemory = 5
 
@@ -84,3 +87,20 @@ not_noted_status NotNotedMemory = 5
 abbrev pub number_of : Option ℕ → ℕ
 number_of (Some n) = n
 number_of None = 18446744073709551615
+
+abbrev pub not_back_status : NotBack → ℕ
+not_back_status NotBackMemory = 5
+not_back_status NoPlace = 28
+not_back_status (Line number) = 28
+not_back_status Another = 27
+not_back_status NotBackClasses = 22
+not_back_status (MayNot ask) = 24
+
+-- the line of the file that isn't sound, or the number of the ask that may not hold; else 0
+abbrev pub not_back_number : NotBack → ℕ
+not_back_number NotBackMemory = 0
+not_back_number NoPlace = 0
+not_back_number (Line number) = number
+not_back_number Another = 0
+not_back_number NotBackClasses = 0
+not_back_number (MayNot ask) = ask

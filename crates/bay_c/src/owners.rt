@@ -1,10 +1,10 @@
 //! What whoever asks calls, and whoever looks after the bay.
-ghost use Rattle.std.specs.Prelude.{◌≡◌};
-ghost use Rattle.bay_c.specs.Calls.{InBay, AsksFor, LetsGo, TakesAway, LeavesIt, GoesAway, StopsAt, TellsIt};
+ghost use Rattle.std.specs.Prelude.{◌≡◌, ◌+◌, ◌*◌};
+ghost use Rattle.bay_c.specs.Calls.{InBay, AsksFor, LetsGo, TakesAway, LeavesIt, GoesAway, Returns, StopsAt, TellsIt};
 
 use crate::handle::{Handle, put, take};
 use crate::inside::Inside;
-use crate::statuses::{NOTHING, not_held_status, refusal_status};
+use crate::statuses::{NOTHING, OVER, not_held_status, refusal_status};
 use crate::told::{BayAsked, BayOutcome, outcome_of, request_of};
 use bay_machine::Bay;
 use std::alloc::Global;
@@ -41,6 +41,18 @@ fn leave_in(machine: &mut Bay, number: u64, now: u64) -> u32
 {
     machine.leave(number, now);
     0
+}
+
+fn back_in(machine: &mut Bay, number: u64, owner: u128, now: u64, needs: &mut u64) -> u32
+    ensures { Returns number owner now machine.old machine.new needs.old needs.new result }
+{
+    match machine.back(number, owner, now) {
+        Some(held) => {
+            *needs = held;
+            0
+        }
+        None => OVER,
+    }
 }
 
 fn tell_in(machine: &mut Bay, done: u64, outcome: &mut BayOutcome) -> u32
@@ -139,6 +151,31 @@ pub extern "C" fn lab_bay_gone(alloc: Global, bay: &mut Handle, number: u64, now
     }
     put(&mut bay.slot, &mut bay.live, inside);
     0
+}
+
+/// The client of an ask is there again. What the ask holds is told.
+#[unsafe(no_mangle)]
+pub extern "C" fn lab_bay_back(
+    alloc: Global,
+    bay: &mut Handle,
+    number: u64,
+    owner_high: u64,
+    owner_low: u64,
+    now: u64,
+    needs: &mut u64,
+) -> u32
+    ensures { InBay (Returns number (owner_high * 18446744073709551616 + owner_low) now) bay.old.slot.held bay.new.slot.held needs.old needs.new result }
+{
+    let mut inside = match take(&mut bay.slot, &mut bay.live, alloc) {
+        Ok(inside) => inside,
+        Err(status) => return status,
+    };
+    let owner = owner_high as u128 * 18446744073709551616 + owner_low as u128;
+    let status = match &mut *inside {
+        Inside::Open(machine) => back_in(machine, number, owner, now, needs),
+    };
+    put(&mut bay.slot, &mut bay.live, inside);
+    status
 }
 
 /// Nobody may ask any more, and whoever waits is over.
