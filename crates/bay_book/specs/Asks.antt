@@ -99,6 +99,23 @@ asker number class owner deadline limit now = record {
   end_line = NoLine;
 }
 
+-- one that holds, as the journal says up to this position, and as it was told; its client isn't there since this moment
+abbrev pub restored : ℕ → ℕ → ℕ → Option ℕ → ℕ → ℕ → ℕ → ℕ → Ask
+restored number class owner limit needs since gone at = record {
+  number = number;
+  class = class;
+  owner = owner;
+  deadline = None;
+  limit = limit;
+  needs = needs;
+  since = since;
+  gone = Some gone;
+  stage = Holds;
+  heard = HeardHolds;
+  hold_line = At at;
+  end_line = NoLine;
+}
+
 -- it holds these instruments, from this moment on; a line is owed, if there is a journal
 abbrev pub holding : ℕ → ℕ → Bool → Ask → Ask
 holding needs now keeps a = record a { needs = needs; since = now; stage = Holds; hold_line = if keeps then Due else NoLine }

@@ -3,7 +3,7 @@ use Rattle.std.specs.Prelude.{ℕ, ◌+◌, max, ◌<◌, Bool, not, List, [], �
 use Rattle.bay_book.specs.declared.ask.Ask.{Ask}
 use Rattle.bay_book.specs.declared.ask.End.{End}
 use Rattle.bay_book.specs.declared.ask.Outcome.{Outcome}
-use Rattle.bay_book.specs.Asks.{ask_at, asker, holding, over, gone_since, back_again, given, hearing, is_done, IsSoundAsk}
+use Rattle.bay_book.specs.Asks.{ask_at, asker, restored, holding, over, gone_since, back_again, given, hearing, is_done, IsSoundAsk}
 
 -- the asks in the order of their numbers; the least number that the next may have; and up to where the journal outlives a crash
 pub record BookView : Type 0 where
@@ -36,6 +36,18 @@ add x number class owner deadline limit now = record {
   durable = x.durable;
 }
 
+-- an ask holds again, as the journal says up to where it outlives a crash
+abbrev pub restore : BookView → ℕ → ℕ → ℕ → Option ℕ → ℕ → ℕ → ℕ → BookView
+restore x number class owner limit needs since gone = record {
+  asks = x.asks ++ restored number class owner limit needs since gone x.durable ∷ [];
+  next = number + 1;
+  durable = x.durable;
+}
+
+-- all numbers below this one were given
+abbrev pub skip : BookView → ℕ → BookView
+skip x next = record { asks = x.asks; next = max x.next next; durable = x.durable }
+
 -- one holds these instruments, from this moment on
 abbrev pub hold : BookView → ℕ → ℕ → ℕ → Bool → BookView
 hold x place needs now keeps = with_ask x place (holding needs now keeps (ask_at x.asks place))
@@ -55,6 +67,10 @@ is_back x place = with_ask x place (back_again (ask_at x.asks place))
 -- all lines that are owed were given, and the journal is so long
 abbrev pub give : BookView → ℕ → BookView
 give x at = with_asks x (map (given at) x.asks)
+
+-- the lines that one owes were given, and the journal is so long
+abbrev pub give_one : BookView → ℕ → ℕ → BookView
+give_one x place at = with_ask x place (given at (ask_at x.asks place))
 
 -- the journal outlives a crash up to there, too
 abbrev pub reach : BookView → ℕ → BookView

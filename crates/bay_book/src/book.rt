@@ -5,13 +5,15 @@ ghost use Rattle.bay_book.specs.Asks.{ask_at, is_over, holds_class};
 ghost use Rattle.bay_book.specs.Moments.{is_gone_too_long, is_over_limit, due_at, limit_due_at};
 ghost use Rattle.bay_book.specs.Finding.{IsPlaceOf, IsFirst, IsFirstLate, IsLeast, IsInUse};
 ghost use Rattle.bay_book.specs.Telling.{to_tell, IsNextToTell};
-ghost use Rattle.bay_book.specs.Books.{IsSound, nobody, add, hold, end, set_gone, is_back, give, reach, heard, purge};
+ghost use Rattle.bay_book.specs.Books.{IsSound, nobody, add, restore, skip, hold, end, set_gone, is_back, give, give_one, reach, heard, purge};
 
 use crate::ask::{Ask, End, Outcome, Stage};
 use crate::finding::{
     due, first_gone, first_late, first_over_limit, in_use, limit_due, place_of, taken,
 };
-use crate::making::{asker, back_again, give_all, gone_since, hearing, holding, is_done, over};
+use crate::making::{
+    asker, back_again, give_all, given, gone_since, hearing, holding, is_done, over, restored,
+};
 use crate::telling::next_to_tell;
 use std::alloc::{AllocError, Global};
 use std::marker::Model;
@@ -110,6 +112,43 @@ impl Book {
         Ok(())
     }
 
+    /// An ask holds again, as the journal says, and as it was told; its client isn't there since this moment. It takes memory.
+    pub fn restore(
+        &mut self,
+        number: u64,
+        class: u32,
+        owner: u128,
+        limit: Option<u64>,
+        needs: u64,
+        since: u64,
+        gone: u64,
+    ) -> Result<(), AllocError>
+        requires new { self.old.next ≤ number }
+        requires room { number < 18446744073709551615 }
+        ensures restores { OnOk result (self.new ≡ restore self.old number class owner limit needs since gone) }
+        ensures refused { OnErr result (self.new ≡ self.old) }
+    {
+        self.asks.push(restored(
+            number,
+            class,
+            owner,
+            limit,
+            needs,
+            since,
+            gone,
+            self.durable,
+        ))?;
+        self.next = number + 1;
+        Ok(())
+    }
+
+    /// All numbers below this one were given.
+    pub fn skip(&mut self, next: u64)
+        ensures { self.new ≡ skip self.old next }
+    {
+        self.next = self.next.max(next);
+    }
+
     /// It holds these instruments from this moment on. A line is owed, if the bay keeps a journal.
     pub fn hold(&mut self, place: usize, needs: u64, now: u64, keeps: bool)
         requires inside { place < length self.old.asks }
@@ -149,6 +188,14 @@ impl Book {
         ensures { self.new ≡ give self.old at }
     {
         give_all(&mut self.asks, at);
+    }
+
+    /// The lines that one owes were given, and the journal is so long now.
+    pub fn give_one(&mut self, place: usize, at: u64)
+        requires { place < length self.old.asks }
+        ensures { self.new ≡ give_one self.old place at }
+    {
+        self.asks[place] = given(self.asks[place], at);
     }
 
     /// The journal outlives a crash up to this position.

@@ -1,6 +1,6 @@
 //! What each call makes of an ask.
 ghost use Rattle.std.specs.Prelude.{◌≡◌, map};
-ghost use Rattle.bay_book.specs.Asks.{asker, holding, over, gone_since, back_again, given_mark, given, hearing};
+ghost use Rattle.bay_book.specs.Asks.{asker, restored, holding, over, gone_since, back_again, given_mark, given, hearing};
 ghost use Rattle.bay_book.specs.Asks.{is_over, is_holding, has_heard_end, has_left, is_owed, is_done};
 
 use crate::ask::{Ask, End, Heard, Mark, Outcome, Stage};
@@ -28,6 +28,35 @@ pub(crate) fn asker(
         stage: Stage::Waits,
         heard: Heard::Nothing,
         hold_line: Mark::None,
+        end_line: Mark::None,
+    }
+}
+
+/// One that holds, as the journal says up to this position, and as it was told; its client isn't there since this moment.
+pub(crate) fn restored(
+    number: u64,
+    class: u32,
+    owner: u128,
+    limit: Option<u64>,
+    needs: u64,
+    since: u64,
+    gone: u64,
+    at: u64,
+) -> Ask
+    ensures { result ≡ restored number class owner limit needs since gone at }
+{
+    Ask {
+        number,
+        class,
+        owner,
+        deadline: None,
+        limit,
+        needs,
+        since,
+        gone: Some(gone),
+        stage: Stage::Holds,
+        heard: Heard::Holds,
+        hold_line: Mark::At(at),
         end_line: Mark::None,
     }
 }
@@ -93,7 +122,7 @@ fn given_mark(mark: Mark, at: u64) -> Mark
 }
 
 /// The lines that it owed are given.
-fn given(ask: Ask, at: u64) -> Ask
+pub(crate) fn given(ask: Ask, at: u64) -> Ask
     ensures { result ≡ given at ask }
 {
     Ask {

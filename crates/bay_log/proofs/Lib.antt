@@ -1,0 +1,11 @@
+pub mod Appended
+pub mod Back
+pub mod Whole
+pub mod Holding
+pub mod Plain
+pub mod Handed
+pub mod Cuts
+pub mod Changed
+pub mod Entries
+pub mod Durable
+pub mod Growing

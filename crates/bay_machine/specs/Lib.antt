@@ -1,0 +1,16 @@
+pub mod Members
+pub mod Classes
+pub mod Cores
+pub mod Following
+pub mod Requests
+pub mod Standings
+pub mod Tellings
+pub mod Stopping
+pub mod Views
+pub mod Rooms
+pub mod Laws
+pub mod Pages
+pub mod BayViews
+pub mod Bays
+pub mod Restoring
+pub mod LineLaws
