@@ -14,9 +14,9 @@ use Rattle.std_alloc.proofs.SendSync.{quiet}
 use Rattle.bay_log.specs.contracts.past.Past as Past
 use Rattle.bay_log.specs.contracts.log.Log as Log
 use Rattle.bay_log.specs.contracts.log.Log.TheInside as InLog
-use Rattle.bay_machine.proofs.room.Room.TheSendSync as rooms
-use Rattle.bay_machine.specs.contracts.bay.Bay as Bay
-use Rattle.bay_machine.specs.contracts.bay.Bay.TheInside as InBay
+use Rattle.bay.proofs.room.Room.TheSendSync as rooms
+use Rattle.bay.specs.contracts.bay.Bay as Bay
+use Rattle.bay.specs.contracts.bay.Bay.TheInside as InBay
 use Rattle.bay_c.specs.contracts.inside.Inside as Inside
 
 -- lines that contracts alone see own nothing

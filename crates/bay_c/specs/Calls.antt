@@ -3,18 +3,18 @@ use Rattle.std.specs.Prelude.{◌≡◌, ◌⊎◌, ℕ, ◌<◌, ◌≤◌, Lis
 use Rattle.std.specs.declared.alloc.AllocError.{AllocError}
 use Rattle.bay_book.specs.declared.ask.End.{End}
 use Rattle.bay_book.specs.declared.ask.End.TheVariants.{LetGo, TakenAway}
-use Rattle.bay_machine.specs.declared.request.NotAsked.{NotAsked}
-use Rattle.bay_machine.specs.declared.request.NotHeld.{NotHeld}
-use Rattle.bay_machine.specs.declared.telling.Told.{Told}
+use Rattle.bay.specs.declared.request.NotAsked.{NotAsked}
+use Rattle.bay.specs.declared.request.NotHeld.{NotHeld}
+use Rattle.bay.specs.declared.telling.Told.{Told}
 use Rattle.bay_log.specs.declared.line.Line.TheVariants.{Note}
 use Rattle.bay_log.specs.Logs.{end_of, unsent_of, beginning, sending, failing, reaching, adding}
-use Rattle.bay_machine.specs.declared.bay.NotNoted.{NotNoted}
-use Rattle.bay_machine.specs.Bays.{BayView, with_log, Resumes, Writes, IsWhyNotNoted}
-use Rattle.bay_machine.specs.declared.restoring.NotBack.{NotBack}
-use Rattle.bay_machine.specs.Standings.{HoldsTold}
-use Rattle.bay_machine.specs.Following.{IsNextMoment}
-use Rattle.bay_machine.specs.Views.{core_of}
-use Rattle.bay_machine.specs.Rooms.{IsOpened, Asks, IsWhyNot, Ends, IsWhyNotHeld, Leaves, Goes, ComesBack, Passes, Stops, reached, Tells}
+use Rattle.bay.specs.declared.bay.NotNoted.{NotNoted}
+use Rattle.bay.specs.Bays.{BayView, with_log, Resumes, Writes, IsWhyNotNoted}
+use Rattle.bay.specs.declared.restoring.NotBack.{NotBack}
+use Rattle.bay.specs.Standings.{HoldsTold}
+use Rattle.bay.specs.Following.{IsNextMoment}
+use Rattle.bay.specs.Views.{core_of}
+use Rattle.bay.specs.Rooms.{IsOpened, Asks, IsWhyNot, Ends, IsWhyNotHeld, Leaves, Goes, ComesBack, Passes, Stops, reached, Tells}
 use Rattle.bay_c.specs.declared.inside.Inside.{Inside}
 use Rattle.bay_c.specs.declared.inside.Inside.TheVariants.{Open}
 use Rattle.bay_c.specs.declared.told.BayClass.{BayClass}

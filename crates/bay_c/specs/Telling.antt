@@ -3,20 +3,20 @@ use Rattle.std.specs.Prelude.{ℕ, ◌+◌, ◌*◌, ◌==◌, not, if◌then◌
 use Rattle.bay_book.specs.declared.ask.End.TheVariants.{LetGo, Left, Lapsed, NotWritten, Limit, Grace, TakenAway, Replaced, Stopped as EndStopped}
 use Rattle.bay_book.specs.declared.ask.Outcome.{Outcome}
 use Rattle.bay_book.specs.declared.ask.Outcome.TheVariants.{Holds, Over as IsOver}
-use Rattle.bay_machine.specs.declared.classes.Class.{Class}
-use Rattle.bay_machine.specs.declared.request.NotAsked.{NotAsked}
-use Rattle.bay_machine.specs.declared.request.NotAsked.TheVariants.{Stopped, Number, NoClass, Empty, MayNotUse, OwnerTaken, LineFull, NoMemory}
-use Rattle.bay_machine.specs.declared.request.NotHeld.{NotHeld}
-use Rattle.bay_machine.specs.declared.request.NotHeld.TheVariants.{Over, Waits}
-use Rattle.bay_machine.specs.declared.request.Request.{Request}
-use Rattle.bay_machine.specs.declared.bay.NotOpened.{NotOpened}
-use Rattle.bay_machine.specs.declared.bay.NotOpened.TheVariants.{Classes, NoMemory as NotOpenedMemory}
-use Rattle.bay_machine.specs.declared.bay.NotNoted.{NotNoted}
-use Rattle.bay_machine.specs.declared.bay.NotNoted.TheVariants.{NotHeld as NotNotedHeld, NoText, NoMemory as NotNotedMemory}
-use Rattle.bay_machine.specs.declared.restoring.NotBack.{NotBack}
-use Rattle.bay_machine.specs.declared.restoring.NotBack.TheVariants.{NoMemory as NotBackMemory, NoPlace, Line, Another, Classes as NotBackClasses, MayNot}
-use Rattle.bay_machine.specs.declared.telling.Told.{Told}
-use Rattle.bay_machine.specs.declared.terms.Terms.{Terms}
+use Rattle.bay.specs.declared.classes.Class.{Class}
+use Rattle.bay.specs.declared.request.NotAsked.{NotAsked}
+use Rattle.bay.specs.declared.request.NotAsked.TheVariants.{Stopped, Number, NoClass, Empty, MayNotUse, OwnerTaken, LineFull, NoMemory}
+use Rattle.bay.specs.declared.request.NotHeld.{NotHeld}
+use Rattle.bay.specs.declared.request.NotHeld.TheVariants.{Over, Waits}
+use Rattle.bay.specs.declared.request.Request.{Request}
+use Rattle.bay.specs.declared.bay.NotOpened.{NotOpened}
+use Rattle.bay.specs.declared.bay.NotOpened.TheVariants.{Classes, NoMemory as NotOpenedMemory}
+use Rattle.bay.specs.declared.bay.NotNoted.{NotNoted}
+use Rattle.bay.specs.declared.bay.NotNoted.TheVariants.{NotHeld as NotNotedHeld, NoText, NoMemory as NotNotedMemory}
+use Rattle.bay.specs.declared.restoring.NotBack.{NotBack}
+use Rattle.bay.specs.declared.restoring.NotBack.TheVariants.{NoMemory as NotBackMemory, NoPlace, Line, Another, Classes as NotBackClasses, MayNot}
+use Rattle.bay.specs.declared.telling.Told.{Told}
+use Rattle.bay.specs.declared.terms.Terms.{Terms}
 use Rattle.bay_c.specs.declared.told.BayClass.{BayClass}
 use Rattle.bay_c.specs.declared.told.BayTerms.{BayTerms}
 use Rattle.bay_c.specs.declared.told.BayAsked.{BayAsked}

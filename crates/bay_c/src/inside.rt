@@ -1,5 +1,5 @@
 //! What a handle has.
-use bay_machine::Bay;
+use bay::Bay;
 
 /// What a handle has.
 #[derive(Drop)]

@@ -6,7 +6,7 @@ use crate::handle::{Handle, claim, put, release, take};
 use crate::inside::Inside;
 use crate::statuses::{NO_MEMORY, not_back_number, not_back_status, not_opened_status};
 use crate::told::{BayClass, BayTerms, classes_of, terms_of};
-use bay_machine::{Bay, NotBack};
+use bay::{Bay, NotBack};
 use std::alloc::Global;
 
 /// A bay, or the status that says why not.

@@ -6,7 +6,7 @@ use crate::handle::{Handle, put, take};
 use crate::inside::Inside;
 use crate::statuses::{NOTHING, OVER, not_held_status, refusal_status};
 use crate::told::{BayAsked, BayOutcome, outcome_of, request_of};
-use bay_machine::Bay;
+use bay::Bay;
 use std::alloc::Global;
 
 fn ask_in(machine: &mut Bay, asked: &BayAsked, sets: &[u64], now: u64) -> u32

@@ -2,7 +2,7 @@
 ghost use Rattle.std.specs.Prelude.{◌≡◌};
 ghost use Rattle.bay_c.specs.Telling.{refusal_status, not_held_status, not_opened_status, not_noted_status, not_back_status, not_back_number};
 
-use bay_machine::{NotAsked, NotBack, NotHeld, NotNoted, NotOpened};
+use bay::{NotAsked, NotBack, NotHeld, NotNoted, NotOpened};
 
 /// The status if there is no memory.
 pub(crate) const NO_MEMORY: u32 = 5;

@@ -2,8 +2,8 @@
 ghost use Rattle.std.specs.Prelude.{◌≡◌, map, IfOk};
 ghost use Rattle.bay_c.specs.Telling.{moment, class_of, terms_of, request_of, what_of, outcome_of};
 
+use bay::{Class, Request, Terms, Told};
 use bay_book::{End, Outcome};
-use bay_machine::{Class, Request, Terms, Told};
 use std::alloc::{AllocError, Global};
 
 /// A class. In C: `struct lab_class { uint64_t uses; uint32_t places, unused; };`

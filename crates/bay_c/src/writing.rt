@@ -6,7 +6,7 @@ ghost use Rattle.bay_c.specs.Calls.{InBay, TimeGoes, Notes, handed, HandsOut, Ta
 use crate::handle::{Handle, put, take};
 use crate::inside::Inside;
 use crate::statuses::{NO_MEMORY, NO_ROOM, not_noted_status};
-use bay_machine::Bay;
+use bay::Bay;
 use std::alloc::Global;
 
 /// The number of a moment.

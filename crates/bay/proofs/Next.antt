@@ -1,0 +1,89 @@
+-- When something is due next.
+use Rattle.std.proofs.Common.{◌≡◌, ℕ, ◌<◌, ◌≤◌, min, Bool, true, false, nat_le, List, length, Option, Some, None, refl, sym, ◌∙◌, arith, rules}
+use Rattle.std.proofs.lemmas.Bool.{false≢true}
+use Rattle.bay_line.specs.Wanted.{AreWanted}
+use Rattle.bay_book.specs.declared.ask.Ask.{Ask}
+use Rattle.bay_book.specs.declared.ask.End.{End}
+use Rattle.bay_book.specs.declared.ask.End.TheVariants.{LetGo, Left, Lapsed, NotWritten, Limit, Grace, TakenAway, Replaced, Stopped}
+use Rattle.bay_book.specs.Asks.{ask_at}
+use Rattle.bay_book.specs.Moments.{sooner, is_past, until, kept_until, limit_end, due_at, limit_due_at, is_wanted, wanted_moment}
+use Rattle.bay_book.specs.Finding.{IsLeast}
+use Rattle.bay.specs.declared.classes.Class.{Class}
+use Rattle.bay.specs.declared.terms.Terms.{Terms}
+use Rattle.bay.specs.Cores.{Core}
+use Rattle.bay.specs.Following.{AreFull, IsDue, IsNextMoment}
+use Rattle.bay.proofs.Due.{is_wanted_so}
+
+le_of : (a b : ℕ) → nat_le a b ≡ true → a ≤ b
+le_of a b h = search (rules, h)
+
+-- it is over at this moment: so there is such a moment, and it isn't later
+pub record IsBy (t : ℕ) (o : Option ℕ) : Type 0 where
+  pub at : ℕ
+  pub is : o ≡ Some at
+  pub by : at ≤ t
+
+past_by : (t : ℕ) (o : Option ℕ) → is_past t o ≡ true → IsBy t o
+past_by t None h = absurd (false≢true h)
+past_by t (Some u) h = record { at = u; is = refl; by = le_of u t h }
+
+sooner_first : (t : ℕ) (a b : Option ℕ) → IsBy t a → IsBy t (sooner a b)
+sooner_first t None b h = absurd (let e = h.is in let no : ⊥ = cc in no)
+sooner_first t (Some u) None h = h
+sooner_first t (Some u) (Some v) h =
+    let e = h.is in let same : u ≡ h.at = cc in let by = h.by in record { at = min u v; is = refl; by = omega (arith, same, by) }
+
+sooner_second : (t : ℕ) (a b : Option ℕ) → IsBy t b → IsBy t (sooner a b)
+sooner_second t a None h = absurd (let e = h.is in let no : ⊥ = cc in no)
+sooner_second t None (Some v) h = h
+sooner_second t (Some u) (Some v) h =
+    let e = h.is in let same : v ≡ h.at = cc in let by = h.by in record { at = min u v; is = refl; by = omega (arith, same, by) }
+
+-- the least of all is by then, too
+least_by : (f : Ask → Option ℕ) (asks : List Ask) (place t : ℕ) (r : Option ℕ) → IsLeast f asks r → place < length asks → IsBy t (f (ask_at asks place)) → IsBy t r
+least_by f asks place t None least inside h = absurd (let e : None ≡ Some h.at = sym (least place inside) ∙ h.is in let no : ⊥ = cc in no)
+least_by f asks place t (Some m) least inside h =
+    let le = least.1 place h.at inside h.is in let by = h.by in record { at = m; is = refl; by = omega (arith, le, by) }
+
+wanted_by : (t : ℕ) (b : Bool) (o : Option ℕ) → b ≡ true → is_past t o ≡ true → IsBy t (wanted_moment b o)
+wanted_by t true o e h = past_by t o h
+wanted_by t false o e h = absurd (false≢true e)
+
+due_by : (classes : List Class) (terms : Terms) (x : Core) (wanted full : ℕ) (one two : Option ℕ) (t place : ℕ) (how : End) → AreWanted x.line.wishes wanted
+    → AreFull classes x full → IsLeast (due_at terms.grace terms.disk) x.book.asks one → IsLeast (limit_due_at wanted full) x.book.asks two
+    → place < length x.book.asks → IsDue classes terms t x (ask_at x.book.asks place) how → IsBy t (sooner one two)
+due_by classes terms x wanted full one two t place LetGo w f a b inside due = absurd due
+due_by classes terms x wanted full one two t place Left w f a b inside due = absurd due
+due_by classes terms x wanted full one two t place Lapsed w f a b inside due =
+    let k = ask_at x.book.asks place in
+    sooner_first t one two (least_by (due_at terms.grace terms.disk) x.book.asks place t one a inside
+    (sooner_first t (until terms.disk k) (kept_until terms.grace k) (past_by t (until terms.disk k) due.1)))
+due_by classes terms x wanted full one two t place NotWritten w f a b inside due =
+    let k = ask_at x.book.asks place in
+    sooner_first t one two (least_by (due_at terms.grace terms.disk) x.book.asks place t one a inside
+    (sooner_first t (until terms.disk k) (kept_until terms.grace k) (past_by t (until terms.disk k) due.1)))
+due_by classes terms x wanted full one two t place Limit w f a b inside due =
+    let k = ask_at x.book.asks place in
+    sooner_second t one two (least_by (limit_due_at wanted full) x.book.asks place t two b inside
+    (wanted_by t (is_wanted wanted full k) (limit_end k) (is_wanted_so classes x wanted full k w f due.0) due.1))
+due_by classes terms x wanted full one two t place Grace w f a b inside due =
+    let k = ask_at x.book.asks place in
+    sooner_first t one two (least_by (due_at terms.grace terms.disk) x.book.asks place t one a inside
+    (sooner_second t (until terms.disk k) (kept_until terms.grace k) (past_by t (kept_until terms.grace k) due)))
+due_by classes terms x wanted full one two t place TakenAway w f a b inside due = absurd due
+due_by classes terms x wanted full one two t place Replaced w f a b inside due = absurd due
+due_by classes terms x wanted full one two t place Stopped w f a b inside due = absurd due
+
+not_by : (t next : ℕ) (o : Option ℕ) → o ≡ Some next → t < next → IsBy t o → ⊥
+not_by t next o e less h = let is = h.is in let by = h.by in let same : next ≡ h.at = cc in omega (arith, same, by, less)
+
+none_by : (t : ℕ) (o : Option ℕ) → o ≡ None → IsBy t o → ⊥
+none_by t o e h = let is = h.is in let no : ⊥ = cc in no
+
+pub next_is : (classes : List Class) (terms : Terms) (x : Core) (wanted full : ℕ) (one two r : Option ℕ) → AreWanted x.line.wishes wanted
+    → AreFull classes x full → IsLeast (due_at terms.grace terms.disk) x.book.asks one → IsLeast (limit_due_at wanted full) x.book.asks two
+    → sooner one two ≡ r → IsNextMoment classes terms x r
+next_is classes terms x wanted full one two (Some next) w f a b is = λ t less place how inside due.
+    not_by t next (sooner one two) is less (due_by classes terms x wanted full one two t place how w f a b inside due)
+next_is classes terms x wanted full one two None w f a b is = λ t place how inside due.
+    none_by t (sooner one two) is (due_by classes terms x wanted full one two t place how w f a b inside due)

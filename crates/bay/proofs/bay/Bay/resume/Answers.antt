@@ -1,0 +1,19 @@
+use Rattle.std.proofs.Common.{ℕ, List, refl, subst}
+use Rattle.bay_log.specs.declared.line.Line.{Line}
+use Rattle.bay.specs.Restoring.{IsOf, IsBack}
+use Rattle.bay.proofs.bay.Bay.resume.Goals as goal
+
+pub returns : goal.returns
+returns c =
+    let found = c.in_ok-found.found in let room = c.in_ok-room.room in let now = c.args.now in
+    record {
+      found = found;
+      read = c.in_ok-found.ensures;
+      used_is = refl;
+      its = subst (IsOf c.args.head) c.deref.ensures.value (c.is_of.ensures c.if-not-is_of.false);
+      log = c.in-Some.ensures.log;
+      back = subst (λ (n : ℕ). IsBack found.lines.items now n room) c.position.ensures.position
+          (subst (λ (lines : List Line). IsBack lines now c.position.result room) c.deref-2.ensures.value c.in_ok-room.ensures.back);
+      classes_are = c.in_ok-room.ensures.terms.0;
+      terms_are = c.in_ok-room.ensures.terms.1;
+    }

@@ -1,0 +1,18 @@
+use Rattle.std.proofs.Common.{length, Some, None, subst}
+use Rattle.bay.specs.Restoring.{IsNextTo}
+use Rattle.bay.proofs.Restored.{so_far_more, all_done}
+use Rattle.bay.proofs.restoring.restore_all.Goals as goal
+
+pub loop-place-preserved : goal.loop-place-preserved
+loop-place-preserved c =
+    let l = c.loop-place in let holders = c.args.holders.now in let place = c.in-Some.place in
+    let s = so_far_more c.args.classes.now c.args.lines.now c.args.moment c.args.book.now.durable holders l.book c.restore_one.new.book place
+    c.requires.holders (subst (λ n. IsNextTo n holders (length holders) (Some place)) c.next.ensures c.in-Some.ensures)
+    c.in_ok-restore_one.ensures.restores c.in_ok-restore_one.ensures.alone l.invariant.each l.invariant.done in
+    record { alone = s.alone; each = s.each; done = s.done }
+
+pub returns-clause-all : goal.returns-clause-all
+returns-clause-all c =
+    let l = c.loop-place in let holders = c.args.holders.now in
+    all_done c.args.lines.now holders l.book c.requires.holders
+    (subst (λ n. IsNextTo n holders (length holders) None) c.next.ensures c.in_default.ensures) l.invariant.done

@@ -1,0 +1,79 @@
+-- For readers: what the calls of a bay do with its log, and what is true of every bay.
+use Rattle.std.specs.Prelude.{◌≡◌, ℕ, ◌+◌, ◌≤◌, ◌<◌, List, ◌++◌, length, Some, Result}
+use Rattle.std.specs.declared.alloc.AllocError.{AllocError}
+use Rattle.bay_book.specs.declared.ask.Ask.{Ask}
+use Rattle.bay_book.specs.declared.ask.Heard.TheVariants.{Holds as HeardHolds}
+use Rattle.bay_book.specs.declared.ask.Mark.TheVariants.{At}
+use Rattle.bay_book.specs.declared.ask.Stage.TheVariants.{Holds}
+use Rattle.bay_log.specs.declared.reading.Found.{Found}
+use Rattle.bay_log.specs.Texts.{IsText}
+use Rattle.bay_log.specs.Lines.{base_of, log_text}
+use Rattle.bay_log.specs.Logs.{IsStanding, resumed, end_of}
+use Rattle.bay_log.specs.Reads.{IsRead}
+use Rattle.bay_log.specs.Alive.{alive}
+use Rattle.bay.specs.declared.bay.NotOpened.{NotOpened}
+use Rattle.bay.specs.declared.bay.NotOpened.TheVariants.{Classes, NoMemory as NotOpenedMemory}
+use Rattle.bay.specs.declared.bay.NotNoted.{NotNoted}
+use Rattle.bay.specs.declared.bay.NotNoted.TheVariants.{NotHeld, NoText, NoMemory}
+use Rattle.bay.specs.Standings.{HoldsTold}
+use Rattle.bay.specs.declared.classes.Class.{Class}
+use Rattle.bay.specs.declared.terms.Terms.{Terms}
+use Rattle.bay.specs.Members.{Has}
+use Rattle.bay.specs.Rooms.{with_book, IsKept as IsKeptRoom}
+use Rattle.bay.specs.Restoring.{IsOf, IsBack, IsThere}
+use Rattle.bay.specs.Pages.{entry_of, pages, Writes as WritesOwed, IsLogged}
+pub use Rattle.bay.specs.BayViews.{BayView, with_room, with_log}
+
+-- what is true of every bay
+pub record IsKept (x : BayView) : Type 0 where
+  pub room : IsKeptRoom x.room
+  pub standing : IsStanding x.log
+  pub logged : IsLogged x.room.book x.log
+
+-- all that is owed is added to the log
+pub record Writes (result : Result (Unit {0}) AllocError) (old new : BayView) : Type 0 where
+  pub writes : WritesOwed result (pages old.room.book old.log) (pages new.room.book new.log)
+  pub same : new.room ≡ with_book old.room new.room.book
+
+-- it has more than 32 classes; or there is no memory
+abbrev pub IsWhyNotOpened : List Class → NotOpened → Type 0
+IsWhyNotOpened classes Classes = 32 < length classes
+IsWhyNotOpened classes NotOpenedMemory = Unit {0}
+
+-- the ask doesn't hold, or wasn't told so; or this isn't the text of a note; or it is, and there is no memory
+abbrev pub IsWhyNotNoted : BayView → ℕ → List ℕ → NotNoted → Type 0
+IsWhyNotNoted x number text NotHeld = HoldsTold x.room.book.asks number → ⊥
+IsWhyNotNoted x number text NoText = IsText text → ⊥
+IsWhyNotNoted x number text NoMemory = IsText text
+
+-- ---- what was told is kept
+
+-- An ask holds, and was told so, and its line was given. Whatever is left of the file after a crash, if it has all that is durable by the book: by the lines that
+-- are read of it the ask holds what it holds, for its owner
+abbrev pub ToldIsKept : BayView → Type 0
+ToldIsKept x =
+    (file lost : List ℕ) (found : Found) → log_text x.log.lines ≡ file ++ lost → x.room.book.durable ≤ base_of x.log.lines + length file → IsRead file found
+    → (a : Ask) (position : ℕ) → Has x.room.book.asks a → a.stage ≡ Holds → a.heard ≡ HeardHolds → a.hold_line ≡ At position
+    → alive found.lines.items a.number ≡ Some (entry_of a)
+
+-- ---- the bay comes back
+
+-- Of this file so many bytes were read, and its head is this bay's. The log goes on behind them; and just those hold that held by its lines
+pub record Resumes (classes : List Class) (terms : Terms) (head bytes : List ℕ) (now : ℕ) (x : BayView) (used : ℕ) : Type 0 where
+  pub found : Found
+  pub read : IsRead bytes found
+  pub used_is : used ≡ found.used
+  pub its : IsOf head found.lines.items
+  pub log : x.log ≡ resumed found
+  pub back : IsBack found.lines.items now (end_of x.log) x.room
+  pub classes_are : x.room.classes ≡ classes
+  pub terms_are : x.room.terms ≡ terms
+
+-- So it comes back: an ask holds, and was told so, and its line was given. Whatever is left of the file after a crash, if it has all that is durable by the book: in
+-- the bay that comes back from it the ask holds what it held, for its owner
+abbrev pub ToldComesBack : BayView → Type 0
+ToldComesBack x =
+    (classes : List Class) (terms : Terms) (head file lost : List ℕ) (now used : ℕ) (y : BayView) → log_text x.log.lines ≡ file ++ lost
+    → x.room.book.durable ≤ base_of x.log.lines + length file → Resumes classes terms head file now y used
+    → (a : Ask) (position : ℕ) → Has x.room.book.asks a → a.stage ≡ Holds → a.heard ≡ HeardHolds → a.hold_line ≡ At position
+    → IsThere y.room.book a.number (entry_of a)

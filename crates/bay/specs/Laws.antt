@@ -1,0 +1,90 @@
+-- For readers: what holds of every room.
+use Rattle.std.specs.Prelude.{◌≡◌, ◌≢◌, ◌⊎◌, ℕ, ◌≤◌, true, List, Some}
+use Rattle.std.specs.List.{count_by}
+use Rattle.std.specs.Int.{bit_at}
+use Rattle.bay_book.specs.declared.ask.Ask.{Ask}
+use Rattle.bay_book.specs.declared.ask.End.{End}
+use Rattle.bay_book.specs.declared.ask.End.TheVariants.{Lapsed}
+use Rattle.bay_book.specs.declared.ask.Heard.TheVariants.{Nothing}
+use Rattle.bay_book.specs.declared.ask.Stage.TheVariants.{Waits, Holds}
+use Rattle.bay_book.specs.Asks.{holding, over, holds_class}
+use Rattle.bay_book.specs.Moments.{is_past, is_late, later, after}
+use Rattle.bay.specs.declared.classes.Class.{Class}
+use Rattle.bay.specs.declared.request.Request.{Request}
+use Rattle.bay.specs.declared.terms.Terms.{Terms}
+use Rattle.bay.specs.Members.{Has}
+use Rattle.bay.specs.Classes.{class_at, is_within}
+use Rattle.bay.specs.Cores.{Core, HoldsIn}
+use Rattle.bay.specs.Following.{IsDue, IsWanted}
+use Rattle.bay.specs.Views.{RoomView, core_of, GoesOn}
+use Rattle.bay.specs.Rooms.{Asks, Ends, Leaves, Goes, ComesBack, Passes, Stops}
+
+-- ---- who holds
+
+-- No two asks hold one instrument; of each class no more hold than it has places; and each holds what its class may use
+pub record IsWellHeld (x : RoomView) : Type 0 where
+  pub one_owner : (a b : Ask) (i : ℕ) → HoldsIn x.book a → HoldsIn x.book b → bit_at a.needs i ≡ 1 → bit_at b.needs i ≡ 1 → a ≡ b
+  pub places : (k : ℕ) → count_by (holds_class k) x.book.asks ≤ (class_at x.classes k).places
+  pub allowed : (a : Ask) → HoldsIn x.book a → is_within (class_at x.classes a.class).uses a.needs ≡ true
+
+-- ---- who holds goes on to hold
+
+-- the ask is over, since its time was over
+abbrev pub EndedInTime : List Class → Terms → ℕ → List Ask → Ask → Type 0
+EndedInTime classes terms now asks a = (how : End) × (at : Core) × IsDue classes terms now at a how × Has asks (over how a)
+
+-- it holds, as it did; or its time was over
+abbrev pub HoldsOn : List Class → Terms → ℕ → List Ask → Ask → Type 0
+HoldsOn classes terms now asks a = Has asks a ⊎ EndedInTime classes terms now asks a
+
+-- it waits, as it did; or its deadline was over; or it came to hold, and holds on
+abbrev pub WaitsOn : List Class → Terms → ℕ → List Ask → Ask → Type 0
+WaitsOn classes terms now asks a =
+    Has asks a ⊎ ((is_late now terms.disk a ≡ true) × Has asks (over Lapsed a))
+    ⊎ ((needs : ℕ) × HoldsOn classes terms now asks (holding needs now terms.keeps a))
+
+-- any call but one of the ask with this number
+abbrev pub IsCallOfOthers : ℕ → ℕ → RoomView → RoomView → Type 0
+IsCallOfOthers number now old new =
+    ((sets : List ℕ) × (r : Request) × Asks sets r now old new)
+    ⊎ ((how : End) × (other : ℕ) × (other ≢ number) × Ends how other now old new)
+    ⊎ ((other : ℕ) × (other ≢ number) × Leaves other now old new)
+    ⊎ ((other : ℕ) × (other ≢ number) × Goes other now old new)
+    ⊎ ((other : ℕ) × (owner : ℕ) × (needs : ℕ) × (other ≢ number) × ComesBack other owner now old (Some needs) new)
+    ⊎ Passes now old new
+    ⊎ Stops now old new
+
+-- whoever holds goes on to hold, whatever others do and whatever time it is, until its own time is over
+abbrev pub WhoHoldsHoldsOn : Type 0
+WhoHoldsHoldsOn =
+    (old new : RoomView) (now : ℕ) (a : Ask) → HoldsIn old.book a → IsCallOfOthers a.number now old new
+    → HoldsOn old.classes old.terms new.moment new.book.asks a
+
+-- any call of others but that the room stops
+abbrev pub IsCallInService : ℕ → ℕ → RoomView → RoomView → Type 0
+IsCallInService number now old new =
+    ((sets : List ℕ) × (r : Request) × Asks sets r now old new)
+    ⊎ ((how : End) × (other : ℕ) × (other ≢ number) × Ends how other now old new)
+    ⊎ ((other : ℕ) × (other ≢ number) × Leaves other now old new)
+    ⊎ ((other : ℕ) × (other ≢ number) × Goes other now old new)
+    ⊎ ((other : ℕ) × (owner : ℕ) × (needs : ℕ) × (other ≢ number) × ComesBack other owner now old (Some needs) new)
+    ⊎ Passes now old new
+
+-- whoever waits goes on to wait, or lapses, or comes to hold
+abbrev pub WhoWaitsWaitsOn : Type 0
+WhoWaitsWaitsOn =
+    (old new : RoomView) (now : ℕ) (a : Ask) → Has old.book.asks a → a.stage ≡ Waits → IsCallInService a.number now old new
+    → WaitsOn old.classes old.terms new.moment new.book.asks a
+
+-- ---- in time
+
+-- After each call: nobody waits whose deadline is over; nobody holds, and wasn't told so, whose deadline and the disk's time are over; nobody holds whose
+-- limit is over while somebody waits for what it has; and nobody whose client is gone for too long
+pub record IsInTime (classes : List Class) (terms : Terms) (now : ℕ) (x : Core) : Type 0 where
+  pub waits : (a : Ask) → Has x.book.asks a → a.stage ≡ Waits → is_past now a.deadline ≡ true → ⊥
+  pub untold : (a : Ask) → Has x.book.asks a → a.stage ≡ Holds → a.heard ≡ Nothing → is_past now (later a.deadline (after (Some a.since) terms.disk)) ≡ true → ⊥
+  pub limits : (a : Ask) → Has x.book.asks a → a.stage ≡ Holds → IsWanted classes x a → is_past now (after (Some a.since) a.limit) ≡ true → ⊥
+  pub gone : (a : Ask) → Has x.book.asks a → a.stage ≡ Holds → is_past now (after a.gone terms.grace) ≡ true → ⊥
+
+abbrev pub AnswersInTime : Type 0
+AnswersInTime = (old new : RoomView) (now : ℕ) (mid : Core) → GoesOn now mid old new → IsInTime old.classes old.terms new.moment (core_of new)

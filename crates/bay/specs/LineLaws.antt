@@ -1,0 +1,52 @@
+-- For readers: what holds of everybody who waits, and of numbers.
+use Rattle.std.specs.Prelude.{◌≡◌, ◌⊎◌, ℕ, ◌<◌, ◌≤◌, List, length, Some}
+use Rattle.bay_line.specs.declared.wish.Wish.{Wish}
+use Rattle.bay_line.specs.Bounds.{Waits}
+use Rattle.bay_line.specs.Chains.{HasWholeReason}
+use Rattle.bay_book.specs.declared.ask.End.{End}
+use Rattle.bay_book.specs.Finding.{IsInUse}
+use Rattle.bay.specs.declared.request.Request.{Request}
+use Rattle.bay.specs.Members.{Has}
+use Rattle.bay.specs.Cores.{Core, AreFree}
+use Rattle.bay.specs.Views.{RoomView, GoesOn}
+use Rattle.bay.specs.Rooms.{IsKept, Asks, Ends, Leaves, Goes, ComesBack, Passes}
+
+-- ---- who waits
+
+-- a wish of the ask is in line
+abbrev pub HasWish : List Wish → ℕ → Type 0
+HasWish wishes ask = (w : Wish) × Has wishes w × (w.ask ≡ ask)
+
+-- any call but that the room stops
+abbrev pub IsCall : ℕ → RoomView → RoomView → Type 0
+IsCall now old new =
+    ((sets : List ℕ) × (r : Request) × Asks sets r now old new)
+    ⊎ ((how : End) × (number : ℕ) × Ends how number now old new)
+    ⊎ ((number : ℕ) × Leaves number now old new)
+    ⊎ ((number : ℕ) × Goes number now old new)
+    ⊎ ((number : ℕ) × (owner : ℕ) × (needs : ℕ) × ComesBack number owner now old (Some needs) new)
+    ⊎ Passes now old new
+
+-- Each call is a time in which an ask waits that is in line behind it: others ask, leave, or are let in. So the line's laws say by how many it is passed meanwhile
+abbrev pub CallsAreWaited : Type 0
+CallsAreWaited =
+    (old new : RoomView) (now ask : ℕ) → IsKept old → IsCall now old new → HasWish new.line.wishes ask → (n : ℕ) × Waits ask n old.line new.line
+
+-- why each that is in line waits, to the end: no place is free for it; or it leads to an instrument that somebody holds
+pub record EachHasAReason (x : RoomView) : Type 0 where
+  pub used : ℕ
+  pub free : ℕ
+  pub are_used : IsInUse x.book.asks used
+  pub are_free : AreFree x.classes x.book.asks free
+  pub reasons : (k : ℕ) → k < length x.line.wishes → HasWholeReason x.line.most used free x.line.wishes k
+
+-- so it is after each call
+abbrev pub NobodyWaitsForNothing : Type 0
+NobodyWaitsForNothing = (old new : RoomView) (now : ℕ) (mid : Core) → GoesOn now mid old new → EachHasAReason new
+
+-- ---- numbers
+
+-- a number is given once: whoever asks has a larger one than all that were given before, and no call gives one back
+pub record NumbersRise : Type 0 where
+  pub asks : (old new : RoomView) (sets : List ℕ) (r : Request) (now : ℕ) → Asks sets r now old new → (old.book.next ≤ r.number) × (r.number < new.book.next)
+  pub calls : (old new : RoomView) (now : ℕ) → IsCall now old new → old.book.next ≤ new.book.next

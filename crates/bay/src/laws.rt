@@ -1,0 +1,65 @@
+//! What holds of every bay. Each law is the contract of a function that does nothing.
+ghost use Rattle.bay.specs.Bays.{ToldIsKept, ToldComesBack};
+ghost use Rattle.bay.specs.LineLaws.{CallsAreWaited, NobodyWaitsForNothing, NumbersRise};
+ghost use Rattle.bay.specs.Laws.{IsWellHeld, WhoHoldsHoldsOn, WhoWaitsWaitsOn, AnswersInTime};
+
+use crate::bay::Bay;
+use bay_line::laws::{each_reason_ends, next_is_let_in};
+use bay_log::laws::{cut_lines_are_read, holds_at_the_cut};
+
+/// No two asks hold one instrument; of each class no more hold than it has places; and each holds what its class may use.
+pub fn is_well_held(bay: &Bay)
+    ensures { IsWellHeld bay.now.room }
+{
+    bay.look();
+}
+
+/// Whoever holds goes on to hold, whatever others do and whatever time it is, until its own time is over.
+pub fn who_holds_holds_on()
+    ensures { WhoHoldsHoldsOn }
+{}
+
+/// Whoever waits goes on to wait, or lapses, or comes to hold.
+pub fn who_waits_waits_on()
+    ensures { WhoWaitsWaitsOn }
+{}
+
+/// After each call nobody waits or holds whose time is over.
+pub fn answers_in_time()
+    ensures { AnswersInTime }
+{}
+
+/// Whoever was told that it holds, and holds still, does so by what is read of the log after a crash.
+pub fn told_is_kept(bay: &Bay)
+    ensures { ToldIsKept bay.now }
+{
+    bay.look();
+    cut_lines_are_read();
+    holds_at_the_cut();
+}
+
+/// So it comes back: in the bay that comes back after a crash, it holds what it held.
+pub fn told_comes_back(bay: &Bay)
+    ensures { ToldComesBack bay.now }
+{
+    told_is_kept(bay);
+}
+
+/// Each call is a time in which whoever is in line behind it waits. So the line's laws say by how many it is passed.
+pub fn calls_are_waited()
+    ensures { CallsAreWaited }
+{
+    next_is_let_in();
+}
+
+/// After each call, whoever is in line has a reason to wait: no place is free for it, or it leads to an instrument that somebody holds.
+pub fn nobody_waits_for_nothing()
+    ensures { NobodyWaitsForNothing }
+{
+    each_reason_ends();
+}
+
+/// A number is given once.
+pub fn numbers_rise()
+    ensures { NumbersRise }
+{}

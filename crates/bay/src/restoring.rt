@@ -1,0 +1,199 @@
+//! Those that held by the log hold again.
+ghost use Rattle.std.specs.Prelude.{◌≡◌, ◌<◌, ◌≤◌, ℕ, ◌+◌, false, [], length, IsTrue, OnOk, IfOk, All};
+ghost use Rattle.bay_log.specs.Alive.{alive};
+ghost use Rattle.bay_log.specs.Holders.{AreHolders};
+ghost use Rattle.bay.specs.Cores.{IsFreeClass};
+ghost use Rattle.bay.specs.Restoring.{holder_at, IsUnused, MayHold, IsNextTo, IsNextHolder, AreAlone, Restores, AreRestored, AreDone, after_line, IsOf};
+
+use crate::classes::{Class, is_within};
+use crate::free::is_free;
+use bay_book::Book;
+use bay_log::{Holder, Line, holders};
+use std::alloc::Global;
+
+/// Why a bay doesn't come back.
+#[derive(Clone, Copy, PartialEq, Eq, Debug)]
+pub enum NotBack {
+    /// There is no memory.
+    NoMemory,
+    /// The file has no line, or no more room for positions.
+    NoPlace,
+    /// This line, counted from 1, isn't one: changed, not in its place, or none of a log.
+    Line(usize),
+    /// It is the log of another bay.
+    Another,
+    /// There are more than 32 classes.
+    Classes,
+    /// This ask held by the log, and may not: another holds one of its instruments, or its class may not use one, or has no place left.
+    MayNot(u64),
+}
+
+/// Whether nobody holds one of these instruments.
+fn is_unused(book: &Book, needs: u64) -> bool
+    ensures { IsTrue result → IsUnused book.now.asks needs }
+{
+    needs & book.in_use() == 0
+}
+
+/// Whether this one may hold, too.
+fn may_hold(classes: &[Class], book: &Book, holder: Holder) -> bool
+    requires { length classes.now ≤ 32 }
+    ensures { IsTrue result → MayHold classes.now book.now.asks holder }
+{
+    let class = holder.entry.class as usize;
+    if classes.len() <= class {
+        return false;
+    }
+    if !is_within(holder.entry.needs, classes[class].uses) {
+        return false;
+    }
+    if !is_unused(book, holder.entry.needs) {
+        return false;
+    }
+    is_free(classes, book, class)
+}
+
+/// The one of the two whose number is less, if it isn't below that.
+fn better(holders: &[Holder], best: Option<usize>, place: usize, next: u64) -> Option<usize>
+    requires inside { place < length holders.now }
+    requires so_far { IsNextTo next holders.now place best }
+    ensures { IsNextTo next holders.now (place + 1) result }
+{
+    if holders[place].ask < next {
+        return best;
+    }
+    match best {
+        None => Some(place),
+        Some(other) => {
+            if holders[other].ask <= holders[place].ask {
+                Some(other)
+            } else {
+                Some(place)
+            }
+        }
+    }
+}
+
+/// The one with the least number that isn't below this.
+fn next_holder(holders: &[Holder], next: u64) -> Option<usize>
+    ensures { IsNextHolder next holders.now result }
+{
+    let mut best = None;
+    for place in 0..holders.len() {
+        best = better(holders, best, place, next);
+    }
+    best
+}
+
+/// One holds again. It takes memory.
+fn restore_one(
+    classes: &[Class],
+    book: &mut Book,
+    holder: Holder,
+    moment: u64,
+) -> Result<(), NotBack>
+    requires few { length classes.now ≤ 32 }
+    requires new { book.old.next ≤ holder.ask }
+    requires alone { AreAlone classes.now book.old }
+    ensures restores { OnOk result (Restores holder moment book.old book.new) }
+    ensures alone { OnOk result (AreAlone classes.now book.new) }
+{
+    if holder.ask == u64::MAX || !may_hold(classes, book, holder) {
+        return Err(NotBack::MayNot(holder.ask));
+    }
+    let entry = holder.entry;
+    match book.restore(
+        holder.ask,
+        entry.class,
+        entry.owner,
+        entry.limit,
+        entry.needs,
+        entry.since,
+        moment,
+    ) {
+        Ok(()) => Ok(()),
+        Err(_) => Err(NotBack::NoMemory),
+    }
+}
+
+/// All that held by these lines hold again.
+pub(crate) fn restore_all(
+    classes: &[Class],
+    book: &mut Book,
+    lines: &[Line],
+    holders: &[Holder],
+    moment: u64,
+) -> Result<(), NotBack>
+    requires few { length classes.now ≤ 32 }
+    requires holders { AreHolders holders.now (alive lines.now) }
+    requires alone { AreAlone classes.now book.old }
+    requires none { book.old.asks ≡ [] }
+    requires first { book.old.next ≡ 0 }
+    ensures alone { OnOk result (AreAlone classes.now book.new) }
+    ensures each { OnOk result (AreRestored lines.now moment book.old.durable book.new) }
+    ensures all { OnOk result (AreDone lines.now book.new) }
+{
+    let _ = lines.len();
+    while let Some(place) = next_holder(holders, book.next()) {
+        restore_one(classes, book, holders[place], moment)?;
+    }
+    Ok(())
+}
+
+/// The number behind those that a line has.
+fn after_line(line: &Line) -> u64
+    ensures { result ≡ after_line line.now }
+{
+    match line {
+        Line::Head { next, .. } => *next,
+        Line::Hold { ask, .. } => ask.saturating_add(1),
+        Line::Back { to, .. } => to.saturating_add(1),
+        Line::End { ask, .. } => ask.saturating_add(1),
+        Line::Note { ask, .. } => ask.saturating_add(1),
+    }
+}
+
+/// A number behind all that the lines have.
+pub(crate) fn after_lines(lines: &[Line]) -> u64
+    ensures { All (λ line. after_line line ≤ result) lines.now }
+{
+    let mut next = 0u64;
+    for line in lines {
+        next = next.max(after_line(line));
+    }
+    next
+}
+
+/// Whether these are the lines of this bay.
+pub(crate) fn is_of(lines: &[Line], head: [u8; 32]) -> bool
+    ensures { IsTrue result → IsOf head lines.now }
+{
+    match lines.first() {
+        Some(Line::Head { bay, .. }) => *bay == head,
+        _ => false,
+    }
+}
+
+/// A book in which just those hold that held by these lines. They outlive a crash up to this position. It takes memory.
+pub(crate) fn restored_book(
+    alloc: Global,
+    classes: &[Class],
+    lines: &[Line],
+    position: u64,
+    now: u64,
+) -> Result<Book, NotBack>
+    requires { length classes.now ≤ 32 }
+    ensures alone { IfOk result (λ book. AreAlone classes.now book) }
+    ensures each { IfOk result (λ book. AreRestored lines.now now position book) }
+    ensures all { IfOk result (λ book. AreDone lines.now book) }
+    ensures next { IfOk result (λ book. All (λ line. after_line line ≤ book.next) lines.now) }
+{
+    let Ok(found) = holders(alloc, lines) else {
+        return Err(NotBack::NoMemory);
+    };
+    let mut book = Book::nobody(alloc);
+    book.reach(position);
+    restore_all(classes, &mut book, lines, &found, now)?;
+    book.skip(after_lines(lines));
+    Ok(book)
+}

@@ -1,7 +1,0 @@
-use Rattle.bay_machine.proofs.LoggedCalls.{after_passes}
-use Rattle.bay_machine.proofs.bay.Bay.time.Goals as goal
-
-pub invariant_of-self : goal.invariant_of-self
-invariant_of-self c =
-    let x = c.self.inside in
-    after_passes c.args.now x.room c.time.new.self x.log c.time.ensures c.self.invariant

@@ -1,5 +1,0 @@
-use Rattle.bay_machine.proofs.Kept.{told_kept}
-use Rattle.bay_machine.proofs.laws.told_is_kept.Goals as goal
-
-pub returns : goal.returns
-returns c = told_kept c.args.bay.now c.look.ensures c.cut_lines_are_read.ensures c.holds_at_the_cut.ensures

@@ -1,5 +1,0 @@
-use Rattle.bay_machine.proofs.Calls.{who_holds}
-use Rattle.bay_machine.proofs.laws.who_holds_holds_on.Goals as goal
-
-pub returns : goal.returns
-returns c = who_holds

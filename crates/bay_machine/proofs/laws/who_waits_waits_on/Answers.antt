@@ -1,5 +1,0 @@
-use Rattle.bay_machine.proofs.Calls.{who_waits}
-use Rattle.bay_machine.proofs.laws.who_waits_waits_on.Goals as goal
-
-pub returns : goal.returns
-returns c = who_waits
