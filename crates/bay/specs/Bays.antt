@@ -48,8 +48,8 @@ IsWhyNotNoted x number text NoMemory = IsText text
 
 -- ---- what was told is kept
 
--- An ask holds, and was told so, and its line was given. Whatever is left of the file after a crash, if it has all that is durable by the book: by the lines that
--- are read of it the ask holds what it holds, for its owner
+-- An ask holds, and was told so, and its line was given. Whatever is left of the file after a crash, if it has all that is durable by the book: by the lines
+-- that are read of it the ask holds what it holds, for its owner
 abbrev pub ToldIsKept : BayView → Type 0
 ToldIsKept x =
     (file lost : List ℕ) (found : Found) → log_text x.log.lines ≡ file ++ lost → x.room.book.durable ≤ base_of x.log.lines + length file → IsRead file found
@@ -69,8 +69,8 @@ pub record Resumes (classes : List Class) (terms : Terms) (head bytes : List ℕ
   pub classes_are : x.room.classes ≡ classes
   pub terms_are : x.room.terms ≡ terms
 
--- So it comes back: an ask holds, and was told so, and its line was given. Whatever is left of the file after a crash, if it has all that is durable by the book: in
--- the bay that comes back from it the ask holds what it held, for its owner
+-- So it comes back: an ask holds, and was told so, and its line was given. Whatever is left of the file after a crash, if it has all that is durable by the
+-- book: in the bay that comes back from it the ask holds what it held, for its owner
 abbrev pub ToldComesBack : BayView → Type 0
 ToldComesBack x =
     (classes : List Class) (terms : Terms) (head file lost : List ℕ) (now used : ℕ) (y : BayView) → log_text x.log.lines ≡ file ++ lost

@@ -44,8 +44,8 @@ IsByBook classes book w = (a : Ask) × Has book.asks a × (a.stage ≡ Waits) ×
 abbrev pub HoldsIn : BookView → Ask → Type 0
 HoldsIn book a = Has book.asks a × (is_holding a.stage ≡ true)
 
--- What is true of every bay. Who waits by the book is in line, and who is in line waits by the book; no two hold a common instrument; of each class no more hold
--- than it has places; and each holds what its class may use
+-- What is true of every bay. Who waits by the book is in line, and who is in line waits by the book; no two hold a common instrument; of each class no more
+-- hold than it has places; and each holds what its class may use
 pub record IsTied (classes : List Class) (x : Core) : Type 0 where
   pub in_line : (a : Ask) → Has x.book.asks a → a.stage ≡ Waits → IsInLine x.line a
   pub by_book : (w : Wish) → Has x.line.wishes w → IsByBook classes x.book w
@@ -63,7 +63,8 @@ IsFreeClass classes asks k = count_by (holds_class k) asks < (class_at classes k
 abbrev pub AreFree : List Class → List Ask → ℕ → Type 0
 AreFree classes asks free = (k : ℕ) → (bit_at free k ≡ 1) ↔ ((k < length classes) × IsFreeClass classes asks k)
 
--- The next in line was let in: no instrument of it is in use, nor kept for one that goes before it, and a place of its class is free. It holds from this moment on
+-- The next in line was let in: no instrument of it is in use, nor kept for one that goes before it, and a place of its class is free. It holds from this
+-- moment on
 pub record LetsIn (classes : List Class) (now : ℕ) (keeps : Bool) (old new : Core) : Type 0 where
   pub used : ℕ
   pub free : ℕ
@@ -79,7 +80,8 @@ pub record LetsIn (classes : List Class) (now : ℕ) (keeps : Bool) (old new : C
   pub line : new.line ≡ gone old.line it free
   pub book : new.book ≡ hold old.book place it.needs now keeps
 
--- Nobody waits for nothing: each wish in line has a reason. No place is free for it; or an instrument of it is in use; or one is kept for one that goes before it
+-- Nobody waits for nothing: each wish in line has a reason. No place is free for it; or an instrument of it is in use; or one is kept for one that goes
+-- before it
 pub record NobodyWaits (classes : List Class) (x : Core) : Type 0 where
   pub used : ℕ
   pub free : ℕ

@@ -51,8 +51,8 @@ AreFull classes x full = (k : ℕ) → (bit_at full k ≡ 1) ↔ IsFull classes 
 abbrev pub IsWanted : List Class → Core → Ask → Type 0
 IsWanted classes x a = ((w : Wish) × Has x.line.wishes w × (common a.needs w.needs ≡ true)) ⊎ IsFull classes x a.class
 
--- The time of the ask is over, so that it ends like this: its client is gone for too long; or it holds for as long as it may while somebody waits for what it has;
--- or it waited until its deadline; or what says that it holds isn't on the disk in time
+-- The time of the ask is over, so that it ends like this: its client is gone for too long; or it holds for as long as it may while somebody waits for what it
+-- has; or it waited until its deadline; or what says that it holds isn't on the disk in time
 abbrev pub IsDue : List Class → Terms → ℕ → Core → Ask → End → Type 0
 IsDue classes terms now x a LetGo = ⊥
 IsDue classes terms now x a Left = ⊥

@@ -27,7 +27,8 @@ IsCall now old new =
     ⊎ ((number : ℕ) × (owner : ℕ) × (needs : ℕ) × ComesBack number owner now old (Some needs) new)
     ⊎ Passes now old new
 
--- Each call is a time in which an ask waits that is in line behind it: others ask, leave, or are let in. So the line's laws say by how many it is passed meanwhile
+-- Each call is a time in which an ask waits that is in line behind it: others ask, leave, or are let in. So the line's laws say by how many it is passed
+-- meanwhile
 abbrev pub CallsAreWaited : Type 0
 CallsAreWaited =
     (old new : RoomView) (now ask : ℕ) → IsKept old → IsCall now old new → HasWish new.line.wishes ask → (n : ℕ) × Waits ask n old.line new.line

@@ -84,8 +84,8 @@ abbrev pub WritesAll : (Ask → Option Line) → Result (Unit {0}) AllocError �
 WritesAll owed result old new =
     (n : ℕ) × WritesTo owed n old new × OnOk result (n ≡ length old.book.asks)
 
--- All that is owed is written: first that asks are over, and then that they hold. So whatever stands in the log before a line that says that one holds: who held
--- that before it is over by the log. If there is no memory, the first lines are written
+-- All that is owed is written: first that asks are over, and then that they hold. So whatever stands in the log before a line that says that one holds: who
+-- held that before it is over by the log. If there is no memory, the first lines are written
 abbrev pub Writes : Result (Unit {0}) AllocError → Pages → Pages → Type 0
 Writes result old new =
     ((mid : Pages) × WritesTo owed_end (length old.book.asks) old mid × WritesAll owed_hold result mid new)
@@ -93,8 +93,8 @@ Writes result old new =
 
 -- ---- what is true of book and log
 
--- From this position on the log says that the ask holds: there is a beginning of it, no longer than that, behind which no ask with this number begins to hold; and
--- by all lines it holds
+-- From this position on the log says that the ask holds: there is a beginning of it, no longer than that, behind which no ask with this number begins to
+-- hold; and by all lines it holds
 pub record IsInLog (log : LogView) (a : Ask) (position : ℕ) : Type 0 where
   pub front : List Line
   pub rest : List Line

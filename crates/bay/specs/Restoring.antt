@@ -95,8 +95,8 @@ IsOf head (Back from to ∷ lines) = ⊥
 IsOf head (EndLine ask how ∷ lines) = ⊥
 IsOf head (Note ask text ∷ lines) = ⊥
 
--- Just those hold that held by these lines, each what it held. They were told so, and the lines outlive a crash. Their clients are gone since this moment. Nobody
--- waits. And the next number is behind all that the lines have
+-- Just those hold that held by these lines, each what it held. They were told so, and the lines outlive a crash. Their clients are gone since this moment.
+-- Nobody waits. And the next number is behind all that the lines have
 pub record IsBack (lines : List Line) (moment position : ℕ) (x : RoomView) : Type 0 where
   pub nobody_waits : x.line.wishes ≡ []
   pub each : (a : Ask) → Has x.book.asks a → IsRestored lines moment position a

@@ -88,7 +88,8 @@ Goes number now old new =
 
 -- Its client is there again, and holds this; and all follows from that. Or it is over, or another's, and nothing changed
 abbrev pub ComesBack : ℕ → ℕ → ℕ → RoomView → Option ℕ → RoomView → Type 0
-ComesBack number owner now old (Some needs) new = (book : BookView) × MarksBack number owner old.book (Some needs) book × GoesOn now (core old.line book) old new
+ComesBack number owner now old (Some needs) new =
+    (book : BookView) × MarksBack number owner old.book (Some needs) book × GoesOn now (core old.line book) old new
 ComesBack number owner now old None new = MarksBack number owner old.book None old.book × (new ≡ old)
 
 -- ---- the room stops

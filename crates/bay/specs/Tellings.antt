@@ -23,7 +23,8 @@ abbrev pub TellsOne : ℕ → BookView → Option Told → BookView → Type 0
 TellsOne serial old (Some t) new = (place : ℕ) × TellsThis place serial t old new
 TellsOne serial old None new = IsNextToTell old.asks old.durable None × (new ≡ old)
 
--- One is told, with the next serial number. Or there is nothing to tell, or the last serial number was given; and those that are done aren't in the book any more
+-- One is told, with the next serial number. Or there is nothing to tell, or the last serial number was given; and those that are done aren't in the book any
+-- more
 abbrev pub TellsNext : ℕ → BookView → Option Told × ℕ → BookView → Type 0
 TellsNext serial old (Some t, s) new = TellsOne (serial + 1) old (Some t) new × (s ≡ serial + 1)
 TellsNext serial old (None, s) new =

@@ -40,13 +40,13 @@ pub struct Room {
 }
 
 impl Model for Room {
-    ghost use Rattle.bay.specs.Views.{RoomView, IsRoom};
+    ghost use Rattle.bay.specs.Views.{RoomView, room_view, IsRoom};
 
     ghost Value = { RoomView };
 
-    ghost view = { λ x. record { classes = x.classes.items; terms = x.terms; line = x.line; book = x.book; moment = x.moment; stopped = x.stopped; telling = x.telling; serial = x.serial } };
+    ghost view = { λ x. room_view x.classes.items x.terms x.line x.book x.moment x.stopped x.telling x.serial };
 
-    ghost invariant = { λ x. IsRoom (record { classes = x.classes.items; terms = x.terms; line = x.line; book = x.book; moment = x.moment; stopped = x.stopped; telling = x.telling; serial = x.serial }) };
+    ghost invariant = { λ x. IsRoom (room_view x.classes.items x.terms x.line x.book x.moment x.stopped x.telling x.serial) };
 }
 
 impl Room {

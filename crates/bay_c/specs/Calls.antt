@@ -21,7 +21,8 @@ use Rattle.bay_c.specs.declared.told.BayClass.{BayClass}
 use Rattle.bay_c.specs.declared.told.BayTerms.{BayTerms}
 use Rattle.bay_c.specs.declared.told.BayAsked.{BayAsked}
 use Rattle.bay_c.specs.declared.told.BayOutcome.{BayOutcome}
-use Rattle.bay_c.specs.Telling.{class_of, terms_of, request_of, outcome_of, refusal_status, not_held_status, not_noted_status, not_back_status, not_back_number, number_of}
+use Rattle.bay_c.specs.Telling.{class_of, terms_of, request_of, outcome_of, number_of}
+use Rattle.bay_c.specs.Telling.{refusal_status, not_held_status, not_noted_status, not_back_status, not_back_number}
 
 -- ---- opening
 
@@ -82,7 +83,8 @@ AsksFor sets asked now a b told told' status =
 -- the ask, which held, is over like this (0); or it waits (8), or is over already (26), and nothing changed
 abbrev pub EndsLike : End → ℕ → ℕ → BayView → BayView → Unit {0} → Unit {0} → ℕ → Type 0
 EndsLike how number now a b told told' status =
-    ((status ≡ 0) × Ends how number now a.room b.room × (b.log ≡ a.log)) ⊎ ((why : NotHeld) × (status ≡ not_held_status why) × IsWhyNotHeld a.room number why × (b ≡ a))
+    ((status ≡ 0) × Ends how number now a.room b.room × (b.log ≡ a.log))
+    ⊎ ((why : NotHeld) × (status ≡ not_held_status why) × IsWhyNotHeld a.room number why × (b ≡ a))
 
 abbrev pub LetsGo : ℕ → ℕ → BayView → BayView → Unit {0} → Unit {0} → ℕ → Type 0
 LetsGo = EndsLike LetGo
@@ -137,8 +139,8 @@ TimeGoes now a b told told' status =
     (status ≡ 0) × Passes now a.room b.room × (b.log ≡ a.log)
     × ((next : Option ℕ) × IsNextMoment b.room.classes b.room.terms (core_of b.room) next × (told' ≡ number_of next))
 
--- A note of an ask that holds, and was told so, is in the log, and the position behind it is told (0). Or the ask isn't so far (8), or it isn't a text (24), or there
--- is no memory (5), and nothing changed
+-- A note of an ask that holds, and was told so, is in the log, and the position behind it is told (0). Or the ask isn't so far (8), or it isn't a text (24),
+-- or there is no memory (5), and nothing changed
 abbrev pub Notes : ℕ → List ℕ → BayView → BayView → ℕ → ℕ → ℕ → Type 0
 Notes number text a b told told' status =
     ((status ≡ 0) × HoldsTold a.room.book.asks number × (b ≡ with_log a (adding a.log (Note number text))) × (told' ≡ end_of b.log))

@@ -119,7 +119,8 @@ pub extern "C" fn lab_bay_journal(
     written: &mut usize,
     position: &mut u64,
 ) -> u32
-    ensures { InBay TakesJournal bay.old.slot.held bay.new.slot.held (handed text.old written.old position.old) (handed text.new written.new position.new) result }
+    ensures { InBay TakesJournal bay.old.slot.held bay.new.slot.held (handed text.old written.old position.old)
+        (handed text.new written.new position.new) result }
 {
     let mut inside = match take(&mut bay.slot, &mut bay.live, alloc) {
         Ok(inside) => inside,

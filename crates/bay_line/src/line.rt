@@ -88,8 +88,8 @@ impl Line {
         wanting::first_deadline(&self.wishes)
     }
 
-    /// Somebody asks, for one of these sets of instruments, whichever is free first, and for a place of one of these classes. Its number is above those of all that
-    /// are in line. It takes memory.
+    /// Somebody asks, for one of these sets of instruments, whichever is free first, and for a place of one of these classes. Its number is above those of
+    /// all that are in line. It takes memory.
     pub fn ask(
         &mut self,
         ask: u64,
