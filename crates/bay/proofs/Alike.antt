@@ -1,5 +1,5 @@
 -- Asks that are as far as they were.
-use Rattle.std.proofs.Common.{◌≡◌, ℕ, ◌+◌, ◌<◌, ◌≤◌, Bool, true, ◌&&◌, ◌||◌, not, nat_eq, if◌then◌else◌, is_some, List, [], ◌∷◌, length, set, map, ◌^◌, Option, Some, None, refl, sym, ap, ◌∙◌, subst, inl, inr, arith}
+use Rattle.std.proofs.Common.{◌≡◌, ℕ, ◌+◌, ◌<◌, ◌≤◌, Bool, true, ◌&&◌, ◌||◌, not, nat_eq, if◌then◌else◌, is_some, List, [], ◌∷◌, length, set, ◌^◌, Option, Some, None, refl, sym, ap, ◌∙◌, subst, inl, inr, arith}
 use Rattle.std.specs.List.{count_by, filter}
 use Rattle.std.proofs.lemmas.Bool.{cases_Bool}
 use Rattle.std.proofs.lemmas.List.Sums.{sum_by-cons}
@@ -10,7 +10,7 @@ use Rattle.bay_book.specs.declared.ask.Stage.{Stage}
 use Rattle.bay_book.specs.declared.ask.Stage.TheVariants.{Waits}
 use Rattle.bay_book.specs.Asks.{ask_at, is_holding, is_over, holds_class, given, hearing, gone_since, back_again, is_done, has_heard_end, has_left, is_owed}
 use Rattle.bay_book.specs.Moments.{common}
-use Rattle.bay_book.specs.Books.{BookView, IsSound, give, heard, set_gone, is_back, purge}
+use Rattle.bay_book.specs.Books.{BookView, IsSound, heard, set_gone, is_back, purge}
 use Rattle.bay.specs.declared.classes.Class.{Class}
 use Rattle.bay.specs.declared.telling.Told.{Told}
 use Rattle.bay.specs.Members.{Has}
@@ -18,7 +18,7 @@ use Rattle.bay.specs.Classes.{class_at, is_within}
 use Rattle.bay.specs.Cores.{core, IsTied}
 use Rattle.bay.specs.Standings.{MarksGone, MarksBack}
 use Rattle.bay.specs.Tellings.{TellsNext}
-use Rattle.bay.proofs.Members.{has_at, set_cases, set_new, set_other, filter_cases, filter_has, map_cases}
+use Rattle.bay.proofs.Members.{has_at, set_cases, set_new, set_other, filter_cases, filter_has}
 use Rattle.bay.proofs.Tied.{count_set}
 
 -- both are the same ask, as far as each other
@@ -103,25 +103,6 @@ as_far_set x place v inside far =
 
 -- ---- lines were given
 
-map_has : {X Y : Type 0} (f : X → Y) (xs : List X) (x : X) → Has xs x → Has (map f xs) (f x)
-map_has f [] x h = absurd h
-map_has {X} {Y} f (z ∷ zs) x (inl is) = inl (ap f is)
-map_has f (z ∷ zs) x (inr h) = inr (map_has f zs x h)
-
-count_map : (p : Ask → Bool) (f : Ask → Ask) → ((a : Ask) → p (f a) ≡ p a) → (asks : List Ask) → count_by p (map f asks) ≡ count_by p asks
-count_map p f same [] = refl
-count_map p f same (a ∷ asks) =
-    let q : Ask → ℕ = λ b. if p b then 1 else 0 in
-    sum_by-cons q (f a) (map f asks) ∙ (ap (λ (b : Bool). (if b then 1 else 0) + count_by p (map f asks)) (same a)
-    ∙ (ap (λ n. q a + n) (count_map p f same asks) ∙ sym (sum_by-cons q a asks)))
-
-pub as_far_given : (at : ℕ) (asks : List Ask) → AreAsFar asks (map (given at) asks)
-as_far_given at asks = record {
-  from = λ b h. let r = map_cases (given at) asks b h in (r.0, r.1, subst (AsFar r.0) r.2 (far_given at r.0));
-  to = λ a h w. (given at a, map_has (given at) asks a h, far_given at a);
-  few = λ k. let e = count_map (holds_class k) (given at) (λ a. refl) asks in omega (arith, e);
-}
-
 -- ---- some are in the book no more
 
 count_kept : (p q : Ask → Bool) (asks : List Ask) → count_by p (filter q asks) ≤ count_by p asks
@@ -159,9 +140,6 @@ pub gone_tied : (classes : List Class) (line : LineView) (x : BookView) (place m
 gone_tied classes line x place moment s inside t =
     as_far_tied classes line x (set_gone x place moment)
     (as_far_set x place (gone_since moment (ask_at x.asks place)) inside (far_gone moment (ask_at x.asks place))) t
-
-pub given_tied : (classes : List Class) (line : LineView) (x : BookView) (at : ℕ) → IsTied classes (core line x) → IsTied classes (core line (give x at))
-given_tied classes line x at t = as_far_tied classes line x (give x at) (as_far_given at x.asks) t
 
 pub purged_tied : (classes : List Class) (line : LineView) (x : BookView) → IsTied classes (core line x) → IsTied classes (core line (purge x))
 purged_tied classes line x t = as_far_tied classes line x (purge x) (as_far_purged x.asks) t

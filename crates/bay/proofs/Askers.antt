@@ -46,21 +46,8 @@ or_none true b h = absurd (false≢true (sym h))
 not_lt : (a b : ℕ) → nat_lt a b ≡ false → b ≤ a
 not_lt a b h = search (rules, h)
 
-not_le : (a b : ℕ) → nat_le a b ≡ false → b < a
-not_le a b h = search (rules, h)
-
-not_same : (a b : ℕ) → nat_eq a b ≡ false → a ≢ b
-not_same a b h e = false≢true (sym h ∙ eq-eqb a b e)
-
-pub fits_class : (classes : List Class) (book : BookView) (sets : List ℕ) (r : Request) → Fits classes book sets r → r.class < length classes
-fits_class classes book sets r f = not_le (length classes) r.class f.class
-
 pub fits_next : (classes : List Class) (book : BookView) (sets : List ℕ) (r : Request) → Fits classes book sets r → book.next ≤ r.number
 fits_next classes book sets r f = not_lt r.number book.next (or_none (nat_lt r.number book.next) (nat_eq r.number 18446744073709551615) f.number).0
-
-pub fits_last : (classes : List Class) (book : BookView) (sets : List ℕ) (r : Request) → Fits classes book sets r → r.number ≢ 18446744073709551615
-fits_last classes book sets r f =
-    not_same r.number 18446744073709551615 (or_none (nat_lt r.number book.next) (nat_eq r.number 18446744073709551615) f.number).1
 
 -- ---- numbers
 

@@ -12,13 +12,13 @@ use Rattle.bay_book.specs.declared.ask.Stage.{Stage}
 use Rattle.bay_book.specs.declared.ask.Stage.TheVariants.{Waits, Holds, Over}
 use Rattle.std.specs.List.{count_by}
 use Rattle.bay_book.specs.Asks.{ask_at, is_over, holds_class}
-use Rattle.bay_book.specs.Moments.{common, is_past, is_wanted, is_late, is_over_limit, is_gone_too_long, wanted_moment, limit_end, if_holds, after, until_at, late_end}
-use Rattle.bay_book.specs.Finding.{IsFirst, IsFirstLate}
+use Rattle.bay_book.specs.Moments.{common, is_past, is_wanted, is_over_limit, wanted_moment, limit_end, if_holds, after}
+use Rattle.bay_book.specs.Finding.{IsFirst}
 use Rattle.bay.specs.declared.classes.Class.{Class}
 use Rattle.bay.specs.declared.terms.Terms.{Terms}
 use Rattle.bay.specs.Classes.{class_at}
 use Rattle.bay.specs.Cores.{Core, AreFree, IsFreeClass}
-use Rattle.bay.specs.Following.{AreFull, IsWanted, IsDue, NobodyOverLimit, IsFirstOverLimit, IsFirstDue}
+use Rattle.bay.specs.Following.{AreFull, IsWanted, IsDue, IsFirstOverLimit}
 use Rattle.bay.proofs.Members.{has_at, place_of}
 use Rattle.bay.proofs.Sets.{without}
 
@@ -98,32 +98,6 @@ over_limit_is classes now x wanted full None are_wanted are_full h = λ place in
     false≢true (sym (h place inside) ∙ both_wanted now (is_wanted wanted full a) (limit_end a) (is_wanted_so classes x wanted full a are_wanted are_full want) past)
 
 -- ---- deadlines
-
-late_so : (classes : List Class) (terms : Terms) (now : ℕ) (x : Core) (a : Ask) (s : Stage) → a.stage ≡ s → is_late now terms.disk a ≡ true
-    → is_past now (until_at terms.disk a s a.heard) ≡ true → IsDue classes terms now x a (late_end s)
-late_so classes terms now x a Waits e late h = (e, late)
-late_so classes terms now x a Holds e late h = (e, late)
-late_so classes terms now x a (Over how) e late h = absurd (false≢true h)
-
-pub first_late_due : (classes : List Class) (terms : Terms) (now : ℕ) (x : Core) (r : Option (ℕ × End))
-    → IsFirst (is_gone_too_long now terms.grace) x.book.asks None → NobodyOverLimit classes now x
-    → IsFirstLate now terms.disk x.book.asks r → IsFirstDue classes terms now x r
-first_late_due classes terms now x (Some t) gone over h =
-    let a = ask_at x.book.asks t.0 in
-    (h.0.0, subst (IsDue classes terms now x a) (sym h.1) (late_so classes terms now x a a.stage refl h.0.1 h.0.1))
-first_late_due classes terms now x None gone over h = λ place how inside due. nobody classes terms now x place how inside gone over h due where
-  nobody : (classes : List Class) (terms : Terms) (now : ℕ) (x : Core) (place : ℕ) (how : End) → place < length x.book.asks
-      → IsFirst (is_gone_too_long now terms.grace) x.book.asks None → NobodyOverLimit classes now x → IsFirst (is_late now terms.disk) x.book.asks None
-      → IsDue classes terms now x (ask_at x.book.asks place) how → ⊥
-  nobody classes terms now x place LetGo inside gone over late due = due
-  nobody classes terms now x place Left inside gone over late due = due
-  nobody classes terms now x place Lapsed inside gone over late due = false≢true (sym (late place inside) ∙ due.1)
-  nobody classes terms now x place NotWritten inside gone over late due = false≢true (sym (late place inside) ∙ due.1)
-  nobody classes terms now x place Limit inside gone over late due = over place inside due.0 due.1
-  nobody classes terms now x place Grace inside gone over late due = false≢true (sym (gone place inside) ∙ due)
-  nobody classes terms now x place TakenAway inside gone over late due = due
-  nobody classes terms now x place Replaced inside gone over late due = due
-  nobody classes terms now x place Stopped inside gone over late due = due
 
 -- ---- whose time is over isn't over yet
 

@@ -16,3 +16,12 @@ pub mod Kept
 pub mod Next
 pub mod Restored
 pub mod Waited
+pub mod Heard
+pub mod LogLines
+pub mod GivingLines
+pub mod Written
+pub mod WrittenLines
+pub mod Stays
+pub mod SafeLines
+pub mod ToldKept
+pub mod Given

@@ -1,5 +1,5 @@
 -- What the log says of who holds.
-use Rattle.std.proofs.Common.{◌≡◌, ◌≢◌, ℕ, ◌+◌, ◌<◌, ◌≤◌, Bool, true, false, ◌||◌, nat_eq, if◌then◌else◌, List, [], ◌∷◌, ◌++◌, append_assoc, length, length-set, Option, Some, None, Result, Ok, Err, OnOk, OnErr, refl, sym, ap, ◌∙◌, subst, inl, inr, arith}
+use Rattle.std.proofs.Common.{◌≡◌, ◌≢◌, ℕ, ◌+◌, ◌<◌, ◌≤◌, Bool, true, false, ◌||◌, nat_eq, if◌then◌else◌, List, [], ◌∷◌, ◌++◌, append_assoc, length, Option, Some, None, Result, Ok, Err, OnOk, OnErr, refl, sym, ap, ◌∙◌, subst, inl, inr, arith}
 use Rattle.std.specs.declared.alloc.AllocError.{AllocError}
 use Rattle.std.proofs.lemmas.Bool.{false≢true, eq-eqb, ne_eqb}
 use Rattle.std.proofs.lemmas.List.{append-nil}
@@ -18,7 +18,7 @@ use Rattle.bay_log.specs.declared.line.Line.TheVariants.{Head, Hold as HoldLine,
 use Rattle.bay_log.specs.Lines.{base_of, log_text, is_none}
 use Rattle.bay_log.specs.Logs.{LogView, adding, end_of, IsStanding}
 use Rattle.bay_log.specs.Alive.{alive, alive_from, after, begins}
-use Rattle.bay.specs.Pages.{entry_of, how_of, if_due, end_line_at, owed_end, owed_hold, Pages, pages, WritesThis, WritesOne, IsInLog, IsLogged}
+use Rattle.bay.specs.Pages.{entry_of, how_of, if_due, end_line_at, owed_end, owed_hold, Pages, pages, WritesThis, IsInLog, IsLogged}
 use Rattle.bay.proofs.Tied.{other_asks}
 
 -- ---- one line more
@@ -124,12 +124,3 @@ logged_after owed book book' log log' place line (Err e) step is writes refused 
 logged_after owed book book' log log' place None (Ok u) step is writes refused t = subst (λ (x : Pages). IsLogged x.book x.log) (sym writes) t
 logged_after owed book book' log log' place (Some l) (Ok u) step is writes refused t =
     subst (λ (x : Pages). IsLogged x.book x.log) (sym writes) (step l (sym is))
-
--- as many asks as before
-pub as_many_pages : (owed : Ask → Option Line) (place : ℕ) (old new : Pages) → WritesOne owed place old new → length new.book.asks ≡ length old.book.asks
-as_many_pages owed place old new w = many_of (owed (ask_at old.book.asks place)) place old new w.1 where
-  many_of : (line : Option Line) (place : ℕ) (old new : Pages) → WritesThis line place old new → length new.book.asks ≡ length old.book.asks
-  many_of None place old new w = ap (λ (x : Pages). length x.book.asks) w
-  many_of (Some l) place old new w =
-      ap (λ (x : Pages). length x.book.asks) w
-      ∙ length-set old.book.asks place (given (end_of (adding old.log l)) (ask_at old.book.asks place))

@@ -1,5 +1,5 @@
 -- Elements of lists that were changed.
-use Rattle.std.proofs.Common.{◌≡◌, ◌⊎◌, ℕ, zero, suc, ◌<◌, Bool, true, false, if◌then◌else◌, List, [], ◌∷◌, ◌++◌, length, get_or, set, map, refl, sym, ap, ◌∙◌, subst, ◌≢◌, ◌≤◌, inl, inr, arith}
+use Rattle.std.proofs.Common.{◌≡◌, ◌⊎◌, ℕ, zero, suc, ◌<◌, Bool, true, false, if◌then◌else◌, List, [], ◌∷◌, ◌++◌, length, get_or, set, refl, sym, ap, ◌∙◌, subst, ◌≢◌, ◌≤◌, inl, inr, arith}
 use Rattle.std.specs.List.{filter, AllPairs}
 use Rattle.std.proofs.lemmas.Bool.{cases_eq}
 use Rattle.bay.specs.Members.{Has}
@@ -80,11 +80,6 @@ append_second [] ys x h = h
 append_second (z ∷ zs) ys x h = inr (append_second zs ys x h)
 
 -- ---- each was changed
-
-pub map_cases : {X Y : Type 0} (f : X → Y) (xs : List X) (y : Y) → Has (map f xs) y → (x : X) × Has xs x × (f x ≡ y)
-map_cases f [] y h = absurd h
-map_cases f (z ∷ zs) y (inl is) = (z, inl refl, is)
-map_cases f (z ∷ zs) y (inr h) = let r = map_cases f zs y h in (r.0, inr r.1, r.2)
 
 -- ---- places
 

@@ -1,5 +1,5 @@
 -- Steps one after another.
-use Rattle.std.proofs.Common.{◌≡◌, ℕ, zero, suc, ◌+◌, ◌<◌, Bool, true, false, not, if◌then◌else◌, List, length, sym, ap, ◌∙◌, subst, inl, inr, arith}
+use Rattle.std.proofs.Common.{◌≡◌, ℕ, zero, suc, ◌<◌, Bool, true, false, not, if◌then◌else◌, List, length, sym, ap, ◌∙◌, subst, inl, inr, arith}
 use Rattle.std.specs.List.{count_by}
 use Rattle.bay_book.specs.declared.ask.Ask.{Ask}
 use Rattle.bay_book.specs.declared.ask.End.{End}
@@ -18,9 +18,6 @@ abbrev pub is_open : Ask → Bool
 is_open a = not (is_over a.stage)
 
 -- ---- how many aren't over
-
-same_count : (m n : ℕ) → m + 1 ≡ n + 1 → m ≡ n
-same_count m n e = omega (arith, e)
 
 open_waits : (s : Stage) → s ≡ Waits → not (is_over s) ≡ true
 open_waits s e = ap (λ (t : Stage). not (is_over t)) e

@@ -12,7 +12,7 @@ use Rattle.bay_book.specs.declared.ask.Ask.{Ask}
 use Rattle.bay_book.specs.declared.ask.End.{End}
 use Rattle.bay_book.specs.declared.ask.Stage.{Stage}
 use Rattle.bay_book.specs.declared.ask.Stage.TheVariants.{Waits, Holds, Over}
-use Rattle.bay_book.specs.Asks.{ask_at, no_ask, holding, over, is_holding, is_over, holds_class}
+use Rattle.bay_book.specs.Asks.{ask_at, no_ask, holding, over, is_holding, holds_class}
 use Rattle.bay_book.specs.Moments.{common}
 use Rattle.bay_book.specs.Finding.{IsInUse}
 use Rattle.bay_book.specs.Books.{BookView, IsSound, hold}
@@ -23,17 +23,6 @@ use Rattle.bay.specs.Cores.{Core, core, HoldsIn, IsTied, AreFree, IsFreeClass, e
 use Rattle.bay.proofs.Members.{has_at, place_of, set_others, set_other, one_number}
 use Rattle.bay.proofs.InLine.{passed_cases, passed_has, others_cases, others_has}
 use Rattle.bay.proofs.Sets.{common_comm, one_class}
-
--- who waits doesn't hold, and isn't over
-waits_holds : (s : Stage) → s ≡ Waits → is_holding s ≡ true → ⊥
-waits_holds Waits e h = false≢true h
-waits_holds Holds e h = let no : ⊥ = cc in no
-waits_holds (Over how) e h = false≢true h
-
-pub not_waits : (s : Stage) → is_over s ≡ false → (is_holding s ≡ true) ⊎ (s ≡ Waits)
-not_waits Waits h = inr refl
-not_waits Holds h = inl refl
-not_waits (Over how) h = absurd (false≢true (sym h))
 
 pub same_core : (l k : LineView) (b d : BookView) → l ≡ k → b ≡ d → core l b ≡ core k d
 same_core l k b d e f = ap (λ (m : LineView). core m b) e ∙ ap (core k) f

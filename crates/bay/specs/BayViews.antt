@@ -6,9 +6,3 @@ use Rattle.bay.specs.Views.{RoomView}
 pub record BayView : Type 0 where
   pub room : RoomView
   pub log : LogView
-
-abbrev pub with_room : BayView → RoomView → BayView
-with_room x room = record { room = room; log = x.log }
-
-abbrev pub with_log : BayView → LogView → BayView
-with_log x log = record { room = x.room; log = log }

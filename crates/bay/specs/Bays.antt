@@ -8,7 +8,7 @@ use Rattle.bay_book.specs.declared.ask.Stage.TheVariants.{Holds}
 use Rattle.bay_log.specs.declared.reading.Found.{Found}
 use Rattle.bay_log.specs.Texts.{IsText}
 use Rattle.bay_log.specs.Lines.{base_of, log_text}
-use Rattle.bay_log.specs.Logs.{IsStanding, resumed, end_of}
+use Rattle.bay_log.specs.Logs.{LogView, IsStanding, resumed, end_of}
 use Rattle.bay_log.specs.Reads.{IsRead}
 use Rattle.bay_log.specs.Alive.{alive}
 use Rattle.bay.specs.declared.bay.NotOpened.{NotOpened}
@@ -22,7 +22,10 @@ use Rattle.bay.specs.Members.{Has}
 use Rattle.bay.specs.Rooms.{with_book, IsKept as IsKeptRoom}
 use Rattle.bay.specs.Restoring.{IsOf, IsBack, IsThere}
 use Rattle.bay.specs.Pages.{entry_of, pages, Writes as WritesOwed, IsLogged}
-pub use Rattle.bay.specs.BayViews.{BayView, with_room, with_log}
+pub use Rattle.bay.specs.BayViews.{BayView}
+
+abbrev pub with_log : BayView → LogView → BayView
+with_log x log = record { room = x.room; log = log }
 
 -- what is true of every bay
 pub record IsKept (x : BayView) : Type 0 where

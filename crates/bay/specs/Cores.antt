@@ -80,8 +80,8 @@ pub record LetsIn (classes : List Class) (now : ℕ) (keeps : Bool) (old new : C
   pub line : new.line ≡ gone old.line it free
   pub book : new.book ≡ hold old.book place it.needs now keeps
 
--- Nobody waits for nothing: each wish in line has a reason. No place is free for it; or an instrument of it is in use; or one is kept for one that goes
--- before it
+-- Nobody waits for nothing: each wish in line has a reason. No place is free for it; or an instrument of it is in use; or one is kept for one that goes before
+-- it
 pub record NobodyWaits (classes : List Class) (x : Core) : Type 0 where
   pub used : ℕ
   pub free : ℕ

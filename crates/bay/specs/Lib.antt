@@ -14,3 +14,8 @@ pub mod BayViews
 pub mod Bays
 pub mod Restoring
 pub mod LineLaws
+pub mod HeardLaws
+pub mod Written
+pub mod Giving
+pub mod Safe
+pub mod Keeping

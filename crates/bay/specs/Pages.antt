@@ -93,8 +93,8 @@ Writes result old new =
 
 -- ---- what is true of book and log
 
--- From this position on the log says that the ask holds: there is a beginning of it, no longer than that, behind which no ask with this number begins to
--- hold; and by all lines it holds
+-- From this position on the log says that the ask holds: there is a beginning of it, no longer than that, behind which no ask with this number begins to hold;
+-- and by all lines it holds
 pub record IsInLog (log : LogView) (a : Ask) (position : ℕ) : Type 0 where
   pub front : List Line
   pub rest : List Line

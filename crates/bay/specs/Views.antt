@@ -19,18 +19,6 @@ pub record RoomView : Type 0 where
   pub telling : Option Told
   pub serial : ℕ
 
-abbrev pub room_view : List Class → Terms → LineView → BookView → ℕ → Bool → Option Told → ℕ → RoomView
-room_view classes terms line book moment stopped telling serial = record {
-  classes = classes;
-  terms = terms;
-  line = line;
-  book = book;
-  moment = moment;
-  stopped = stopped;
-  telling = telling;
-  serial = serial;
-}
-
 abbrev pub core_of : RoomView → Core
 core_of x = core x.line x.book
 

@@ -205,6 +205,13 @@ impl Bay {
         self.room.back(number, owner, now)
     }
 
+    /// The least number that the next ask may have.
+    pub fn next_number(&self) -> u64
+        ensures { result ≡ self.now.room.book.next }
+    {
+        self.room.next_number()
+    }
+
     /// How many asks are in the book.
     pub fn len(&self) -> usize
         ensures { result ≡ length self.now.room.book.asks }

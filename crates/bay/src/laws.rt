@@ -1,6 +1,7 @@
 //! What holds of every bay. Each law is the contract of a function that does nothing.
 ghost use Rattle.bay.specs.Bays.{ToldIsKept, ToldComesBack};
 ghost use Rattle.bay.specs.LineLaws.{CallsAreWaited, NobodyWaitsForNothing, NumbersRise};
+ghost use Rattle.bay.specs.HeardLaws.{TellsOnce};
 ghost use Rattle.bay.specs.Laws.{IsWellHeld, WhoHoldsHoldsOn, WhoWaitsWaitsOn, AnswersInTime};
 
 use crate::bay::Bay;
@@ -62,4 +63,9 @@ pub fn nobody_waits_for_nothing()
 /// A number is given once.
 pub fn numbers_rise()
     ensures { NumbersRise }
+{}
+
+/// Each ask is told at most once that it holds.
+pub fn tells_once()
+    ensures { TellsOnce }
 {}

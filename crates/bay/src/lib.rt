@@ -12,6 +12,7 @@ mod following;
 mod free;
 pub mod laws;
 mod letting_in;
+pub mod log_laws;
 mod moments;
 mod place;
 mod request;

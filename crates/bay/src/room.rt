@@ -2,7 +2,8 @@
 ghost use Rattle.std.specs.Prelude.{◌≡◌, false, ◌<◌, ◌≤◌, length, Some, None, OnOk, OnErr, IfErr, IfSome, IfOk, IsTrue, ◌↔◌};
 ghost use Rattle.bay_book.specs.declared.ask.End.TheVariants.{LetGo as EndLetGo, TakenAway as EndTakenAway};
 ghost use Rattle.bay_book.specs.Asks.{ask_at};
-ghost use Rattle.bay.specs.Rooms.{IsOpened, Asks, IsWhyNot, Ends, IsWhyNotHeld, Leaves, Goes, ComesBack, Passes, Stops, reached, with_book, Tells, IsKept};
+ghost use Rattle.bay.specs.Rooms.{IsOpened, Asks, IsWhyNot, Ends, IsWhyNotHeld, Leaves, Goes};
+ghost use Rattle.bay.specs.Rooms.{ComesBack, Passes, Stops, reached, with_book, Tells, IsKept};
 ghost use Rattle.bay.specs.Following.{IsNextMoment};
 ghost use Rattle.bay.specs.Views.{core_of};
 ghost use Rattle.bay.specs.Restoring.{IsBack};
@@ -40,13 +41,31 @@ pub struct Room {
 }
 
 impl Model for Room {
-    ghost use Rattle.bay.specs.Views.{RoomView, room_view, IsRoom};
+    ghost use Rattle.bay.specs.Views.{RoomView, IsRoom};
 
     ghost Value = { RoomView };
 
-    ghost view = { λ x. room_view x.classes.items x.terms x.line x.book x.moment x.stopped x.telling x.serial };
+    ghost view = { λ x. record {
+      classes = x.classes.items;
+      terms = x.terms;
+      line = x.line;
+      book = x.book;
+      moment = x.moment;
+      stopped = x.stopped;
+      telling = x.telling;
+      serial = x.serial;
+    } };
 
-    ghost invariant = { λ x. IsRoom (room_view x.classes.items x.terms x.line x.book x.moment x.stopped x.telling x.serial) };
+    ghost invariant = { λ x. IsRoom (record {
+      classes = x.classes.items;
+      terms = x.terms;
+      line = x.line;
+      book = x.book;
+      moment = x.moment;
+      stopped = x.stopped;
+      telling = x.telling;
+      serial = x.serial;
+    }) };
 }
 
 impl Room {
@@ -287,6 +306,13 @@ impl Room {
             self.moment,
         );
         Some(needs)
+    }
+
+    /// The least number that the next ask may have.
+    pub fn next_number(&self) -> u64
+        ensures { result ≡ self.now.book.next }
+    {
+        self.book.next()
     }
 
     /// How many asks are in the book.

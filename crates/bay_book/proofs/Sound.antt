@@ -1,5 +1,5 @@
 -- Each call leaves a book as sound as it was.
-use Rattle.std.proofs.Common.{◌≡◌, ℕ, ◌+◌, ◌<◌, ◌≤◌, max, Bool, true, false, not, nat_le, List, length, set, get_or, Option, None, Some, refl, sym, ap, ◌∙◌, subst, inl, inr, arith, length-set, rules}
+use Rattle.std.proofs.Common.{◌≡◌, ℕ, ◌+◌, ◌<◌, ◌≤◌, max, Bool, true, false, not, List, length, set, get_or, Option, None, Some, refl, sym, ap, ◌∙◌, subst, inl, inr, arith, length-set}
 use Rattle.std.proofs.lemmas.Bool.{cases_eq, false≢true, leb-true, le-leb}
 use Rattle.std.proofs.lemmas.List.{get_or-set_same, get_or-set_other, get_or_default, get_or-map, length-map}
 use Rattle.std.proofs.lemmas.List.Elements.{All-set, All-push, All-map, All-filter}
@@ -15,9 +15,9 @@ use Rattle.bay_book.specs.declared.ask.Outcome.{Outcome}
 use Rattle.bay_book.specs.declared.ask.Outcome.TheVariants.{Holds as ToldHolds}
 use Rattle.bay_book.specs.declared.ask.Stage.{Stage}
 use Rattle.bay_book.specs.declared.ask.Stage.TheVariants.{Waits, Holds, Over}
-use Rattle.bay_book.specs.Asks.{no_ask, ask_at, is_owed, is_written, kept_mark, end_mark, given_mark, asker, restored, holding, over, gone_since, back_again, given, heard_of, hearing, is_done, IsSoundAt, IsSoundAsk}
+use Rattle.bay_book.specs.Asks.{no_ask, ask_at, is_owed, is_written, kept_mark, end_mark, given_mark, asker, holding, over, gone_since, back_again, given, heard_of, hearing, is_done, IsSoundAt, IsSoundAsk}
 use Rattle.bay_book.specs.Telling.{to_tell, to_tell_at, if_may}
-use Rattle.bay_book.specs.Books.{BookView, IsSound, with_ask, add, restore, skip, give, reach, purge}
+use Rattle.bay_book.specs.Books.{BookView, IsSound, with_ask, add, give, reach, purge}
 
 -- ---- one ask
 
@@ -160,25 +160,6 @@ sound_add x number class owner deadline limit now new h =
       below = All-push (λ (b : Ask). b.number < number + 1) x.asks a (λ k d inside. let b = h.below k d inside in omega (arith, b, new)) (omega arith);
       each = All-push (IsSoundAsk x.durable) x.asks a h.each (refl, refl, refl, refl);
     }
-
-le_itself : (n : ℕ) → nat_le n n ≡ true
-le_itself n = search (rules, n)
-
-holds_no_end : HeardHolds ≡ HeardEnd → ⊥
-holds_no_end e = cc
-
-pub sound_restore : (x : BookView) (number class owner : ℕ) (limit : Option ℕ) (needs since gone : ℕ) → x.next ≤ number → IsSound x
-    → IsSound (restore x number class owner limit needs since gone)
-sound_restore x number class owner limit needs since gone new h =
-    let a : Ask = restored number class owner limit needs since gone x.durable in
-    record {
-      rises = all_pairs_push (λ (p q : Ask). p.number < q.number) x.asks a h.rises (λ k d inside. let b = h.below k d inside in omega (arith, b, new));
-      below = All-push (λ (b : Ask). b.number < number + 1) x.asks a (λ k d inside. let b = h.below k d inside in omega (arith, b, new)) (omega arith);
-      each = All-push (IsSoundAsk x.durable) x.asks a h.each (holds_no_end, λ e. le_itself x.durable, refl);
-    }
-
-pub sound_skip : (x : BookView) (next : ℕ) → IsSound x → IsSound (skip x next)
-sound_skip x next h = record { rises = h.rises; below = λ k d inside. let b = h.below k d inside in omega (arith, b); each = h.each }
 
 pub sound_give : (x : BookView) (at : ℕ) → IsSound x → IsSound (give x at)
 sound_give x at h = record {

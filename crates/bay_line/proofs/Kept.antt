@@ -46,9 +46,6 @@ common_both x a b = elim (cases_eq (bit_and x b) 0) [
 
 -- ---- wishes looked at one after another
 
-and_false : (a b : Bool) → a ≡ false → (a && b) ≡ false
-and_false a b h = ap (λ c. c && b) h
-
 or_false_first : (a b : Bool) → (a || b) ≡ false → a ≡ false
 or_false_first false b h = refl
 or_false_first true b h = h
@@ -139,26 +136,6 @@ one_looked_at most in_use free wishes n kept more inside x says not_in =
       ];
     }
 
-pub kept_goes : (most in_use free : ℕ) (wishes : List Wish) (n kept : ℕ) → n < length wishes → KeptSoFar most in_use free wishes n kept
-    → (is_kept most free (wish_at wishes n) && may_go kept free (wish_at wishes n)) ≡ true → IsFirstKept most in_use free wishes (Some n, kept)
-kept_goes most in_use free wishes n kept inside x h =
-    let w = wish_at wishes n in
-    let it = and_true_first (is_kept most free w) (may_go kept free w) h in
-    let go = and_true_second (is_kept most free w) (may_go kept free w) h in
-    let none : common w.needs kept ≡ false = not_is (common w.needs kept) (and_true_second (is_ready free w) (not (common w.needs kept)) go) in (
-      inside,
-      it,
-      record {
-        ready = and_true_first (is_ready free w) (not (common w.needs kept)) go;
-        unused = x.are.unused w.needs none;
-        not_kept = λ i keeps. x.are.apart w.needs none i (elim keeps.2 [
-          | inl less ↦ (less, keeps.1)
-          | inr isnt ↦ absurd (false≢true (sym isnt ∙ it))
-        ]);
-      },
-      x.reasons,
-    )
-
 -- ---- the first of all
 
 other_reason : (most in_use free : ℕ) (wishes : List Wish) (kept : ℕ) → IsFirstKept most in_use free wishes (None, kept) → (i : ℕ) → i < length wishes
@@ -173,17 +150,6 @@ other_reason most in_use free wishes kept x i inside fails = elim (cases_Bool (i
     ]
   ]
 ]
-
-pub first_is_kept : (most in_use free : ℕ) (wishes : List Wish) (k kept : ℕ) → IsFirstKept most in_use free wishes (Some k, kept)
-    → IsFirst most in_use free wishes (Some k)
-first_is_kept most in_use free wishes k kept x = (
-  x.0,
-  x.2,
-  λ i before. elim before.1 [
-    | inl b ↦ x.3 i (b.0, b.1 x.1)
-    | inr b ↦ absurd (false≢true (sym b.1 ∙ x.1))
-  ],
-)
 
 pub first_is_other : (most in_use free : ℕ) (wishes : List Wish) (kept : ℕ) (o : Option ℕ) → IsFirstKept most in_use free wishes (None, kept)
     → IsFirstOther kept free wishes o → IsFirst most in_use free wishes o

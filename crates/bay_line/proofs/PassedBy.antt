@@ -19,11 +19,6 @@ pub as_many : (most free needs : ℕ) (wishes : List Wish) → length (pass_all 
 as_many most free needs [] = refl
 as_many most free needs (w ∷ wishes) = ap suc (as_many most free needs wishes)
 
-pub as_many_to : (most free needs k : ℕ) (wishes : List Wish) → length (pass_to most free needs k wishes) ≡ length wishes
-as_many_to most free needs zero wishes = refl
-as_many_to most free needs (suc k) [] = refl
-as_many_to most free needs (suc k) (w ∷ wishes) = ap suc (as_many_to most free needs k wishes)
-
 pub in_parts : (most free needs : ℕ) (xs ys : List Wish) → pass_all most free needs (xs ++ ys) ≡ pass_all most free needs xs ++ pass_all most free needs ys
 in_parts most free needs [] ys = refl
 in_parts most free needs (x ∷ xs) ys = ap (λ (l : List Wish). passed_by most free needs x ∷ l) (in_parts most free needs xs ys)
