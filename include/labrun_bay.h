@@ -38,7 +38,8 @@
 extern "C" {
 #endif
 
-/* The statuses are those of labrun.h, and these. Of several reasons to refuse an ask the first counts, in the order 21, 20, 22, 23, 24, 29, 25, 5: */
+/* The statuses are those of labrun.h, and these. Of several reasons to refuse an ask the first counts, in
+   the order 21, 20, 22, 23, 24, 29, 25, 5: */
 #define LAB_BAY_NUMBER 20u     /* the number isn't larger than any before, or it is 18446744073709551615 */
 #define LAB_BAY_STOPPED 21u    /* the bay was stopped */
 #define LAB_BAY_NO_CLASS 22u   /* there is no such class */
@@ -46,8 +47,8 @@ extern "C" {
 #define LAB_BAY_MAY_NOT 24u    /* the class may not use an instrument of one of the sets */
 #define LAB_BAY_LINE_FULL 25u  /* the line has no room for so many sets */
 #define LAB_BAY_OVER 26u       /* the ask is over, or there never was one with this number */
-#define LAB_BAY_ANOTHER 27u    /* the journal is another bay's */
-#define LAB_BAY_UNSOUND 28u    /* a line of the journal isn't sound: `told->line` */
+#define LAB_BAY_ANOTHER 27u    /* the journal is another bay's, or has no whole line */
+#define LAB_BAY_UNSOUND 28u    /* a line of the journal isn't sound: it was changed, or isn't in its place */
 #define LAB_BAY_OWNER 29u      /* the owner has an ask that isn't over */
 
 /* No moment, no limit: for ever. */
@@ -103,8 +104,14 @@ struct lab_outcome {
     uint32_t unused;
 };
 
-/* Opens a bay in which nobody is, with so many classes (32 at most). 0; 5; 11; 22 if there are more classes. */
+/* Opens a bay in which nobody is, with so many classes (32 at most). 0; 5; 11; 22 if there are more. */
 uint32_t lab_bay_open(const struct lab_class *classes, size_t count, const struct lab_terms *terms, struct lab_bay *bay);
+
+/* Opens the bay that a journal tells of, as far as it has whole lines: just those hold that held by its lines, and their clients are gone since
+   `now`. `*used` is how many bytes these lines have: cut the file there before you write on. 0; 5; 11; 22; 24 if an ask that held may not, by
+   other classes, say (`*fault` is its number); 27; 28 with `*fault` as the line, counted from 1. */
+uint32_t lab_bay_resume(const struct lab_class *classes, size_t count, const struct lab_terms *terms, const uint8_t *journal, size_t length,
+                        uint64_t now, struct lab_bay *bay, size_t *used, uint64_t *fault);
 
 /* Somebody asks for one of these sets, whichever is free first (if several are: the first of them). 0; 5; 7; 20 to 25; 29. */
 uint32_t lab_bay_ask(struct lab_bay *bay, const struct lab_asked *asked, const uint64_t *sets, size_t count, uint64_t now);
@@ -112,14 +119,18 @@ uint32_t lab_bay_ask(struct lab_bay *bay, const struct lab_asked *asked, const u
 /* An ask that holds lets go. 0; 7; 8 if it waits; 26. */
 uint32_t lab_bay_let_go(struct lab_bay *bay, uint64_t number, uint64_t now);
 
-/* Nobody is there for the ask any more, whatever it is at: it leaves the line, or lets go, and is told nothing more. 0; 7. */
+/* Nobody is there for the ask any more, whatever it is at: it leaves the line, or lets go, and is told nothing of that. (Of one that is over it
+   changes nothing.) 0; 7. */
 uint32_t lab_bay_leave(struct lab_bay *bay, uint64_t number, uint64_t now);
 
 /* Somebody takes away what an ask holds. It is told at once; it is so for good once all that was given is durable. 0; 7; 8 if it waits; 26. */
 uint32_t lab_bay_take_away(struct lab_bay *bay, uint64_t number, uint64_t now);
 
-/* The client of an ask that holds is gone, from now on. 0; 7; 8 if it waits (let it leave); 26. */
+/* The client of an ask is gone, from now on: what it holds is kept for the bay's grace. (Of one that waits, call `lab_bay_leave`.) 0; 7. */
 uint32_t lab_bay_gone(struct lab_bay *bay, uint64_t number, uint64_t now);
+
+/* The client of an ask is there again; `*needs` is what it holds. The owner has to be the one that asked, the high 64 bits first. 0; 7; 26. */
+uint32_t lab_bay_back(struct lab_bay *bay, uint64_t number, uint64_t owner_high, uint64_t owner_low, uint64_t now, uint64_t *needs);
 
 /* It is this moment. `*next` is the next moment at which something is due, or LAB_NEVER. 0; 7. */
 uint32_t lab_bay_time(struct lab_bay *bay, uint64_t now, uint64_t *next);
@@ -128,7 +139,7 @@ uint32_t lab_bay_time(struct lab_bay *bay, uint64_t now, uint64_t *next);
 uint32_t lab_bay_stop(struct lab_bay *bay, uint64_t now);
 
 /* Whoever holds, and was told so, notes something: at most 500 bytes, no line feed or carriage return. It is so once what was given is durable
-   up to `*position`. 0; 5; 7; 8 if it waits or wasn't told yet; 24 for another text; 26. */
+   up to `*position`. 0; 5; 7; 8 if it doesn't hold or wasn't told yet; 24 for another text. */
 uint32_t lab_bay_note(struct lab_bay *bay, uint64_t number, const uint8_t *text, size_t length, uint64_t *position);
 
 /* Hands out what is to be written and wasn't handed out yet, and how long the journal is behind it. 0, also with nothing; 5; 6 with `written`, and

@@ -47,10 +47,6 @@ class Outcome(ctypes.Structure):
     _fields_ += [("unused", ctypes.c_uint32)]
 
 
-class Told(ctypes.Structure):
-    _fields_ = [("written", ctypes.c_size_t), ("line", ctypes.c_size_t), ("cause", ctypes.c_uint32)]
-
-
 def moment(it):
     return NEVER if it is None else it
 
@@ -70,11 +66,11 @@ class Machine:
         return self.library.lab_bay_open(self.classes, ctypes.c_size_t(len(self.classes)), ctypes.byref(self.terms), ctypes.byref(self.handle))
 
     def resume(self, text, now):
-        told = Told()
+        used, fault = ctypes.c_size_t(), ctypes.c_uint64()
         status = self.library.lab_bay_resume(
             self.classes, ctypes.c_size_t(len(self.classes)), ctypes.byref(self.terms), text, ctypes.c_size_t(len(text)), ctypes.c_uint64(now),
-            ctypes.byref(self.handle), ctypes.byref(told))  # fmt: skip
-        return status, told.written
+            ctypes.byref(self.handle), ctypes.byref(used), ctypes.byref(fault))  # fmt: skip
+        return status, used.value, fault.value
 
     def ask(self, number, sets, kind, owner, deadline, limit, now):
         asked = Asked(number, (ctypes.c_uint64 * 2)(owner >> 64, owner & NEVER), moment(deadline), moment(limit), kind, 0)
@@ -82,6 +78,11 @@ class Machine:
 
     def act(self, name, number, now):
         return self.call(name, ctypes.c_uint64(number), ctypes.c_uint64(now))
+
+    def back(self, number, owner, now):
+        needs = ctypes.c_uint64()
+        status = self.call("back", *map(ctypes.c_uint64, (number, owner >> 64, owner & NEVER, now)), ctypes.byref(needs))
+        return status, needs.value if status == DONE else None
 
     def time(self, now):
         following = ctypes.c_uint64()
@@ -158,6 +159,42 @@ class Day:
         wanted, _ = answered(getattr(self.model, name), number, self.now)
         same(f"{name} {number}", wanted, self.machine.act(name, number, self.now))
 
+    def returns(self):
+        number = self.somebody()
+        owners = [it.owner for it in self.model.asks if it.number == number] + [0, 1]
+        given = (number, self.dice.choice(owners), self.now)
+        same(f"back {given}", answered(self.model.back, *given), self.machine.back(*given))
+
+    def crashes(self):
+        """The file is cut at or behind what is durable, or a byte of it changed; and the bay comes back, or doesn't."""
+        if self.dice.random() < 0.9:
+            return
+        told = {it.number for it in self.model.asks if it.stage == model.HOLDS and it.heard == "holds" and it.hold_line != model.NONE}
+        self.model.journal()
+        same("the last journal", DONE, self.machine.journal()[0])
+        file = self.model.text[: self.dice.randint(self.model.durable_to, len(self.model.text))]
+        same("free", DONE, self.machine.call("free"))
+        whole = file[: file.rfind(b"\n") + 1]
+        if whole:
+            at, bit = self.dice.randrange(len(whole) - 1), 1 << self.dice.randrange(8)
+            status, _, line = self.machine.resume(whole[:at] + bytes([whole[at] ^ bit]) + whole[at + 1 :], self.now)
+            same("a changed byte", (28, 1 + whole[:at].count(b"\n")), (status, line if bit != 10 ^ whole[at] else 1 + whole[:at].count(b"\n")))
+            other = Terms.from_buffer_copy(self.machine.terms)
+            self.machine.terms.bay[0] ^= 1
+            same("another bay", 27, self.machine.resume(whole, self.now)[0])
+            self.machine.terms = other
+        if not whole:
+            same("no head", 27, self.machine.resume(file, self.now)[0])
+            same("open", DONE, self.machine.open())
+            self.model = model.Bay(self.rules)
+        else:
+            same("resume", (DONE, len(whole), 0), self.machine.resume(file, self.now))
+            self.model = model.Bay.resumed(self.rules, file, self.now)
+        lost = told - {it.number for it in self.model.asks}
+        if lost:
+            raise Differs(f"told that they hold, and not there any more: {lost}")
+        self.number, self.done, self.durable = max(self.number, self.model.next), 0, self.model.durable_to
+
     def notes(self):
         number, text = self.somebody(), bytes(self.dice.choice(b"abc 123") for _ in range(self.dice.randint(0, 9)))
         wanted, position = answered(self.model.note, number, text)
@@ -202,7 +239,7 @@ class Day:
             same("stop", DONE, self.machine.call("stop", ctypes.c_uint64(self.now)))
 
     def goes(self, calls):
-        ways = [self.asks] * 4 + [self.acts] * 4 + [self.notes, self.writes, self.writes, self.tells, self.tells, self.tells, self.passes, self.stops]
+        ways = [self.asks] * 4 + [self.acts] * 4 + [self.returns, self.crashes, self.notes, self.writes, self.writes, self.tells, self.tells, self.tells, self.passes, self.stops]
         for _ in range(calls):
             self.dice.choice(ways)()
             self.model.check()

@@ -90,8 +90,7 @@ class Bay:
         self.text = b""
         self.sum = bytes(8)
         self.sent = 0
-        if rules.keeps:
-            self._line(f"bay {rules.head.hex()} {0:016x} {0:016x}")
+        self._line(f"bay {rules.head.hex()} {0:016x} {0:016x}")
 
     # ---- owners
 
@@ -128,14 +127,22 @@ class Bay:
         it = self._find(number)
         if it is not None and it.stage != OVER:
             self._ends(it, LEFT)
-        elif it is not None:
-            it.heard = "end"
-        self._purge()
         self._follow(now)
 
     def gone(self, number: int, now: int) -> None:
-        self._held(number).gone = max(now, self.now)
+        it = self._find(number)
+        if it is not None:
+            it.gone = max(now, self.now)
         self._follow(now)
+
+    def back(self, number: int, owner: int, now: int) -> int:
+        """What it holds."""
+        it = self._find(number)
+        if it is None or it.stage == OVER or it.owner != owner:
+            raise Refused("over")
+        it.gone, needs = None, it.needs
+        self._follow(now)
+        return needs
 
     # ---- the world outside
 
@@ -154,8 +161,8 @@ class Bay:
         self._follow(now)
 
     def note(self, number: int, text: bytes) -> int:
-        it = self._held(number)
-        if it.heard != "holds":
+        it = self._find(number)
+        if it is None or it.stage != HOLDS or it.heard != "holds":
             raise Refused("not_now")
         self._line(f"note {number:016x} ".encode() + text)
         return len(self.text)
@@ -164,13 +171,11 @@ class Bay:
         """What is to be written and wasn't handed out yet, and the place behind it. Who is over comes first: so each beginning is sound."""
         for it in [it for it in self.asks if it.end_line == DUE]:
             self._line(f"end {it.number:016x} {it.how}")
+            it.end_line = len(self.text)
         for it in [it for it in self.asks if it.hold_line == DUE]:
-            limit = 2**64 - 1 if it.limit is None else it.limit
-            self._line(f"hold {it.number:016x} {it.kind:08x} {it.needs:016x} {it.owner:032x} {it.since:016x} {limit:016x}")
-        for it in self.asks:
-            it.end_line = len(self.text) if it.end_line == DUE else it.end_line
-            it.hold_line = len(self.text) if it.hold_line == DUE else it.hold_line
-        self._purge()
+            limit = "-" * 16 if it.limit is None else f"{it.limit:016x}"
+            self._line(f"hold {it.number:016x} {it.kind:08x} {it.needs:016x} {it.owner:032x} {it.since:016x} {limit}")
+            it.hold_line = len(self.text)
         text, self.sent = self.text[self.sent :], len(self.text)
         return text, len(self.text)
 
@@ -186,13 +191,15 @@ class Bay:
         if self.telling is not None and self.telling[0] != done:
             return self.telling
         self.telling = None
-        over = [it for it in self.asks if it.stage == OVER and it.heard != "end" and (it.how != LET_GO or self._is_durable(it.end_line))]
+        over = [it for it in self.asks if it.stage == OVER and it.heard != "end" and it.how != LEFT]
+        over = [it for it in over if it.how != LET_GO or self._is_durable(it.end_line)]
         held = [it for it in self.asks if it.stage == HOLDS and it.heard == "" and self._is_durable(it.hold_line)]
         for it in (over + held)[:1]:
             it.heard = "end" if it.stage == OVER else "holds"
             self.serial += 1
             self.telling = (self.serial, it.number, it.how if it.stage == OVER else HOLDS)
-        self._purge()
+        if self.telling is None:
+            self._purge()
         return self.telling
 
     # ---- the one rule: all are let in that may be; what is over its time is taken away; and those lapse whose time is over
@@ -227,16 +234,19 @@ class Bay:
         ask.hold_line = DUE if self.rules.keeps else NONE
         return True
 
+    def _is_wanted(self, it: Ask) -> bool:
+        """Whether somebody waits for what it has: an instrument, or its place, if none of its class is free."""
+        full = {one.kind for one in self.line} - self._free()
+        return bool(it.needs & union(one.needs for one in self.line)) or it.kind in full
+
     def _takes(self) -> bool:
-        free, wanted = self._free(), union(it.needs for it in self.line)
-        full = {it.kind for it in self.line} - free
         for it in self.asks:
             if it.stage == HOLDS and it.gone is not None and self.rules.grace is not None and it.gone + self.rules.grace <= self.now:
                 self._ends(it, GRACE)
                 return True
         for it in self.asks:
             over = it.stage == HOLDS and it.limit is not None and it.since + it.limit <= self.now
-            if over and (it.needs & wanted or it.kind in full):
+            if over and self._is_wanted(it):
                 self._ends(it, LIMIT)
                 return True
         return False
@@ -264,7 +274,7 @@ class Bay:
             found.append(self._to_be_told(it))
         if it.stage == HOLDS and it.gone is not None and self.rules.grace is not None:
             found.append(it.gone + self.rules.grace)
-        if it.stage == HOLDS and it.limit is not None:
+        if it.stage == HOLDS and it.limit is not None and self._is_wanted(it):
             found.append(it.since + it.limit)
         return [one for one in found if one is not None and one > self.now]
 
@@ -272,16 +282,15 @@ class Bay:
         if it.stage == WAITS:
             self.line = [one for one in self.line if one.ask != it.number]
         it.stage, it.how = OVER, how
-        if how == LEFT or it.gone is not None:
-            it.heard = "end"
         if it.hold_line == DUE:
             it.hold_line = NONE
         elif it.hold_line != NONE:
             it.end_line = DUE
-        self._purge()
 
     def _purge(self) -> None:
-        self.asks = [it for it in self.asks if not (it.stage == OVER and it.heard == "end" and it.end_line != DUE)]
+        """Who is over, and knows it, or is told nothing more, and owes no line, is forgotten."""
+        knows = lambda it: it.heard == "end" or it.how == LEFT or it.gone is not None
+        self.asks = [it for it in self.asks if not (it.stage == OVER and knows(it) and it.end_line != DUE)]
 
     def _find(self, number: int) -> Optional[Ask]:
         return next((it for it in self.asks if it.number == number), None)
@@ -303,6 +312,28 @@ class Bay:
         body = body.encode() if isinstance(body, str) else body
         self.sum = hashlib.sha256(self.sum + body).digest()[:8]
         self.text += self.sum.hex().encode() + b" " + body + b"\n"
+
+    @classmethod
+    def resumed(cls, rules: Rules, file: bytes, now: int) -> Bay:
+        """The bay that comes back from what is left of its file: the clients of those that hold are gone. What stands behind the last line feed
+        is torn."""
+        it = cls(rules)
+        it.text = file[: file.rfind(b"\n") + 1]
+        it.sent = it.durable_to = len(it.text)
+        held: dict[int, Ask] = {}
+        for line in it.text.splitlines():
+            word, *more = line[17:].split(b" ")
+            it.sum = bytes.fromhex(line[:16].decode())
+            if word == b"hold":
+                number, kind, needs, owner, since = (int(one, 16) for one in more[:5])
+                limit = None if more[5] == b"-" * 16 else int(more[5], 16)
+                held[number] = Ask(number, kind, owner, None, limit, since, needs, now, HOLDS, "", "holds", it.durable_to)
+            elif word == b"end":
+                held.pop(int(more[0], 16), None)
+            it.next = max([it.next, *(int(one, 16) + 1 for one in more[:1] if word != b"bay")])
+        it.asks, it.now = [held[number] for number in sorted(held)], now
+        it._follow(now)
+        return it
 
     # ---- what holds after each call
 
