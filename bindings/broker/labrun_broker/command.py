@@ -82,7 +82,8 @@ def add_serve(parser: argparse.ArgumentParser) -> None:
     parser.add_argument("--state", metavar="DIR", help="keep the journal and the records there: a broker that is killed goes on where it was")
     parser.add_argument("--listen", metavar="ADDR", action="append", help=f"unix:PATH or HOST:PORT, as often as wanted; {DEFAULT} without")
     parser.add_argument("--group", metavar="GROUP", help="whose members may use the Unix sockets, which have the mode 0660")
-    parser.add_argument("--grace", metavar="SECONDS", type=seconds, default=60.0, help="with gone = \"release\": how long a silent client is kept, 60 without")
+    grace = "with gone = \"release\": for how long a session is kept whose client says nothing, 60 without"
+    parser.add_argument("--grace", metavar="SECONDS", type=seconds, default=60.0, help=grace)
     parser.add_argument("--page", metavar="ADDR", help="show how the bay stands to browsers there")
     parser.add_argument("--metrics", metavar="ADDR", help="tell Prometheus there")
     parser.add_argument("--tls-certificate", metavar="FILE", help="for other machines: the broker's certificate")
