@@ -12,7 +12,7 @@ use Rattle.bay_book.specs.declared.ask.Stage.{Stage}
 use Rattle.bay_book.specs.declared.ask.Stage.TheVariants.{Waits, Holds, Over}
 use Rattle.std.specs.List.{count_by}
 use Rattle.bay_book.specs.Asks.{ask_at, is_over, holds_class}
-use Rattle.bay_book.specs.Moments.{common, is_past, is_wanted, is_over_limit, wanted_moment, limit_end, if_holds, after}
+use Rattle.bay_book.specs.Moments.{common, is_past, is_wanted, is_late, is_over_limit, wanted_moment, limit_end, if_holds, after, until_at, late_end}
 use Rattle.bay_book.specs.Finding.{IsFirst}
 use Rattle.bay.specs.declared.classes.Class.{Class}
 use Rattle.bay.specs.declared.terms.Terms.{Terms}
@@ -63,7 +63,7 @@ or_second false b h = h
 test_is : (a b : ℕ) → nat_eq a b ≡ true → a ≡ b
 test_is a b h = elim (cases_eq a b) [ inl is ↦ is | inr ne ↦ absurd (false≢true (sym (ne_eqb a b ne) ∙ h)) ]
 
-wanted_is : (classes : List Class) (x : Core) (wanted full : ℕ) (a : Ask) → AreWanted x.line.wishes wanted → AreFull classes x full
+pub wanted_is : (classes : List Class) (x : Core) (wanted full : ℕ) (a : Ask) → AreWanted x.line.wishes wanted → AreFull classes x full
     → is_wanted wanted full a ≡ true → IsWanted classes x a
 wanted_is classes x wanted full a are_wanted are_full h = elim (or_cases (common a.needs wanted) (nat_eq (bit_at full a.class) 1) h) [
   | inl needs ↦ let w = are_wanted.with a.needs needs in inl (wish_at x.line.wishes w.0, has_at x.line.wishes w.0 no_wish w.1, w.2)
@@ -98,6 +98,12 @@ over_limit_is classes now x wanted full None are_wanted are_full h = λ place in
     false≢true (sym (h place inside) ∙ both_wanted now (is_wanted wanted full a) (limit_end a) (is_wanted_so classes x wanted full a are_wanted are_full want) past)
 
 -- ---- deadlines
+
+pub late_so : (classes : List Class) (terms : Terms) (now : ℕ) (x : Core) (a : Ask) (s : Stage) → a.stage ≡ s → is_late now terms.disk a ≡ true
+    → is_past now (until_at terms.disk a s a.heard) ≡ true → IsDue classes terms now x a (late_end s)
+late_so classes terms now x a Waits e late h = (e, late)
+late_so classes terms now x a Holds e late h = (e, late)
+late_so classes terms now x a (Over how) e late h = absurd (false≢true h)
 
 -- ---- whose time is over isn't over yet
 

@@ -94,7 +94,7 @@ set_cases_at (y ∷ ys) (suc i) v x d (inr h) = elim (set_cases_at ys i v x d h)
   | inr p ↦ inr (suc p.0, omega (arith, p.1), (let other = p.2 in omega (arith, other)), p.3)
 ]
 
-cases_lt : (j i : ℕ) → (j < i) ⊎ (i ≤ j)
+pub cases_lt : (j i : ℕ) → (j < i) ⊎ (i ≤ j)
 cases_lt zero zero = inr (omega arith)
 cases_lt zero (suc i) = inl (omega arith)
 cases_lt (suc j) zero = inr (omega arith)

@@ -62,13 +62,13 @@ ToldIsKept x =
 -- ---- the bay comes back
 
 -- Of this file so many bytes were read, and its head is this bay's. The log goes on behind them; and just those hold that held by its lines
-pub record Resumes (classes : List Class) (terms : Terms) (head bytes : List ℕ) (now : ℕ) (x : BayView) (used : ℕ) : Type 0 where
+pub record Resumes (classes : List Class) (terms : Terms) (limit most : ℕ) (head bytes : List ℕ) (now : ℕ) (x : BayView) (used : ℕ) : Type 0 where
   pub found : Found
   pub read : IsRead bytes found
   pub used_is : used ≡ found.used
   pub its : IsOf head found.lines.items
   pub log : x.log ≡ resumed found
-  pub back : IsBack found.lines.items now (end_of x.log) x.room
+  pub back : IsBack found.lines.items limit most now (end_of x.log) x.room
   pub classes_are : x.room.classes ≡ classes
   pub terms_are : x.room.terms ≡ terms
 
@@ -76,7 +76,7 @@ pub record Resumes (classes : List Class) (terms : Terms) (head bytes : List ℕ
 -- book: in the bay that comes back from it the ask holds what it held, for its owner
 abbrev pub ToldComesBack : BayView → Type 0
 ToldComesBack x =
-    (classes : List Class) (terms : Terms) (head file lost : List ℕ) (now used : ℕ) (y : BayView) → log_text x.log.lines ≡ file ++ lost
-    → x.room.book.durable ≤ base_of x.log.lines + length file → Resumes classes terms head file now y used
+    (classes : List Class) (terms : Terms) (limit most : ℕ) (head file lost : List ℕ) (now used : ℕ) (y : BayView) → log_text x.log.lines ≡ file ++ lost
+    → x.room.book.durable ≤ base_of x.log.lines + length file → Resumes classes terms limit most head file now y used
     → (a : Ask) (position : ℕ) → Has x.room.book.asks a → a.stage ≡ Holds → a.heard ≡ HeardHolds → a.hold_line ≡ At position
     → IsThere y.room.book a.number (entry_of a)

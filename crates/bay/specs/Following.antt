@@ -79,9 +79,11 @@ IsFirstOverLimit classes now x None = NobodyOverLimit classes now x
 abbrev pub NobodyIsDue : List Class → Terms → ℕ → Core → Type 0
 NobodyIsDue classes terms now x = (place : ℕ) (how : End) → place < length x.book.asks → IsDue classes terms now x (ask_at x.book.asks place) how → ⊥
 
--- nobody's time is over before this moment, as things stand; or if there is none, ever
+-- as things stand, nobody's time is over before this moment, and somebody's is then; or if there is none, nobody's ever is
 abbrev pub IsNextMoment : List Class → Terms → Core → Option ℕ → Type 0
-IsNextMoment classes terms x (Some next) = (moment : ℕ) → moment < next → NobodyIsDue classes terms moment x
+IsNextMoment classes terms x (Some next) =
+    ((moment : ℕ) → moment < next → NobodyIsDue classes terms moment x)
+    × ((place : ℕ) × (how : End) × (place < length x.book.asks) × IsDue classes terms next x (ask_at x.book.asks place) how)
 IsNextMoment classes terms x None = (moment : ℕ) → NobodyIsDue classes terms moment x
 
 -- one whose time is over, and how it ends; or nobody's is

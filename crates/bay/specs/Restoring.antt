@@ -1,6 +1,6 @@
 -- For readers: those that held by the log hold again.
 use Rattle.std.specs.Prelude.{◌≡◌, ℕ, ◌+◌, ◌<◌, ◌≤◌, min, true, false, List, [], ◌∷◌, All, slice_index_or, length, Option, Some, None}
-use Rattle.bay_line.specs.Lines.{LineView}
+use Rattle.bay_line.specs.Lines.{LineView, nobody}
 use Rattle.bay_book.specs.declared.ask.Ask.{Ask}
 use Rattle.bay_book.specs.declared.ask.Heard.TheVariants.{Holds as HeardHolds}
 use Rattle.bay_book.specs.declared.ask.Mark.TheVariants.{At}
@@ -97,8 +97,8 @@ IsOf head (Note ask text ∷ lines) = ⊥
 
 -- Just those hold that held by these lines, each what it held. They were told so, and the lines outlive a crash. Their clients are gone since this moment.
 -- Nobody waits. And the next number is behind all that the lines have
-pub record IsBack (lines : List Line) (moment position : ℕ) (x : RoomView) : Type 0 where
-  pub nobody_waits : x.line.wishes ≡ []
+pub record IsBack (lines : List Line) (limit most moment position : ℕ) (x : RoomView) : Type 0 where
+  pub nobody_waits : x.line ≡ nobody limit most
   pub each : (a : Ask) → Has x.book.asks a → IsRestored lines moment position a
   pub all : AreDone lines x.book
   pub next : All (λ line. after_line line ≤ x.book.next) lines

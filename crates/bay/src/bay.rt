@@ -106,7 +106,7 @@ impl Bay {
         bytes: &[u8],
         now: u64,
     ) -> Result<(Bay, usize), NotBack>
-        ensures { IfOk result (λ r. Resumes classes.items terms head bytes.now now r.0 r.1) }
+        ensures { IfOk result (λ r. Resumes classes.items terms limit most head bytes.now now r.0 r.1) }
     {
         let found = read_lines(alloc, bytes)?;
         if !is_of(&found.lines, head) {

@@ -106,7 +106,7 @@ impl Room {
         position: u64,
         now: u64,
     ) -> Result<Room, NotBack>
-        ensures back { IfOk result (λ room. IsBack lines.now now position room) }
+        ensures back { IfOk result (λ room. IsBack lines.now limit most now position room) }
         ensures terms { IfOk result (λ room. (room.classes ≡ classes.items) × (room.terms ≡ terms) × (room.stopped ≡ false)) }
     {
         if 32 < classes.len() {

@@ -12,8 +12,8 @@ returns c =
       used_is = refl;
       its = subst (IsOf c.args.head) c.deref.ensures.value (c.is_of.ensures c.if-not-is_of.false);
       log = c.in-Some.ensures.log;
-      back = subst (λ (n : ℕ). IsBack found.lines.items now n room) c.position.ensures.position
-          (subst (λ (lines : List Line). IsBack lines now c.position.result room) c.deref-2.ensures.value c.in_ok-room.ensures.back);
+      back = subst (λ (n : ℕ). IsBack found.lines.items c.args.limit c.args.most now n room) c.position.ensures.position
+          (subst (λ (lines : List Line). IsBack lines c.args.limit c.args.most now c.position.result room) c.deref-2.ensures.value c.in_ok-room.ensures.back);
       classes_are = c.in_ok-room.ensures.terms.0;
       terms_are = c.in_ok-room.ensures.terms.1;
     }
