@@ -55,7 +55,8 @@ read used fault = record { used = used; fault = fault }
 
 -- such a bay came back from the journal, of which so many bytes were read
 abbrev pub IsResumedFor : List BayClass → BayTerms → List ℕ → ℕ → BayView → ℕ → Type 0
-IsResumedFor classes terms journal now x used = Resumes (map class_of classes) (terms_of terms) terms.bay journal now x used
+IsResumedFor classes terms journal now x used =
+    Resumes (map class_of classes) (terms_of terms) terms.line terms.overtakes terms.bay journal now x used
 
 abbrev pub IsInsideBack : List BayClass → BayTerms → List ℕ → ℕ → Inside → ℕ → Type 0
 IsInsideBack classes terms journal now (Open x) used = IsResumedFor classes terms journal now x used
