@@ -153,5 +153,6 @@ CASES = [
     stops("sits_without_a_look", f"{TWO}steps\nthirst a\nhunger a\nsit a\n", 13),
     Case("stale_mark", "replay", STALE_MARK, AFTER_STALE_MARK, status=3),
     Case("dial_wraps", "replay", WRAPS, AFTER_WRAPS),
+    Case("dial_wraps_by_rounds", "rounds 10", WRAPS.partition("steps\n")[0], AFTER_WRAPS),
     Case("verbs_in_logs", "replay", VERBS, AFTER_VERBS),
 ]
