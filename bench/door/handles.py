@@ -1,8 +1,9 @@
 """The calls of labrun.h on handles, for tests in Python (labs.py, late.py, journals.py, benches.py, desks.py)."""
 import ctypes
-import importlib.util
+import importlib
 import os
 import sys
+import types
 import unittest
 from collections import namedtuple
 
@@ -11,10 +12,10 @@ TOP = os.path.realpath(os.path.dirname(__file__) + "/../..")
 
 def package():
     """The structs of labrun.h, as the package for Python has them (`test_header.py` there compares them with the header)."""
-    spec = importlib.util.spec_from_file_location("labrun_library", TOP + "/bindings/python/labrun/_library.py")
-    module = importlib.util.module_from_spec(spec)
-    spec.loader.exec_module(module)
-    return module
+    # (as a part of a package that has nothing else: labrun itself would load a library)
+    parts = sys.modules["labrun_parts"] = types.ModuleType("labrun_parts")
+    parts.__path__ = [TOP + "/bindings/python/labrun"]
+    return importlib.import_module("labrun_parts._library")
 
 
 C = package()

@@ -2,6 +2,5 @@
 
 mod hall;
 mod labs;
-mod laws;
 mod parts;
 mod texts;

@@ -2,7 +2,6 @@
 
 mod ends;
 mod faults;
-mod laws;
 mod measured;
 mod memory;
 mod orders;
