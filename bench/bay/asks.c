@@ -56,7 +56,7 @@ static uint64_t has[INSTRUMENTS];     /* which ask has an instrument, 0: none */
 static uint64_t has_by_file[INSTRUMENTS];
 static uint64_t number, asks_made, holds_told, ends_told, let_gos, left_waiting, left_holding, lines, failures;
 static uint8_t *file;
-static size_t file_length, file_room;
+static size_t file_room;
 static uint32_t seed = 1;
 
 static uint32_t chance(uint32_t below) {
@@ -147,52 +147,67 @@ static uint64_t hex(const char *digits, int count) {
     return strtoull(text, NULL, 16);
 }
 
-static void read_lines(const char *text, size_t length) {
-    for (const char *end = text + length, *next; text < end; text = next) {
-        const char *feed = memchr(text, '\n', (size_t)(end - text));
-        if (!expect(feed != NULL, "a line without an end is handed out")) return;
-        next = feed + 1;
-        lines++;
-        if (memcmp(text + 17, "hold ", 5) == 0) {
-            put(has_by_file, hex(text + 48, 16), 0, hex(text + 22, 16));
-        } else if (memcmp(text + 17, "end ", 4) == 0) {
-            uint64_t ask = hex(text + 21, 16);
-            int found = 0;
-            for (int at = 0; at < INSTRUMENTS; at++)
-                if (has_by_file[at] == ask) {
-                    has_by_file[at] = 0;
-                    found = 1;
-                }
-            expect(found, "ask %llu: its end is written, and it holds nothing by the file", (unsigned long long)ask);
-        }
+static void read_line(const char *text) {
+    lines++;
+    if (memcmp(text + 17, "hold ", 5) == 0) {
+        put(has_by_file, hex(text + 48, 16), 0, hex(text + 22, 16));
+    } else if (memcmp(text + 17, "end ", 4) == 0) {
+        uint64_t ask = hex(text + 21, 16);
+        int found = 0;
+        for (int at = 0; at < INSTRUMENTS; at++)
+            if (has_by_file[at] == ask) {
+                has_by_file[at] = 0;
+                found = 1;
+            }
+        expect(found, "ask %llu: its end is written, and it holds nothing by the file", (unsigned long long)ask);
     }
 }
 
-static void writes(void) {
-    static uint8_t text[200000], once_more[200000];
-    size_t written = 0, more = 0;
+/* The bytes from `read_to` on that were handed out; `durable_to` is somewhere in them, in the midst of a line perhaps. */
+static uint8_t tail[400000];
+static size_t tail_length;
+static uint64_t read_to, durable_to;
+
+/* The lines that are wholly on the disk are read. */
+static void read_lines(void) {
+    const uint8_t *feed;
+    size_t from = 0, to = (size_t)(durable_to - read_to);
+    while ((feed = memchr(tail + from, '\n', to - from)) != NULL) {
+        read_line((const char *)tail + from);
+        from = (size_t)(feed - tail) + 1;
+    }
+    if (file && read_to + tail_length <= file_room) memcpy(file + read_to, tail, tail_length);
+    memmove(tail, tail + from, tail_length -= from);
+    read_to += from;
+}
+
+static void writes(int all) {
+    static uint8_t text[400000];
+    size_t written = 0, from = tail_length;
     uint64_t position = 0;
-    IS(lab_bay_journal(&bay, text, sizeof text, &written, &position) == LAB_DONE);
     if (chance(16) == 0) {
         failures++;
         IS(lab_bay_failed(&bay) == LAB_DONE);
-        IS(lab_bay_journal(&bay, once_more, sizeof once_more, &more, &position) == LAB_DONE);
-        IS(more == written && memcmp(text, once_more, written) == 0);
+        from = (size_t)(durable_to - read_to);
     }
-    file_length += written;
-    IS(position == file_length);
-    if (file && file_length <= file_room) memcpy(file + file_length - written, text, written);
-    read_lines((const char *)text, written);
-    IS(lab_bay_durable(&bay, position) == LAB_DONE);
+    IS(lab_bay_journal(&bay, text, sizeof text, &written, &position) == LAB_DONE);
+    IS(from + written >= tail_length && memcmp(text, tail + from, tail_length - from) == 0); /* (the same bytes again) */
+    if (from + written > sizeof tail) exit(70);
+    memcpy(tail + from, text, written);
+    tail_length = from + written;
+    if (!IS(position == read_to + tail_length)) exit(summary()); /* (what is handed out after that can't be told) */
+    durable_to = all || chance(3) ? position : durable_to + chance((uint32_t)(position - durable_to) + 1);
+    IS(lab_bay_durable(&bay, durable_to) == LAB_DONE);
+    read_lines();
 }
 
-/* A bay comes back from the file: each ask that was told that it holds is there, and nobody but who holds by the file. */
+/* A bay comes back from what is on the disk: each ask that was told that it holds is there, and nobody but who holds by the file. */
 static void comes_back(void) {
     struct lab_bay other = {0};
     size_t used = 0;
     uint64_t fault = 0, needs = 0;
-    IS(file_length <= file_room);
-    IS(lab_bay_resume(classes, CLASSES, &terms, file, file_length, asks_made, &other, &used, &fault) == LAB_DONE && used == file_length);
+    IS(durable_to <= file_room);
+    IS(lab_bay_resume(classes, CLASSES, &terms, file, (size_t)durable_to, asks_made, &other, &used, &fault) == LAB_DONE && used == read_to);
     for (uint64_t me = 0; me < CLIENTS; me++) {
         struct client *client = &clients[me];
         uint64_t by_file = 0;
@@ -221,7 +236,7 @@ int main(int words, char **word) {
     IS(lab_bay_open(classes, CLASSES, &terms, &bay) == LAB_DONE);
     while (asks_made < wanted) {
         acts(&clients[chance(CLIENTS)]);
-        if (chance(4) == 0) writes();
+        if (chance(4) == 0) writes(0);
         tells();
         if (asks_made < next) continue;
         if (next == tenth) peak_of_a_tenth = peak;
@@ -231,7 +246,7 @@ int main(int words, char **word) {
         next += tenth;
     }
     for (int busy = 1, turns = 0; busy && turns < 1000; turns++) {
-        writes();
+        writes(1);
         tells();
         busy = 0;
         for (int me = 0; me < CLIENTS; me++) {
@@ -254,8 +269,8 @@ int main(int words, char **word) {
     printf("%llu asks: %llu told that they hold, %llu that they let go; %llu left in line, %llu while they held; %llu writes failed\n",
            (unsigned long long)asks_made, (unsigned long long)holds_told, (unsigned long long)ends_told, (unsigned long long)left_waiting,
            (unsigned long long)left_holding, (unsigned long long)failures);
-    printf("%llu lines, %zu bytes; the library had %ld bytes of memory at most, %ld in the first tenth; %.1f seconds\n", (unsigned long long)lines,
-           file_length, peak, peak_of_a_tenth, seconds);
+    printf("%llu lines, %llu bytes; the library had %ld bytes of memory at most, %ld in the first tenth; %.1f seconds\n", (unsigned long long)lines,
+           (unsigned long long)read_to, peak, peak_of_a_tenth, seconds);
     expect(seconds < 60, "it took %.1f seconds", seconds);
     free(file);
     return summary();

@@ -148,6 +148,12 @@ static void meanwhile(void) {
     watched = 0;
     met++;
     each_answers(LAB_BUSY);
+    size_t used = 77;
+    uint64_t fault = 77;
+    uint32_t opens = lab_bay_open(classes, 2, &terms, &bay);
+    IS(opens == LAB_BUSY || opens == LAB_IN_USE);
+    opens = lab_bay_resume(classes, 2, &terms, (const uint8_t *)BAY_HEAD, sizeof BAY_HEAD - 1, 0, &bay, &used, &fault);
+    IS((opens == LAB_BUSY || opens == LAB_IN_USE) && used == 77 && fault == 77);
 }
 
 void *__wrap_malloc(size_t size) {
@@ -350,6 +356,10 @@ static void leaves(void) {
     for (uint64_t number = 1; number <= 4; number++) IS(lab_bay_let_go(&bay, number, 0) == LAB_BAY_OVER);
     IS(ask_one(5, 0, 7, 0) == LAB_DONE);
     TOLD(5, LAB_HOLDS, 7);
+    IS(lab_bay_let_go(&bay, 5, 0) == LAB_DONE);
+    IS(lab_bay_leave(&bay, 5, 0) == LAB_DONE); /* it is over, and wasn't told yet: nothing is changed */
+    TOLD(5, LAB_LET_GO, 0);
+    QUIET();
     freed();
 }
 
