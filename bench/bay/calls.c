@@ -1,0 +1,766 @@
+/* calls.c: each call of the bay with ample memory, by answers that were reckoned by hand from docs/BAY.md and the header. The sums in the
+   texts of the journal are those of another SHA-256 (hashlib).
+   cc -pthread -I include bench/bay/calls.c FOLDER/liblabrun.a -Wl,--wrap=malloc -Wl,--wrap=realloc */
+#include "bay.h"
+#include <pthread.h>
+#include <stdatomic.h>
+
+#define SETS(...) (const uint64_t[]){__VA_ARGS__}, sizeof((const uint64_t[]){__VA_ARGS__}) / sizeof(uint64_t)
+#define POISON 0xaa
+#define THREADS 4
+#define CALLS 20000
+
+/* Two places for the instruments 0 to 2, and one for 2 and 3. */
+static const struct lab_class classes[2] = {{7, 2, 0}, {12, 1, 0}};
+
+static void opened(uint64_t line, uint64_t grace, uint64_t disk, uint32_t overtakes, uint32_t keeps) {
+    terms_are(line, grace, disk, overtakes, keeps);
+    IS(lab_bay_open(classes, 2, &terms, &bay) == LAB_DONE);
+}
+
+static void freed(void) {
+    IS(lab_bay_free(&bay) == LAB_DONE && bay.live == 0);
+}
+
+#define TOLD(number, what, needs) told((number), (what), (needs), __LINE__)
+#define QUIET() quiet(__LINE__)
+
+/* What is told next; it is told again until it is given back. */
+static void told(uint64_t number, uint32_t what, uint64_t needs, int line) {
+    struct lab_outcome one, other;
+    memset(&one, POISON, sizeof one);
+    memset(&other, POISON, sizeof other);
+    uint32_t status = lab_bay_tell(&bay, done, &one), again = lab_bay_tell(&bay, done, &other);
+    expect(status == LAB_DONE, "line %d: status %u", line, status);
+    if (status != LAB_DONE) return;
+    expect(one.number == number && one.what == what && (what != LAB_HOLDS || one.needs == needs), "line %d: of %llu is told %u", line,
+           (unsigned long long)one.number, one.what);
+    expect(one.serial == done + 1, "line %d: the serial number %llu", line, (unsigned long long)one.serial);
+    expect(again == LAB_DONE && one.serial == other.serial && one.number == other.number && one.what == other.what && one.needs == other.needs,
+           "line %d: it isn't told again", line);
+    done = one.serial;
+}
+
+/* There is nothing to tell, and nothing is written. */
+static void quiet(int line) {
+    struct lab_outcome one, before;
+    memset(&one, POISON, sizeof one);
+    memset(&before, POISON, sizeof before);
+    uint32_t status = lab_bay_tell(&bay, done, &one);
+    expect(status == LAB_NOT_YET && memcmp(&one, &before, sizeof one) == 0, "line %d: status %u, of %llu is told %u", line, status,
+           (unsigned long long)one.number, one.what);
+}
+
+#define DUE(now, wanted) due((now), (wanted), __LINE__)
+
+static void due(uint64_t now, uint64_t wanted, int line) {
+    uint64_t next = 77;
+    uint32_t status = lab_bay_time(&bay, now, &next);
+    expect(status == LAB_DONE && next == wanted, "line %d: status %u, next %llu", line, status, (unsigned long long)next);
+}
+
+#define TEXT(text, behind) taken((text), sizeof(text) - 1, (behind), __LINE__)
+
+/* What the journal hands out, with as much room as it needs; with less room there is nothing. */
+static void taken(const char *text, size_t length, uint64_t behind, int line) {
+    static uint8_t bytes[4096], before[4096];
+    size_t written = 77;
+    uint64_t position = 77;
+    memset(bytes, POISON, sizeof bytes);
+    memset(before, POISON, sizeof before);
+    for (size_t room = 0; room < length; room += 1 + length / 7) {
+        uint32_t status = lab_bay_journal(&bay, bytes, room, &written, &position);
+        expect(status == LAB_NO_ROOM && written == length && memcmp(bytes, before, sizeof bytes) == 0, "line %d: a room of %zu: status %u, %zu",
+               line, room, status, written);
+    }
+    uint32_t status = lab_bay_journal(&bay, bytes, length, &written, &position);
+    expect(status == LAB_DONE && written == length && memcmp(bytes, text, length) == 0, "line %d: status %u, %zu bytes: %.*s", line, status,
+           written, (int)written, (const char *)bytes);
+    expect(position == behind && memcmp(bytes + length, before, sizeof bytes - length) == 0, "line %d: up to %llu", line,
+           (unsigned long long)position);
+}
+
+/* ---- handles */
+
+/* Each call answers this, and writes nothing. */
+static void each_answers(uint32_t wanted) {
+    static const struct lab_outcome no_outcome = {77, 77, 77, 77, 77};
+    struct lab_outcome outcome = no_outcome;
+    uint8_t text[8] = "1234567";
+    uint64_t number = 77, position = 77;
+    size_t written = 77;
+    uint64_t asking = done;
+    IS(ask_one(1000000, 0, 1, 0) == wanted);
+    IS(lab_bay_let_go(&bay, 1, 0) == wanted);
+    IS(lab_bay_leave(&bay, 1, 0) == wanted);
+    IS(lab_bay_take_away(&bay, 1, 0) == wanted);
+    IS(lab_bay_gone(&bay, 1, 0) == wanted);
+    IS(lab_bay_back(&bay, 1, 0, 1, 0, &number) == wanted);
+    IS(lab_bay_time(&bay, 0, &number) == wanted);
+    IS(lab_bay_stop(&bay, 0) == wanted);
+    IS(lab_bay_note(&bay, 1, text, 7, &position) == wanted);
+    IS(lab_bay_journal(&bay, text, 7, &written, &position) == wanted);
+    IS(lab_bay_durable(&bay, 1000000) == wanted);
+    IS(lab_bay_failed(&bay) == wanted);
+    IS(lab_bay_tell(&bay, asking, &outcome) == wanted);
+    IS(lab_bay_free(&bay) == wanted);
+    IS(number == 77 && position == 77 && written == 77 && memcmp(text, "1234567", 8) == 0);
+    IS(memcmp(&outcome, &no_outcome, sizeof outcome) == 0);
+}
+
+static void handles(void) {
+    struct lab_class many[33];
+    size_t used = 77;
+    uint64_t fault = 77;
+    for (int at = 0; at < 33; at++) many[at] = (struct lab_class){1, 1, 0};
+    terms_are(4, LAB_NEVER, LAB_NEVER, 64, 0);
+    each_answers(LAB_NOT_OPEN);
+    IS(lab_bay_open(many, 33, &terms, &bay) == LAB_BAY_NO_CLASS && bay.live == 0);
+    each_answers(LAB_NOT_OPEN);
+    IS(lab_bay_open(many, 32, &terms, &bay) == LAB_DONE);
+    IS(ask_one(1, 31, 1, 0) == LAB_DONE);
+    IS(lab_bay_open(many, 1, &terms, &bay) == LAB_IN_USE);
+    IS(lab_bay_resume(many, 1, &terms, (const uint8_t *)BAY_HEAD, sizeof BAY_HEAD - 1, 0, &bay, &used, &fault) == LAB_IN_USE);
+    IS(used == 77 && fault == 77);
+    TOLD(1, LAB_HOLDS, 1);
+    QUIET();
+    freed();
+    each_answers(LAB_NOT_OPEN);
+
+    /* a bay that was freed is opened again; nothing of the first is in it */
+    opened(4, LAB_NEVER, LAB_NEVER, 64, 0);
+    QUIET();
+    DUE(0, LAB_NEVER);
+    IS(lab_bay_let_go(&bay, 1, 0) == LAB_BAY_OVER);
+    IS(ask_one(0, 0, 1, 0) == LAB_DONE);
+    TOLD(0, LAB_HOLDS, 1);
+    freed();
+}
+
+/* While the library asks for memory it is in the midst of a call: whoever calls then finds the handle busy. */
+static int watched;
+static long met;
+
+void *__real_malloc(size_t), *__real_realloc(void *, size_t);
+
+static void meanwhile(void) {
+    if (!watched) return;
+    watched = 0;
+    met++;
+    each_answers(LAB_BUSY);
+    size_t used = 77;
+    uint64_t fault = 77;
+    uint32_t opens = lab_bay_open(classes, 2, &terms, &bay);
+    IS(opens == LAB_BUSY || opens == LAB_IN_USE);
+    opens = lab_bay_resume(classes, 2, &terms, (const uint8_t *)BAY_HEAD, sizeof BAY_HEAD - 1, 0, &bay, &used, &fault);
+    IS((opens == LAB_BUSY || opens == LAB_IN_USE) && used == 77 && fault == 77);
+}
+
+void *__wrap_malloc(size_t size) {
+    meanwhile();
+    return __real_malloc(size);
+}
+
+void *__wrap_realloc(void *old, size_t size) {
+    meanwhile();
+    return __real_realloc(old, size);
+}
+
+static void *tells_the_time(void *counts) {
+    for (int call = 0; call < CALLS; call++) {
+        uint64_t next = 77;
+        uint32_t status = lab_bay_time(&bay, 0, &next);
+        if (status == LAB_DONE && next == 20) atomic_fetch_add((atomic_long *)counts, 1);
+        else if (status == LAB_BUSY && next == 77) atomic_fetch_add((atomic_long *)counts + 1, 1);
+        else abort();
+    }
+    return NULL;
+}
+
+static void busy(void) {
+    static uint8_t text[1 << 16];
+    static atomic_long counts[2];
+    pthread_t threads[THREADS];
+    size_t written;
+    uint64_t position;
+    opened(100, LAB_NEVER, LAB_NEVER, 64, 1);
+    for (uint64_t number = 1; number <= 60; number++) {
+        watched = 1;
+        IS(ask_as(0, 0, number, 0, 20, LAB_NEVER, 0, SETS(1)) == LAB_DONE);
+    }
+    IS(met > 0);
+    met = 0;
+    watched = 1;
+    IS(lab_bay_journal(&bay, text, sizeof text, &written, &position) == LAB_DONE && written == 252 && position == 252);
+    IS(lab_bay_durable(&bay, 252) == LAB_DONE);
+    watched = 0;
+    TOLD(1, LAB_HOLDS, 1);
+    for (int times = 0; times < 60; times++) {
+        watched = 1;
+        IS(lab_bay_note(&bay, 1, (const uint8_t *)"n", 1, &position) == LAB_DONE);
+    }
+    watched = 0;
+    IS(met > 0);
+    QUIET();
+
+    /* threads without a mutex */
+    for (int n = 0; n < THREADS; n++)
+        if (pthread_create(&threads[n], NULL, tells_the_time, counts) != 0) exit(70);
+    for (int n = 0; n < THREADS; n++) pthread_join(threads[n], NULL);
+    IS(counts[0] > 0 && counts[0] + counts[1] == (long)THREADS * CALLS);
+    printf("without a mutex: %ld calls were done, %ld answered 13\n", (long)counts[0], (long)counts[1]);
+    QUIET();
+    IS(lab_bay_let_go(&bay, 2, 0) == LAB_NOT_YET);
+    freed();
+}
+
+/* ---- asking */
+
+static void refusals(void) {
+    opened(2, LAB_NEVER, LAB_NEVER, 64, 0);
+    IS(ask_as(7, 9, 5, 0, LAB_NEVER, LAB_NEVER, 0, SETS(1)) == LAB_DONE);
+    TOLD(5, LAB_HOLDS, 1);
+    QUIET();
+
+    /* each has all faults that come later in the order, too */
+    IS(ask_as(7, 9, 5, 2, 0, 0, 0, SETS(0, 8, 1)) == LAB_BAY_NUMBER);
+    IS(ask_as(7, 9, 4, 0, 0, 0, 0, SETS(1)) == LAB_BAY_NUMBER);
+    IS(ask_as(7, 9, LAB_NEVER, 2, 0, 0, 0, SETS(0, 8, 1)) == LAB_BAY_NUMBER);
+    IS(ask_as(7, 9, 6, 2, 0, 0, 0, SETS(0, 8, 1)) == LAB_BAY_NO_CLASS);
+    IS(ask_as(7, 9, 6, 0xffffffffu, 0, 0, 0, SETS(0, 8, 1)) == LAB_BAY_NO_CLASS);
+    IS(ask_as(7, 9, 6, 0, 0, 0, 0, SETS(8, 1, 0)) == LAB_BAY_EMPTY);
+    IS(ask_as(7, 9, 6, 0, 0, 0, 0, NULL, 0) == LAB_BAY_EMPTY);
+    IS(ask_as(7, 9, 6, 0, 0, 0, 0, SETS(2, 8, 1)) == LAB_BAY_MAY_NOT);
+    IS(ask_as(7, 9, 6, 1, 0, 0, 0, SETS(3)) == LAB_BAY_MAY_NOT);
+    IS(ask_as(7, 9, 6, 0, 0, 0, 0, SETS(1, 2, 4)) == LAB_BAY_OWNER);
+    IS(ask_as(7, 8, 6, 0, 0, 0, 0, SETS(1, 2, 4)) == LAB_BAY_LINE_FULL);
+    QUIET();
+    DUE(0, LAB_NEVER);
+
+    /* the number of an ask that was refused is still free; two sets wait, and there is room for no third */
+    IS(ask_as(7, 8, 6, 0, LAB_NEVER, LAB_NEVER, 0, SETS(1, 5)) == LAB_DONE);
+    IS(ask_one(7, 0, 2, 0) == LAB_BAY_LINE_FULL);
+    IS(ask_as(7, 8, 7, 0, 0, 0, 0, SETS(2)) == LAB_BAY_OWNER); /* (of one that waits) */
+    QUIET();
+
+    /* an owner is free once its ask is over */
+    IS(lab_bay_let_go(&bay, 5, 0) == LAB_DONE);
+    TOLD(5, LAB_LET_GO, 0);
+    TOLD(6, LAB_HOLDS, 1);
+    QUIET();
+    IS(ask_as(7, 9, 7, 0, LAB_NEVER, LAB_NEVER, 0, SETS(2)) == LAB_DONE);
+    TOLD(7, LAB_HOLDS, 2);
+    IS(lab_bay_stop(&bay, 0) == LAB_DONE);
+    IS(ask_as(7, 9, 5, 2, 0, 0, 0, SETS(0, 8, 1)) == LAB_BAY_STOPPED);
+    IS(ask_one(8, 0, 4, 0) == LAB_BAY_STOPPED);
+    QUIET();
+    freed();
+
+    /* the largest number, behind which there is none */
+    opened(2, LAB_NEVER, LAB_NEVER, 64, 0);
+    IS(ask_one(LAB_NEVER - 1, 0, 1, 0) == LAB_DONE);
+    IS(ask_one(LAB_NEVER, 0, 2, 0) == LAB_BAY_NUMBER);
+    IS(ask_one(LAB_NEVER - 1, 0, 2, 0) == LAB_BAY_NUMBER);
+    TOLD(LAB_NEVER - 1, LAB_HOLDS, 1);
+    QUIET();
+    freed();
+}
+
+static void waits(void) {
+    opened(100, LAB_NEVER, LAB_NEVER, 1, 0);
+    IS(ask_one(1, 0, 1, 0) == LAB_DONE);
+    IS(ask_one(2, 0, 1, 0) == LAB_DONE);
+    TOLD(1, LAB_HOLDS, 1);
+    QUIET();
+    IS(lab_bay_let_go(&bay, 2, 0) == LAB_NOT_YET);
+    IS(lab_bay_take_away(&bay, 2, 0) == LAB_NOT_YET);
+    IS(lab_bay_let_go(&bay, 3, 0) == LAB_BAY_OVER);
+    IS(lab_bay_take_away(&bay, 3, 0) == LAB_BAY_OVER);
+    QUIET();
+
+    /* whoever is over is told so before anybody is told that it holds */
+    IS(lab_bay_let_go(&bay, 1, 0) == LAB_DONE);
+    IS(lab_bay_let_go(&bay, 1, 0) == LAB_BAY_OVER);
+    IS(lab_bay_take_away(&bay, 1, 0) == LAB_BAY_OVER);
+    TOLD(1, LAB_LET_GO, 0);
+    TOLD(2, LAB_HOLDS, 1);
+    QUIET();
+    IS(ask_one(3, 0, 1, 0) == LAB_DONE);
+    IS(lab_bay_take_away(&bay, 2, 0) == LAB_DONE);
+    TOLD(2, LAB_TAKEN, 0);
+    TOLD(3, LAB_HOLDS, 1);
+    QUIET();
+    IS(lab_bay_let_go(&bay, 2, 0) == LAB_BAY_OVER);
+
+    /* the first of several sets that is free */
+    IS(ask_as(0, 0, 4, 0, LAB_NEVER, LAB_NEVER, 0, SETS(1, 3, 2, 4)) == LAB_DONE);
+    TOLD(4, LAB_HOLDS, 2);
+    /* the two places of class 0 are taken; that of class 1 isn't */
+    IS(ask_one(5, 0, 4, 0) == LAB_DONE);
+    QUIET();
+    IS(ask_one(6, 1, 12, 0) == LAB_DONE);
+    TOLD(6, LAB_HOLDS, 12);
+    QUIET();
+    IS(lab_bay_let_go(&bay, 4, 0) == LAB_DONE);
+    TOLD(4, LAB_LET_GO, 0);
+    QUIET();
+    IS(lab_bay_let_go(&bay, 6, 0) == LAB_DONE);
+    TOLD(6, LAB_LET_GO, 0);
+    TOLD(5, LAB_HOLDS, 4);
+    IS(lab_bay_let_go(&bay, 5, 0) == LAB_DONE);
+    TOLD(5, LAB_LET_GO, 0);
+
+    /* one was passed as often as may be (overtakes is 1): then what it needs is kept for it. (3 holds instrument 0) */
+    IS(ask_one(7, 0, 3, 0) == LAB_DONE);
+    IS(ask_one(8, 0, 2, 0) == LAB_DONE);
+    TOLD(8, LAB_HOLDS, 2);
+    IS(lab_bay_let_go(&bay, 8, 0) == LAB_DONE);
+    TOLD(8, LAB_LET_GO, 0);
+    IS(ask_one(9, 0, 2, 0) == LAB_DONE);
+    QUIET();
+    IS(ask_one(10, 0, 4, 0) == LAB_DONE); /* (which the other doesn't need) */
+    TOLD(10, LAB_HOLDS, 4);
+    IS(lab_bay_let_go(&bay, 10, 0) == LAB_DONE);
+    TOLD(10, LAB_LET_GO, 0);
+    IS(lab_bay_let_go(&bay, 3, 0) == LAB_DONE);
+    TOLD(3, LAB_LET_GO, 0);
+    TOLD(7, LAB_HOLDS, 3);
+    QUIET();
+    IS(lab_bay_let_go(&bay, 7, 0) == LAB_DONE);
+    TOLD(7, LAB_LET_GO, 0);
+    TOLD(9, LAB_HOLDS, 2);
+    QUIET();
+    freed();
+}
+
+static void leaves(void) {
+    opened(100, LAB_NEVER, LAB_NEVER, 64, 0);
+    IS(lab_bay_leave(&bay, 1, 0) == LAB_DONE); /* (nobody) */
+    IS(ask_one(1, 0, 1, 0) == LAB_DONE);
+    TOLD(1, LAB_HOLDS, 1);
+    IS(ask_one(2, 0, 1, 0) == LAB_DONE);
+    IS(ask_one(3, 0, 1, 0) == LAB_DONE);
+    IS(ask_one(4, 0, 1, 0) == LAB_DONE);
+    IS(lab_bay_leave(&bay, 2, 0) == LAB_DONE); /* it waits */
+    QUIET();
+    IS(lab_bay_leave(&bay, 1, 0) == LAB_DONE); /* it holds, and was told so */
+    TOLD(3, LAB_HOLDS, 1);
+    QUIET();
+    IS(lab_bay_let_go(&bay, 3, 0) == LAB_DONE);
+    IS(lab_bay_leave(&bay, 4, 0) == LAB_DONE); /* it holds, and wasn't told yet */
+    TOLD(3, LAB_LET_GO, 0);
+    QUIET();
+    IS(lab_bay_leave(&bay, 3, 0) == LAB_DONE); /* it is over, and knows it */
+    IS(lab_bay_leave(&bay, 3, 0) == LAB_DONE && lab_bay_leave(&bay, LAB_NEVER, 0) == LAB_DONE);
+    QUIET();
+    for (uint64_t number = 1; number <= 4; number++) IS(lab_bay_let_go(&bay, number, 0) == LAB_BAY_OVER);
+    IS(ask_one(5, 0, 7, 0) == LAB_DONE);
+    TOLD(5, LAB_HOLDS, 7);
+    IS(lab_bay_let_go(&bay, 5, 0) == LAB_DONE);
+    IS(lab_bay_leave(&bay, 5, 0) == LAB_DONE); /* it is over, and wasn't told yet: nothing is changed */
+    TOLD(5, LAB_LET_GO, 0);
+    QUIET();
+    freed();
+}
+
+static void gone_and_back(void) {
+    uint64_t needs = 77;
+    opened(100, 10, LAB_NEVER, 64, 0);
+    IS(ask_as(7, 9, 1, 0, LAB_NEVER, LAB_NEVER, 0, SETS(3)) == LAB_DONE);
+    TOLD(1, LAB_HOLDS, 3);
+    IS(ask_as(7, 8, 2, 0, LAB_NEVER, LAB_NEVER, 0, SETS(1)) == LAB_DONE);
+    DUE(100, LAB_NEVER);
+    IS(lab_bay_gone(&bay, 1, 100) == LAB_DONE);
+    IS(lab_bay_gone(&bay, 3, 100) == LAB_DONE); /* (nobody) */
+    DUE(100, 110);
+    DUE(109, 110);
+    IS(lab_bay_back(&bay, 1, 9, 7, 109, &needs) == LAB_BAY_OVER);
+    IS(lab_bay_back(&bay, 1, 7, 8, 109, &needs) == LAB_BAY_OVER);
+    IS(lab_bay_back(&bay, 1, 0, 9, 109, &needs) == LAB_BAY_OVER);
+    IS(lab_bay_back(&bay, 1, 0, 0, 109, &needs) == LAB_BAY_OVER);
+    IS(lab_bay_back(&bay, 3, 7, 9, 109, &needs) == LAB_BAY_OVER);
+    IS(needs == 77);
+    IS(lab_bay_back(&bay, 1, 7, 9, 109, &needs) == LAB_DONE && needs == 3);
+    DUE(500, LAB_NEVER);
+    QUIET();
+
+    freed();
+}
+
+/* Of an ask whose client is gone nothing is told: neither that its grace is over, nor what is taken away. */
+static void gone_and_told_nothing(void) {
+    uint64_t needs = 77;
+    opened(100, 10, LAB_NEVER, 64, 0);
+    IS(ask_as(7, 9, 1, 0, LAB_NEVER, LAB_NEVER, 0, SETS(3)) == LAB_DONE);
+    TOLD(1, LAB_HOLDS, 3);
+    IS(ask_one(2, 0, 1, 0) == LAB_DONE);
+    IS(lab_bay_gone(&bay, 1, 500) == LAB_DONE);
+    DUE(509, 510);
+    QUIET();
+    DUE(510, LAB_NEVER);
+    IS(lab_bay_back(&bay, 1, 7, 9, 510, &needs) == LAB_BAY_OVER && needs == 77);
+    IS(lab_bay_let_go(&bay, 1, 510) == LAB_BAY_OVER);
+    TOLD(2, LAB_HOLDS, 1);
+    QUIET();
+    freed();
+
+    /* without a grace it is kept for ever */
+    opened(100, LAB_NEVER, LAB_NEVER, 64, 0);
+    IS(ask_one(1, 0, 3, 0) == LAB_DONE);
+    TOLD(1, LAB_HOLDS, 3);
+    IS(ask_one(2, 0, 3, 0) == LAB_DONE);
+    IS(lab_bay_gone(&bay, 1, 1) == LAB_DONE);
+    DUE(LAB_NEVER - 1, LAB_NEVER);
+    QUIET();
+    IS(lab_bay_take_away(&bay, 1, LAB_NEVER - 1) == LAB_DONE);
+    TOLD(2, LAB_HOLDS, 3);
+    QUIET();
+    freed();
+}
+
+/* An owner of two zeros: nobody may come back for it. */
+static void nobody_comes_back(void) {
+    uint64_t needs = 77;
+    opened(100, 10, LAB_NEVER, 64, 0);
+    IS(ask_one(1, 0, 3, 0) == LAB_DONE);
+    IS(ask_one(2, 1, 8, 0) == LAB_DONE); /* (and such owners aren't the same one) */
+    TOLD(1, LAB_HOLDS, 3);
+    TOLD(2, LAB_HOLDS, 8);
+    IS(lab_bay_gone(&bay, 1, 1) == LAB_DONE);
+    IS(lab_bay_back(&bay, 1, 0, 0, 1, &needs) == LAB_BAY_OVER && needs == 77);
+    freed();
+}
+
+/* ---- moments */
+
+static void limits(void) {
+    opened(100, LAB_NEVER, LAB_NEVER, 64, 0);
+    IS(ask_as(0, 0, 1, 0, LAB_NEVER, 5, 10, SETS(1)) == LAB_DONE);
+    TOLD(1, LAB_HOLDS, 1);
+    DUE(10, LAB_NEVER); /* (nobody wants it) */
+    DUE(12, LAB_NEVER);
+    IS(ask_one(2, 0, 1, 12) == LAB_DONE);
+    DUE(12, 15);
+    DUE(14, 15);
+    QUIET();
+    DUE(15, LAB_NEVER);
+    TOLD(1, LAB_LIMIT, 0);
+    TOLD(2, LAB_HOLDS, 1);
+    QUIET();
+    IS(lab_bay_let_go(&bay, 1, 15) == LAB_BAY_OVER);
+    IS(lab_bay_let_go(&bay, 2, 15) == LAB_DONE);
+    TOLD(2, LAB_LET_GO, 0);
+
+    /* it is over when somebody comes; but nothing is taken for somebody that could have another set */
+    IS(ask_as(0, 0, 3, 0, LAB_NEVER, 5, 20, SETS(1)) == LAB_DONE);
+    TOLD(3, LAB_HOLDS, 1);
+    DUE(40, LAB_NEVER);
+    IS(ask_as(0, 0, 4, 0, 40, LAB_NEVER, 40, SETS(1, 2)) == LAB_DONE);
+    TOLD(4, LAB_HOLDS, 2);
+    QUIET();
+    IS(lab_bay_let_go(&bay, 4, 40) == LAB_DONE);
+    TOLD(4, LAB_LET_GO, 0);
+    IS(ask_one(5, 0, 3, 41) == LAB_DONE);
+    TOLD(3, LAB_LIMIT, 0);
+    TOLD(5, LAB_HOLDS, 3);
+    QUIET();
+    freed();
+}
+
+static void deadlines(void) {
+    opened(100, LAB_NEVER, LAB_NEVER, 64, 0);
+    IS(ask_as(0, 0, 1, 0, 10, LAB_NEVER, 10, SETS(1)) == LAB_DONE); /* a deadline of now takes what is free */
+    TOLD(1, LAB_HOLDS, 1);
+    IS(ask_as(0, 0, 2, 0, 10, LAB_NEVER, 10, SETS(1)) == LAB_DONE); /* and waits for nothing */
+    TOLD(2, LAB_LAPSED, 0);
+    QUIET();
+    IS(ask_as(0, 0, 3, 0, 20, LAB_NEVER, 10, SETS(1)) == LAB_DONE);
+    IS(ask_as(0, 0, 4, 0, 30, LAB_NEVER, 10, SETS(1)) == LAB_DONE);
+    DUE(10, 20);
+    DUE(19, 20);
+    QUIET();
+    DUE(20, 30);
+    TOLD(3, LAB_LAPSED, 0);
+    QUIET();
+    IS(lab_bay_let_go(&bay, 3, 20) == LAB_BAY_OVER);
+
+    /* it lets go at the very moment of the deadline: whoever may be let in is, before anybody lapses */
+    IS(lab_bay_let_go(&bay, 1, 30) == LAB_DONE);
+    TOLD(1, LAB_LET_GO, 0);
+    TOLD(4, LAB_HOLDS, 1);
+    DUE(31, LAB_NEVER);
+    QUIET();
+    /* a moment never falls */
+    IS(ask_as(0, 0, 5, 0, 30, LAB_NEVER, 7, SETS(1)) == LAB_DONE);
+    TOLD(5, LAB_LAPSED, 0);
+    QUIET();
+    freed();
+}
+
+static void disks(void) {
+    opened(100, LAB_NEVER, 5, 64, 1);
+    IS(ask_as(0, 0, 1, 0, 10, LAB_NEVER, 10, SETS(1)) == LAB_DONE);
+    DUE(10, 15);
+    DUE(14, 15);
+    QUIET();
+    DUE(15, LAB_NEVER);
+    TOLD(1, LAB_NOT_WRITTEN, 0);
+    QUIET();
+    TEXT(BAY_HEAD, 120); /* (its line wasn't taken, and so there is none) */
+    TEXT("", 120);
+
+    /* the line was taken, and isn't on the disk in time: the end is owed, and told at once */
+    IS(ask_as(0, 0, 2, 0, 20, LAB_NEVER, 20, SETS(1)) == LAB_DONE);
+    TEXT("20aa50d677a50be0 hold 0000000000000002 00000000 0000000000000001 00000000000000000000000000000000 0000000000000014 ----------------\n", 252);
+    DUE(24, 25);
+    IS(lab_bay_durable(&bay, 251) == LAB_DONE);
+    QUIET();
+    DUE(25, LAB_NEVER);
+    TOLD(2, LAB_NOT_WRITTEN, 0);
+    QUIET();
+    TEXT("0a702ef9935c0592 end 0000000000000002 not_written\n", 302);
+
+    /* another, in time */
+    IS(ask_as(0, 0, 3, 0, 30, LAB_NEVER, 30, SETS(1)) == LAB_DONE);
+    TEXT("ce4029cba9b6e516 hold 0000000000000003 00000000 0000000000000001 00000000000000000000000000000000 000000000000001e ----------------\n", 434);
+    IS(lab_bay_durable(&bay, 434) == LAB_DONE);
+    TOLD(3, LAB_HOLDS, 1);
+    DUE(100, LAB_NEVER);
+    QUIET();
+    freed();
+}
+
+/* What was on the disk in time isn't over for want of the disk, also if nobody asked what is told; nor is anything if there is no journal. */
+static void told_late(void) {
+    opened(100, LAB_NEVER, 5, 64, 1);
+    IS(ask_as(0, 0, 1, 0, 10, LAB_NEVER, 10, SETS(1)) == LAB_DONE);
+    TEXT(BAY_HEAD "151585b327d0ca5c hold 0000000000000001 00000000 0000000000000001 00000000000000000000000000000000 000000000000000a ----------------\n", 252);
+    IS(lab_bay_durable(&bay, 252) == LAB_DONE);
+    DUE(15, LAB_NEVER);
+    TOLD(1, LAB_HOLDS, 1);
+    QUIET();
+    freed();
+    opened(100, LAB_NEVER, 5, 64, 0);
+    IS(ask_as(0, 0, 1, 0, 10, LAB_NEVER, 10, SETS(1)) == LAB_DONE);
+    DUE(15, LAB_NEVER);
+    TOLD(1, LAB_HOLDS, 1);
+    QUIET();
+    freed();
+}
+
+static void stops(void) {
+    opened(100, LAB_NEVER, LAB_NEVER, 64, 0);
+    IS(ask_one(1, 0, 1, 0) == LAB_DONE);
+    TOLD(1, LAB_HOLDS, 1);
+    IS(ask_one(2, 0, 1, 0) == LAB_DONE);
+    IS(ask_one(3, 0, 5, 0) == LAB_DONE);
+    IS(lab_bay_stop(&bay, 0) == LAB_DONE);
+    TOLD(2, LAB_STOPPED, 0);
+    TOLD(3, LAB_STOPPED, 0);
+    QUIET();
+    IS(lab_bay_stop(&bay, 0) == LAB_DONE);
+    QUIET();
+    IS(ask_one(4, 0, 4, 0) == LAB_BAY_STOPPED);
+    IS(lab_bay_let_go(&bay, 1, 0) == LAB_DONE);
+    TOLD(1, LAB_LET_GO, 0);
+    QUIET();
+    freed();
+}
+
+/* ---- the journal */
+
+#define N50 "nnnnnnnnnnnnnnnnnnnnnnnnnnnnnnnnnnnnnnnnnnnnnnnnnn"
+#define N500 N50 N50 N50 N50 N50 N50 N50 N50 N50 N50
+
+#define HOLD5 "813dcff3e1a58cdf hold 0000000000000005 00000000 0000000000000003 00000000000000070000000000000009 0000000000000004 0000000000000006\n"
+#define HOLD6 "90fefe0a680e872d hold 0000000000000006 00000001 0000000000000004 00000000000000010000000000000002 0000000000000004 ----------------\n"
+
+static void journals(void) {
+    static uint8_t long_text[501];
+    uint64_t position = 77;
+    memset(long_text, 'n', sizeof long_text);
+    opened(100, LAB_NEVER, LAB_NEVER, 64, 1);
+    IS(ask_as(7, 9, 5, 0, LAB_NEVER, 6, 4, SETS(3)) == LAB_DONE);
+    IS(ask_as(1, 2, 6, 1, LAB_NEVER, LAB_NEVER, 4, SETS(4)) == LAB_DONE);
+    QUIET();
+    IS(lab_bay_note(&bay, 5, long_text, 1, &position) == LAB_NOT_YET); /* (it holds, and wasn't told so) */
+    TEXT(BAY_HEAD HOLD5 HOLD6, 384);
+    TEXT("", 384);
+    QUIET();
+    IS(lab_bay_durable(&bay, 0) == LAB_DONE && lab_bay_durable(&bay, 251) == LAB_DONE);
+    QUIET();
+
+    /* a write fails: the same bytes again, from what is durable on */
+    IS(lab_bay_durable(&bay, 120) == LAB_DONE && lab_bay_failed(&bay) == LAB_DONE);
+    IS(lab_bay_failed(&bay) == LAB_DONE);
+    QUIET();
+    freed();
+    opened(100, LAB_NEVER, LAB_NEVER, 64, 1);
+    IS(ask_as(7, 9, 5, 0, LAB_NEVER, 6, 4, SETS(3)) == LAB_DONE);
+    IS(ask_as(1, 2, 6, 1, LAB_NEVER, LAB_NEVER, 4, SETS(4)) == LAB_DONE);
+    TEXT(BAY_HEAD HOLD5 HOLD6, 384);
+    for (int times = 0; times < 3; times++) {
+        IS(lab_bay_failed(&bay) == LAB_DONE);
+        TEXT(BAY_HEAD HOLD5 HOLD6, 384);
+    }
+    IS(lab_bay_durable(&bay, 252) == LAB_DONE);
+    TOLD(5, LAB_HOLDS, 3);
+    QUIET();
+    IS(lab_bay_failed(&bay) == LAB_DONE);
+    TEXT(HOLD6, 384);
+    IS(lab_bay_durable(&bay, 120) == LAB_DONE); /* (what is durable stays so) */
+    IS(lab_bay_failed(&bay) == LAB_DONE);
+    TEXT(HOLD6, 384);
+    QUIET();
+    IS(lab_bay_durable(&bay, 384) == LAB_DONE);
+    TOLD(6, LAB_HOLDS, 4);
+    QUIET();
+    IS(lab_bay_failed(&bay) == LAB_DONE);
+    TEXT("", 384);
+
+    /* notes */
+    position = 77;
+    IS(lab_bay_note(&bay, 5, long_text, 501, &position) == LAB_BAY_MAY_NOT);
+    IS(lab_bay_note(&bay, 5, (const uint8_t *)"a\nb", 3, &position) == LAB_BAY_MAY_NOT);
+    IS(lab_bay_note(&bay, 5, (const uint8_t *)"ab\r", 3, &position) == LAB_BAY_MAY_NOT);
+    IS(lab_bay_note(&bay, 7, long_text, 1, &position) == LAB_NOT_YET);
+    IS(ask_one(7, 0, 1, 4) == LAB_DONE);
+    IS(lab_bay_note(&bay, 7, long_text, 1, &position) == LAB_NOT_YET);
+    IS(position == 77);
+    TEXT("", 384);
+    IS(lab_bay_note(&bay, 5, (const uint8_t *)"volts 3", 7, &position) == LAB_DONE && position == 431);
+    IS(lab_bay_note(&bay, 6, long_text, 500, &position) == LAB_DONE && position == 971);
+    IS(lab_bay_note(&bay, 6, NULL, 0, &position) == LAB_DONE && position == 1011);
+
+    /* ends come before holds; let go and holds are told once their lines are durable */
+    IS(lab_bay_let_go(&bay, 5, 9) == LAB_DONE);
+    IS(lab_bay_note(&bay, 5, long_text, 1, &position) == LAB_NOT_YET && position == 1011);
+    QUIET();
+    TEXT("6f8c248aae82608f note 0000000000000005 volts 3\n"
+         "abaca7a419e2f5dc note 0000000000000006 " N500 "\n"
+         "827c921b9b9ca5b2 note 0000000000000006 \n"
+         "8a7b9ab19018b68a end 0000000000000005 let_go\n"
+         "7f56e77f75377614 hold 0000000000000007 00000000 0000000000000001 00000000000000000000000000000000 0000000000000009 ----------------\n",
+         1188);
+    QUIET();
+    IS(lab_bay_durable(&bay, 1055) == LAB_DONE);
+    QUIET();
+    IS(lab_bay_durable(&bay, 1056) == LAB_DONE);
+    TOLD(5, LAB_LET_GO, 0);
+    QUIET();
+    IS(lab_bay_durable(&bay, 1188) == LAB_DONE);
+    TOLD(7, LAB_HOLDS, 1);
+    QUIET();
+
+    /* what is taken away is told at once, and its line comes; somebody that leaves is told nothing, and its line comes; one that
+       came and left meanwhile has none */
+    IS(lab_bay_take_away(&bay, 6, 9) == LAB_DONE);
+    TOLD(6, LAB_TAKEN, 0);
+    IS(ask_one(8, 1, 4, 9) == LAB_DONE);
+    IS(lab_bay_leave(&bay, 8, 9) == LAB_DONE);
+    IS(lab_bay_leave(&bay, 7, 9) == LAB_DONE);
+    QUIET();
+    TEXT("08087758cea1aefa end 0000000000000006 taken_away\n74442c66faf3c48c end 0000000000000007 left\n", 1280);
+    freed();
+}
+
+/* ---- a bay that comes back */
+
+static const char file[] = BAY_HEAD HOLD5 HOLD6 "27fe3fc9af2bb618 end 0000000000000005 let_go\n";
+
+static uint32_t resumed(const void *text, size_t length, uint64_t now, size_t *used, uint64_t *fault) {
+    *used = 77;
+    *fault = 77;
+    done = 0;
+    return lab_bay_resume(classes, 2, &terms, (const uint8_t *)text, length, now, &bay, used, fault);
+}
+
+static void comes_back(void) {
+    static const struct lab_class fewer[2] = {{1, 2, 0}, {12, 1, 0}};
+    static char text[sizeof file];
+    struct lab_class many[33];
+    size_t used;
+    uint64_t fault, needs = 77;
+    terms_are(100, 10, LAB_NEVER, 64, 1);
+    for (int at = 0; at < 33; at++) many[at] = (struct lab_class){15, 2, 0};
+
+    /* who doesn't come back */
+    IS(resumed("", 0, 0, &used, &fault) == LAB_BAY_ANOTHER);
+    IS(resumed(NULL, 0, 0, &used, &fault) == LAB_BAY_ANOTHER);
+    IS(resumed(file, 119, 0, &used, &fault) == LAB_BAY_ANOTHER);
+    terms.bay[31]++;
+    IS(resumed(file, sizeof file - 1, 0, &used, &fault) == LAB_BAY_ANOTHER);
+    terms.bay[31]--;
+    IS(lab_bay_resume(many, 33, &terms, (const uint8_t *)file, sizeof file - 1, 0, &bay, &used, &fault) == LAB_BAY_NO_CLASS);
+    for (size_t at = 0; at < sizeof file - 1; at++) {
+        if (file[at] == '\n') continue;
+        memcpy(text, file, sizeof file);
+        text[at] ^= 1;
+        unsigned line = 1 + (at >= 120) + (at >= 252) + (at >= 384);
+        uint32_t status = resumed(text, sizeof file - 1, 0, &used, &fault);
+        expect(status == LAB_BAY_UNSOUND && fault == line, "byte %zu changed: status %u, fault %llu", at, status, (unsigned long long)fault);
+    }
+    memcpy(text, file, 120); /* a line that is missing */
+    memcpy(text + 120, file + 252, sizeof file - 252);
+    IS(resumed(text, sizeof file - 1 - 132, 0, &used, &fault) == LAB_BAY_UNSOUND && fault == 2);
+    memcpy(text + 252, file + 120, 132); /* two that changed places */
+    IS(resumed(text, 384, 0, &used, &fault) == LAB_BAY_UNSOUND && fault == 2);
+    IS(resumed(file + 120, 132, 0, &used, &fault) == LAB_BAY_UNSOUND && fault == 1);
+    IS(lab_bay_resume(fewer, 2, &terms, (const uint8_t *)file, 384, 0, &bay, &used, &fault) == LAB_BAY_MAY_NOT && fault == 5);
+    IS(bay.live == 0 && lab_bay_free(&bay) == LAB_NOT_OPEN);
+
+    /* cut at any byte it comes back as far as it has whole lines */
+    for (size_t length = 120; length < sizeof file; length++) {
+        size_t whole = length < 252 ? 120 : length < 384 ? 252 : length < 429 ? 384 : 429;
+        uint32_t status = resumed(file, length, 0, &used, &fault);
+        expect(status == LAB_DONE && used == whole, "cut at %zu: status %u, used %zu", length, status, used);
+        uint32_t five = lab_bay_back(&bay, 5, 7, 9, 0, &needs), six = lab_bay_back(&bay, 6, 1, 2, 0, &needs);
+        expect(five == (whole == 252 || whole == 384 ? LAB_DONE : LAB_BAY_OVER), "cut at %zu: 5 comes back: %u", length, five);
+        expect(six == (whole >= 384 ? LAB_DONE : LAB_BAY_OVER), "cut at %zu: 6 comes back: %u", length, six);
+        QUIET();
+        freed();
+    }
+
+    /* whose end was written and who is let go of by other classes has no part in it */
+    IS(lab_bay_resume(fewer, 2, &terms, (const uint8_t *)file, 429, 0, &bay, &used, &fault) == LAB_DONE && used == 429);
+    freed();
+
+    /* their clients are gone since then; the numbers go on, and so do the lines */
+    IS(resumed(file, 428, 50, &used, &fault) == LAB_DONE && used == 384);
+    QUIET();
+    TEXT("", 384);
+    DUE(59, 60);
+    needs = 77;
+    IS(lab_bay_back(&bay, 5, 7, 8, 59, &needs) == LAB_BAY_OVER && needs == 77);
+    IS(lab_bay_back(&bay, 5, 7, 9, 59, &needs) == LAB_DONE && needs == 3);
+    IS(ask_one(6, 0, 4, 59) == LAB_BAY_NUMBER);
+    IS(ask_one(7, 1, 4, 59) == LAB_DONE);
+    QUIET();
+    DUE(60, LAB_NEVER); /* (the limit of 5 is over, and nobody wants what it has) */
+    IS(lab_bay_back(&bay, 6, 1, 2, 60, &needs) == LAB_BAY_OVER);
+    IS(lab_bay_note(&bay, 5, (const uint8_t *)"n", 1, &fault) == LAB_DONE && fault == 425); /* (it was told) */
+    TEXT("6a1f3f796ea831dc note 0000000000000005 n\n6f5f9be4b3a9301d end 0000000000000006 grace\n"
+         "f909829f93bf5d67 hold 0000000000000007 00000001 0000000000000004 00000000000000000000000000000000 000000000000003c ----------------\n", 601);
+    IS(lab_bay_durable(&bay, 601) == LAB_DONE);
+    IS(lab_bay_note(&bay, 7, (const uint8_t *)"n", 1, &fault) == LAB_NOT_YET);
+    freed();
+}
+
+int main(void) {
+    handles();
+    busy();
+    refusals();
+    waits();
+    leaves();
+    gone_and_back();
+    gone_and_told_nothing();
+    nobody_comes_back();
+    limits();
+    deadlines();
+    disks();
+    told_late();
+    stops();
+    journals();
+    comes_back();
+    return summary();
+}
