@@ -9,12 +9,12 @@
      then one of these, and nothing after it
      LAB_LET_GO       it let go, and the journal's line that says so is durable
      LAB_LAPSED       its deadline was over while it waited
-     LAB_NOT_WRITTEN  it came to hold in time, but the journal wasn't durable within the bay's time for the disk
+     LAB_NOT_WRITTEN  it came to hold in time, but the journal wasn't durable within the bay's time for the disk (or nobody called lab_bay_tell)
      LAB_LIMIT        it held for longer than its limit, and somebody waited for what it had
      LAB_TAKEN        somebody took it away
      LAB_REPLACED     another ask has what it held
      LAB_STOPPED      the bay was stopped while it waited
-   (An ask that left is told nothing, nor is one whose client is gone.)
+   (An ask that left is told nothing of it. What comes of one whose client is gone may be told as well: nobody waits for that, so drop it.)
 
    What holds, whatever the calls: no two asks hold one instrument; whoever was told that it holds goes on to hold, until it lets go, leaves,
    is taken away, or its limit or its grace is over; after each call nobody waits whose instruments are free, kept for nobody before it, and
@@ -82,9 +82,9 @@ struct lab_terms {
     uint8_t bay[32];    /* which bay it is: a hash of what people call its instruments and stations, say */
     uint64_t line;      /* for how many sets there is room in line */
     uint64_t grace;     /* how long what is held is kept once its client is gone, or LAB_NEVER */
-    uint64_t disk;      /* how long a hold may wait for the disk once its deadline is over, or LAB_NEVER */
+    uint64_t disk;      /* how long a hold may wait for the disk, and always until its deadline; or LAB_NEVER */
     uint32_t overtakes; /* by how many that came later an ask is passed at most */
-    uint32_t keeps;     /* 1: the bay keeps a journal; 0: it doesn't */
+    uint32_t keeps;     /* 1: the bay keeps a journal; 0: it doesn't, and nothing waits for one */
 };
 
 struct lab_asked {
@@ -132,7 +132,8 @@ uint32_t lab_bay_gone(struct lab_bay *bay, uint64_t number, uint64_t now);
 /* The client of an ask is there again; `*needs` is what it holds. The owner has to be the one that asked, the high 64 bits first. 0; 7; 26. */
 uint32_t lab_bay_back(struct lab_bay *bay, uint64_t number, uint64_t owner_high, uint64_t owner_low, uint64_t now, uint64_t *needs);
 
-/* It is this moment. `*next` is the next moment at which something is due, or LAB_NEVER. 0; 7. */
+/* It is this moment. `*next` is the next moment at which something is due, or LAB_NEVER. 0; 7. (Take what there is to tell before: a hold that
+   nobody took within the bay's time for the disk is over, even if the disk was in time.) */
 uint32_t lab_bay_time(struct lab_bay *bay, uint64_t now, uint64_t *next);
 
 /* Nobody is let in any more, and nobody may ask: whoever waits is told LAB_STOPPED. 0; 7. */
@@ -146,7 +147,7 @@ uint32_t lab_bay_note(struct lab_bay *bay, uint64_t number, const uint8_t *text,
    nothing is handed out; 7. */
 uint32_t lab_bay_journal(struct lab_bay *bay, uint8_t *text, size_t room, size_t *written, uint64_t *position);
 
-/* The journal is durable up to there. 0; 7. */
+/* The journal is durable up to there. (What wasn't handed out isn't, however large the position.) 0; 7. */
 uint32_t lab_bay_durable(struct lab_bay *bay, uint64_t position);
 
 /* A write failed, and the file was cut back to what is durable: the rest is handed out again by `lab_bay_journal`. 0; 7. */

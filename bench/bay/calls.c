@@ -387,8 +387,8 @@ static void gone_and_back(void) {
     freed();
 }
 
-/* Of an ask whose client is gone nothing is told: neither that its grace is over, nor what is taken away. */
-static void gone_and_told_nothing(void) {
+/* What comes of an ask whose client is gone: its grace is over, or somebody takes away what it holds. */
+static void gone_for_long(void) {
     uint64_t needs = 77;
     opened(100, 10, LAB_NEVER, 64, 0);
     IS(ask_as(7, 9, 1, 0, LAB_NEVER, LAB_NEVER, 0, SETS(3)) == LAB_DONE);
@@ -400,6 +400,7 @@ static void gone_and_told_nothing(void) {
     DUE(510, LAB_NEVER);
     IS(lab_bay_back(&bay, 1, 7, 9, 510, &needs) == LAB_BAY_OVER && needs == 77);
     IS(lab_bay_let_go(&bay, 1, 510) == LAB_BAY_OVER);
+    TOLD(1, LAB_GRACE, 0);
     TOLD(2, LAB_HOLDS, 1);
     QUIET();
     freed();
@@ -413,6 +414,7 @@ static void gone_and_told_nothing(void) {
     DUE(LAB_NEVER - 1, LAB_NEVER);
     QUIET();
     IS(lab_bay_take_away(&bay, 1, LAB_NEVER - 1) == LAB_DONE);
+    TOLD(1, LAB_TAKEN, 0);
     TOLD(2, LAB_HOLDS, 3);
     QUIET();
     freed();
@@ -530,21 +532,51 @@ static void disks(void) {
     freed();
 }
 
-/* What was on the disk in time isn't over for want of the disk, also if nobody asked what is told; nor is anything if there is no journal. */
+/* Who doesn't ask what there is to tell may find that a hold is over for want of the disk, though the disk was in time; who asks doesn't. */
 static void told_late(void) {
+    for (int asks = 0; asks < 2; asks++) {
+        opened(100, LAB_NEVER, 5, 64, 1);
+        IS(ask_as(0, 0, 1, 0, 10, LAB_NEVER, 10, SETS(1)) == LAB_DONE);
+        TEXT(BAY_HEAD "151585b327d0ca5c hold 0000000000000001 00000000 0000000000000001 00000000000000000000000000000000 000000000000000a ----------------\n", 252);
+        IS(lab_bay_durable(&bay, 252) == LAB_DONE);
+        if (asks) TOLD(1, LAB_HOLDS, 1);
+        DUE(15, LAB_NEVER);
+        if (!asks) TOLD(1, LAB_NOT_WRITTEN, 0);
+        QUIET();
+        freed();
+        opened(100, LAB_NEVER, 5, 64, 0);
+        IS(ask_as(0, 0, 1, 0, 10, LAB_NEVER, 10, SETS(1)) == LAB_DONE);
+        if (asks) TOLD(1, LAB_HOLDS, 1);
+        DUE(15, LAB_NEVER);
+        if (!asks) TOLD(1, LAB_NOT_WRITTEN, 0);
+        QUIET();
+        freed();
+    }
+}
+
+/* A hold waits for the disk until its deadline, however short the time for the disk is. */
+static void disk_until_the_deadline(void) {
     opened(100, LAB_NEVER, 5, 64, 1);
-    IS(ask_as(0, 0, 1, 0, 10, LAB_NEVER, 10, SETS(1)) == LAB_DONE);
-    TEXT(BAY_HEAD "151585b327d0ca5c hold 0000000000000001 00000000 0000000000000001 00000000000000000000000000000000 000000000000000a ----------------\n", 252);
-    IS(lab_bay_durable(&bay, 252) == LAB_DONE);
-    DUE(15, LAB_NEVER);
-    TOLD(1, LAB_HOLDS, 1);
+    IS(ask_as(0, 0, 1, 0, 30, LAB_NEVER, 10, SETS(1)) == LAB_DONE);
+    DUE(15, 30);
+    DUE(29, 30);
+    QUIET();
+    DUE(30, LAB_NEVER);
+    TOLD(1, LAB_NOT_WRITTEN, 0);
     QUIET();
     freed();
-    opened(100, LAB_NEVER, 5, 64, 0);
-    IS(ask_as(0, 0, 1, 0, 10, LAB_NEVER, 10, SETS(1)) == LAB_DONE);
-    DUE(15, LAB_NEVER);
-    TOLD(1, LAB_HOLDS, 1);
+}
+
+/* What wasn't handed out isn't durable, whatever the position. */
+static void durable_beyond(void) {
+    opened(100, LAB_NEVER, LAB_NEVER, 64, 1);
+    IS(lab_bay_durable(&bay, 1000000) == LAB_DONE);
+    IS(ask_one(1, 0, 1, 0) == LAB_DONE);
     QUIET();
+    TEXT(BAY_HEAD "ee210a1a32b4c7c0 hold 0000000000000001 00000000 0000000000000001 00000000000000000000000000000000 0000000000000000 ----------------\n", 252);
+    QUIET();
+    IS(lab_bay_durable(&bay, UINT64_MAX) == LAB_DONE);
+    TOLD(1, LAB_HOLDS, 1);
     freed();
 }
 
@@ -753,12 +785,14 @@ int main(void) {
     waits();
     leaves();
     gone_and_back();
-    gone_and_told_nothing();
+    gone_for_long();
     nobody_comes_back();
     limits();
     deadlines();
     disks();
     told_late();
+    disk_until_the_deadline();
+    durable_beyond();
     stops();
     journals();
     comes_back();

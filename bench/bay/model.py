@@ -138,7 +138,7 @@ class Bay:
     def back(self, number: int, owner: int, now: int) -> int:
         """What it holds."""
         it = self._find(number)
-        if it is None or it.stage == OVER or it.owner != owner:
+        if it is None or it.stage == OVER or it.owner != owner or not owner:
             raise Refused("over")
         it.gone, needs = None, it.needs
         self._follow(now)

@@ -39,10 +39,12 @@ abbrev pub MarksGone : ℕ → ℕ → BookView → BookView → Type 0
 MarksGone number moment old new =
     ((place : ℕ) × IsPlaceOf old.asks number (Some place) × (new ≡ set_gone old place moment)) ⊎ (IsPlaceOf old.asks number None × (new ≡ old))
 
--- it isn't over, and is this owner's: its client is there again; or it is over, or another's
+-- it isn't over, and is this owner's: its client is there again; or it is over, or another's, or nobody's
 abbrev pub MarksBack : ℕ → ℕ → BookView → Option ℕ → BookView → Type 0
 MarksBack number owner old (Some needs) new =
     (place : ℕ) × (stage : Stage) × StandsAt old.asks number place stage × ((stage ≡ Waits) ⊎ (stage ≡ Holds))
     × ((ask_at old.asks place).owner ≡ owner) × ((ask_at old.asks place).needs ≡ needs) × (new ≡ is_back old place)
+    × (owner ≢ 0)
 MarksBack number owner old None new =
-    (new ≡ old) × (IsGone old.asks number ⊎ ((place : ℕ) × (stage : Stage) × StandsAt old.asks number place stage × ((ask_at old.asks place).owner ≢ owner)))
+    (new ≡ old)
+    × (IsGone old.asks number ⊎ ((place : ℕ) × (stage : Stage) × StandsAt old.asks number place stage × ((ask_at old.asks place).owner ≢ owner)) ⊎ (owner ≡ 0))

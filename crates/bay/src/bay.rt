@@ -295,13 +295,13 @@ impl Bay {
         self.log.send();
     }
 
-    /// What was handed out outlives a crash up to this position.
+    /// What was handed out outlives a crash up to this position. (What wasn't handed out can't be on any disk, whatever the position.)
     pub fn durable(&mut self, position: u64)
-        ensures room { self.new.room ≡ reached self.old.room position }
         ensures log { self.new.log ≡ reaching self.old.log position }
+        ensures room { self.new.room ≡ reached self.old.room self.new.log.durable }
     {
         self.log.reach(position);
-        self.room.reach(position);
+        self.room.reach(self.log.durable());
     }
 
     /// The file couldn't be written: what isn't durable is handed out again.

@@ -81,10 +81,14 @@ pub(crate) fn mark_gone(book: &mut Book, number: u64, moment: u64)
     }
 }
 
-/// The client of the ask with this number is there again, if the ask isn't over and is this owner's. Answers what it holds.
+/// The client of the ask with this number is there again, if the ask isn't over and is this owner's. Answers what it holds. For the owner 0, who is
+/// nobody, there is no coming back.
 pub(crate) fn mark_back(book: &mut Book, number: u64, owner: u128) -> Option<u64>
     ensures { MarksBack number owner book.old result book.new }
 {
+    if owner == 0 {
+        return None;
+    }
     let place = match place_of(book, number) {
         Place::Over => return None,
         Place::Waits(place) => place,

@@ -171,9 +171,9 @@ pub record TakesJournal (a b : BayView) (told told' : Handed) (status : ℕ) : T
       ((mid : BayView) × Writes (Ok tt) a mid × HandsOut mid b told told' status)
       ⊎ ((status ≡ 5) × ((e : AllocError) × Writes (Err e) a b) × (told' ≡ told))
 
--- what was handed out is durable up to there (0)
+-- what was handed out is durable up to there, and nothing that wasn't (0)
 abbrev pub IsDurable : ℕ → BayView → BayView → Unit {0} → Unit {0} → ℕ → Type 0
-IsDurable position a b told told' status = (status ≡ 0) × (b.room ≡ reached a.room position) × (b.log ≡ reaching a.log position)
+IsDurable position a b told told' status = (status ≡ 0) × (b.log ≡ reaching a.log position) × (b.room ≡ reached a.room b.log.durable)
 
 -- what isn't durable is to be handed out again (0)
 abbrev pub HasFailed : BayView → BayView → Unit {0} → Unit {0} → ℕ → Type 0

@@ -117,6 +117,13 @@ impl Log {
         self.base + self.text.len() as u64
     }
 
+    /// How far the file is durable.
+    pub fn durable(&self) -> u64
+        ensures { result ≡ self.now.durable }
+    {
+        self.base
+    }
+
     /// The bytes to be written next.
     pub fn unsent(&self) -> &[u8]
         ensures { result.now ≡ unsent_of self.now }
