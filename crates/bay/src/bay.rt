@@ -51,13 +51,13 @@ pub struct Bay {
 
 impl Model for Bay {
     ghost use Rattle.bay.specs.BayViews.{BayView};
-    ghost use Rattle.bay.specs.Pages.{IsLogged};
+    ghost use Rattle.bay.specs.Ended.{AreInLog};
 
     ghost Value = { BayView };
 
     ghost view = { λ x. record { room = x.room; log = x.log } };
 
-    ghost invariant = { λ x. IsLogged x.room.book x.log };
+    ghost invariant = { λ x. AreInLog x.room.book x.log };
 }
 
 /// The lines of a file.
@@ -125,6 +125,7 @@ impl Bay {
             log.position(),
             now,
         )?;
+        room.look();
         Ok((Bay { room, log }, found.used))
     }
 

@@ -1,6 +1,8 @@
-use Rattle.std.proofs.Common.{ℕ, List, refl, subst}
+use Rattle.std.proofs.Common.{ℕ, List, refl, sym, ap, ◌∙◌, subst}
 use Rattle.bay_log.specs.declared.line.Line.{Line}
+use Rattle.bay_log.specs.Logs.{LogView}
 use Rattle.bay.specs.Restoring.{IsOf, IsBack}
+use Rattle.bay.proofs.Ended.{in_log_back}
 use Rattle.bay.proofs.bay.Bay.resume.Goals as goal
 
 pub returns : goal.returns
@@ -17,3 +19,10 @@ returns c =
       classes_are = c.in_ok-room.ensures.terms.0;
       terms_are = c.in_ok-room.ensures.terms.1;
     }
+
+pub invariant_of-result : goal.invariant_of-result
+invariant_of-result c =
+    let log = c.in-Some.log in let room = c.in_ok-room.room in let a = c.args in let position = c.position.result in
+    in_log_back log a.limit a.most a.now position room c.look.ensures.book c.position.ensures.standing c.position.ensures.position
+    (subst (λ (lines : List Line). IsBack lines a.limit a.most a.now position room)
+    (c.deref-2.ensures.value ∙ sym (ap (λ (l : LogView). l.lines) c.in-Some.ensures.log)) c.in_ok-room.ensures.back)
