@@ -28,3 +28,4 @@ pub mod Given
 pub mod Through
 pub mod Ended
 pub mod Past
+pub mod Refused

@@ -20,3 +20,4 @@ pub mod Giving
 pub mod Safe
 pub mod Keeping
 pub mod Ended
+pub mod Refusals

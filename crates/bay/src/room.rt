@@ -10,6 +10,7 @@ ghost use Rattle.bay.specs.Restoring.{IsBack};
 ghost use Rattle.bay.specs.Standings.{HoldsTold};
 ghost use Rattle.bay.specs.Pages.{pages, Writes};
 ghost use Rattle.bay.specs.Ended.{AreInLog};
+ghost use Rattle.bay.specs.Refusals.{IsWhyNotRestored};
 
 use crate::asking::{take, why_not};
 use crate::classes::Class;
@@ -109,6 +110,7 @@ impl Room {
     ) -> Result<Room, NotBack>
         ensures back { IfOk result (λ room. IsBack lines.now limit most now position room) }
         ensures terms { IfOk result (λ room. (room.classes ≡ classes.items) × (room.terms ≡ terms) × (room.stopped ≡ false)) }
+        ensures why { IfErr result (λ why. IsWhyNotRestored classes.items lines.now why) }
     {
         if 32 < classes.len() {
             return Err(NotBack::Classes);
