@@ -37,7 +37,7 @@ told_kept x k cut behind file lost found is enough read a position h holds told 
     let p = place_of x.room.book.asks a no_ask h in
     let sound : IsSoundAsk x.room.book.durable a = subst (IsSoundAsk x.room.book.durable) p.2 (k.room.book.each p.0 no_ask p.1) in
     let written = told_written x.room.book a position sound holds told mark in
-    let l = k.logged a position h (ap is_holding holds) mark in
+    let l = k.logged.held a position h (ap is_holding holds) mark in
     let lines = x.log.lines in let n = a.number in
     let short : length (log_text l.front) ≤ length file = (let so = l.so_far in omega (arith, so, written, enough)) in
     let first = cut.first lines file lost found k.standing.lines is read in

@@ -25,3 +25,7 @@ pub mod Stays
 pub mod SafeLines
 pub mod ToldKept
 pub mod Given
+pub mod Through
+pub mod Ended
+pub mod Past
+pub mod Refused

@@ -27,7 +27,7 @@ alive_push_from : (held : ℕ → Option Entry) (lines : List Line) (line : Line
 alive_push_from held [] line = refl
 alive_push_from held (l ∷ lines) line = alive_push_from (after held l) lines line
 
-alive_push : (lines : List Line) (line : Line) (n : ℕ) → alive (lines ++ line ∷ []) n ≡ after (alive lines) line n
+pub alive_push : (lines : List Line) (line : Line) (n : ℕ) → alive (lines ++ line ∷ []) n ≡ after (alive lines) line n
 alive_push lines line n = ap (λ (f : ℕ → Option Entry). f n) (alive_push_from (λ k. None) lines line)
 
 pub base_push : (lines : List Line) (line : Line) → is_none lines ≡ false → base_of (lines ++ line ∷ []) ≡ base_of lines
@@ -60,7 +60,7 @@ if_else : {X : Type 0} (b : Bool) (x y : X) → b ≡ false → (if b then x els
 if_else true x y h = absurd (false≢true (sym h))
 if_else false x y h = refl
 
-if_then : {X : Type 0} (b : Bool) (x y : X) → b ≡ true → (if b then x else y) ≡ x
+pub if_then : {X : Type 0} (b : Bool) (x y : X) → b ≡ true → (if b then x else y) ≡ x
 if_then true x y h = refl
 if_then false x y h = absurd (false≢true h)
 
@@ -72,7 +72,7 @@ hold_says n m e ne = record { begins_not = ne_eqb n m ne; leaves = λ held. if_e
 
 -- ---- which lines are owed
 
-due_is : (m : Mark) (line l : Line) → if_due m line ≡ Some l → (m ≡ Due) × (line ≡ l)
+pub due_is : (m : Mark) (line l : Line) → if_due m line ≡ Some l → (m ≡ Due) × (line ≡ l)
 due_is NoLine line l h = let no : ⊥ = cc in absurd no
 due_is Due line l h = (refl, cc)
 due_is (At position) line l h = let no : ⊥ = cc in absurd no

@@ -41,7 +41,7 @@ more_of : (m n c : ℕ) (same : Bool) → m ≡ n + (if same then 1 else 0) → 
 more_of m n c true e le room = let less = room refl in omega (arith, e, less)
 more_of m n c false e le room = omega (arith, e, le)
 
-test_is : (a b : ℕ) → nat_eq a b ≡ true → a ≡ b
+pub test_is : (a b : ℕ) → nat_eq a b ≡ true → a ≡ b
 test_is a b h = elim (cases_eq a b) [ inl is ↦ is | inr ne ↦ absurd (false≢true (sym (ne_eqb a b ne) ∙ h)) ]
 
 holds_isnt_waits : (s : Stage) → s ≡ Holds → s ≡ Waits → ⊥
@@ -110,7 +110,7 @@ if_else false x y h = refl
 none_some : (o : Option Entry) (e : Entry) → o ≡ None → o ≡ Some e → ⊥
 none_some o e a b = cc
 
-holder_entry : (holders : List Holder) (place : ℕ) → AreApart holders → place < length holders
+pub holder_entry : (holders : List Holder) (place : ℕ) → AreApart holders → place < length holders
     → entry_in holders (holder_at holders place).ask ≡ Some (holder_at holders place).entry
 holder_entry [] place apart inside = absurd (omega (arith, inside))
 holder_entry (x ∷ holders) zero apart inside = if_then (nat_eq x.ask x.ask) (Some x.entry) (entry_in holders x.ask) (eq-eqb x.ask x.ask refl)

@@ -144,13 +144,13 @@ not_first p a asks n ne f = elim f.has [
   | inr there ↦ record { ask = f.ask; has = there; number = f.number; passes = f.passes }
 ]
 
-first_below : (a : Ask) (asks : List Ask) (b : Ask) → AllPairs (λ (x y : Ask). x.number < y.number) (a ∷ asks) → Has asks b → a.number < b.number
+pub first_below : (a : Ask) (asks : List Ask) (b : Ask) → AllPairs (λ (x y : Ask). x.number < y.number) (a ∷ asks) → Has asks b → a.number < b.number
 first_below a asks b rises h =
     let p = place_of asks b no_ask h in
     let r = rises zero (suc p.0) no_ask (omega arith) (omega (arith, p.1)) in
     subst (λ (c : Ask). a.number < c.number) p.2 r
 
-rises_tail : (a : Ask) (asks : List Ask) → AllPairs (λ (x y : Ask). x.number < y.number) (a ∷ asks) → AllPairs (λ (x y : Ask). x.number < y.number) asks
+pub rises_tail : (a : Ask) (asks : List Ask) → AllPairs (λ (x y : Ask). x.number < y.number) (a ∷ asks) → AllPairs (λ (x y : Ask). x.number < y.number) asks
 rises_tail a asks rises = λ i k d less inside. rises (suc i) (suc k) d (omega (arith, less)) (omega (arith, inside))
 
 up_tail : (n : ℕ) (numbers : List ℕ) → AllPairs (λ (x y : ℕ). x < y) (n ∷ numbers) → AllPairs (λ (x y : ℕ). x < y) numbers

@@ -1,14 +1,16 @@
 -- For readers: what the calls of a bay do with its log, and what is true of every bay.
-use Rattle.std.specs.Prelude.{◌≡◌, ℕ, ◌+◌, ◌≤◌, ◌<◌, List, ◌++◌, length, Some, Result}
+use Rattle.std.specs.Prelude.{◌≡◌, ◌≢◌, ◌⊎◌, ℕ, ◌+◌, ◌≤◌, ◌<◌, List, ◌++◌, length, Option, Some, None, Result}
 use Rattle.std.specs.declared.alloc.AllocError.{AllocError}
 use Rattle.bay_book.specs.declared.ask.Ask.{Ask}
-use Rattle.bay_book.specs.declared.ask.Heard.TheVariants.{Holds as HeardHolds}
+use Rattle.bay_book.specs.declared.ask.End.TheVariants.{LetGo}
+use Rattle.bay_book.specs.declared.ask.Heard.TheVariants.{Holds as HeardHolds, End as HeardEnd}
 use Rattle.bay_book.specs.declared.ask.Mark.TheVariants.{At}
-use Rattle.bay_book.specs.declared.ask.Stage.TheVariants.{Holds}
+use Rattle.bay_book.specs.declared.ask.Stage.TheVariants.{Holds, Over}
+use Rattle.bay_log.specs.declared.line.Line.TheVariants.{Note}
 use Rattle.bay_log.specs.declared.reading.Found.{Found}
 use Rattle.bay_log.specs.Texts.{IsText}
 use Rattle.bay_log.specs.Lines.{base_of, log_text}
-use Rattle.bay_log.specs.Logs.{LogView, IsStanding, resumed, end_of}
+use Rattle.bay_log.specs.Logs.{LogView, IsStanding, resumed, end_of, adding, sending, reaching, failing}
 use Rattle.bay_log.specs.Reads.{IsRead}
 use Rattle.bay_log.specs.Alive.{alive}
 use Rattle.bay.specs.declared.bay.NotOpened.{NotOpened}
@@ -17,11 +19,14 @@ use Rattle.bay.specs.declared.bay.NotNoted.{NotNoted}
 use Rattle.bay.specs.declared.bay.NotNoted.TheVariants.{NotHeld, NoText, NoMemory}
 use Rattle.bay.specs.Standings.{HoldsTold}
 use Rattle.bay.specs.declared.classes.Class.{Class}
+use Rattle.bay.specs.declared.telling.Told.{Told}
 use Rattle.bay.specs.declared.terms.Terms.{Terms}
 use Rattle.bay.specs.Members.{Has}
-use Rattle.bay.specs.Rooms.{with_book, IsKept as IsKeptRoom}
+use Rattle.bay.specs.Ended.{AreInLog, IsPast}
+use Rattle.bay.specs.Rooms.{with_book, Stops, Tells, reached, IsKept as IsKeptRoom}
+use Rattle.bay.specs.LineLaws.{IsCall}
 use Rattle.bay.specs.Restoring.{IsOf, IsBack, IsThere}
-use Rattle.bay.specs.Pages.{entry_of, pages, Writes as WritesOwed, IsLogged}
+use Rattle.bay.specs.Pages.{entry_of, pages, Writes as WritesOwed}
 pub use Rattle.bay.specs.BayViews.{BayView}
 
 abbrev pub with_log : BayView → LogView → BayView
@@ -31,7 +36,7 @@ with_log x log = record { room = x.room; log = log }
 pub record IsKept (x : BayView) : Type 0 where
   pub room : IsKeptRoom x.room
   pub standing : IsStanding x.log
-  pub logged : IsLogged x.room.book x.log
+  pub logged : AreInLog x.room.book x.log
 
 -- all that is owed is added to the log
 pub record Writes (result : Result (Unit {0}) AllocError) (old new : BayView) : Type 0 where
@@ -80,3 +85,37 @@ ToldComesBack x =
     → x.room.book.durable ≤ base_of x.log.lines + length file → Resumes classes terms limit most head file now y used
     → (a : Ask) (position : ℕ) → Has x.room.book.asks a → a.stage ≡ Holds → a.heard ≡ HeardHolds → a.hold_line ≡ At position
     → IsThere y.room.book a.number (entry_of a)
+
+-- ---- who was told that it let go stays over
+
+-- An ask that let go, and was told so, is past. So is each whose end stands in the log, where that is durable by the book. Whatever is left of the file after
+-- a crash, if it has all that is durable by the book: by the lines that are read of it none that is past holds; and in the bay that comes back from it nobody
+-- has its number
+pub record LetGoIsKept (x : BayView) : Type 0 where
+  pub told : (a : Ask) → Has x.room.book.asks a → a.stage ≡ Over LetGo → a.heard ≡ HeardEnd → IsPast x.room.book x.log.lines a.number
+  pub durable :
+      (a : Ask) (position : ℕ) → Has x.room.book.asks a → a.end_line ≡ At position → position ≤ x.room.book.durable
+      → IsPast x.room.book x.log.lines a.number
+  pub read :
+      (number : ℕ) → IsPast x.room.book x.log.lines number → (file lost : List ℕ) (found : Found) → log_text x.log.lines ≡ file ++ lost
+      → x.room.book.durable ≤ base_of x.log.lines + length file → IsRead file found → alive found.lines.items number ≡ None
+  pub back :
+      (number : ℕ) → IsPast x.room.book x.log.lines number → (classes : List Class) (terms : Terms) (limit most : ℕ) (head file lost : List ℕ) (now used : ℕ)
+      (y : BayView) → log_text x.log.lines ≡ file ++ lost → x.room.book.durable ≤ base_of x.log.lines + length file
+      → Resumes classes terms limit most head file now y used → (b : Ask) → Has y.room.book.asks b → b.number ≢ number
+
+-- any call of a bay
+abbrev pub IsBayCall : BayView → BayView → Type 0
+IsBayCall old new =
+    (((now : ℕ) × (IsCall now old.room new.room ⊎ Stops now old.room new.room)) × (new.log ≡ old.log))
+    ⊎ (((done : ℕ) × (told : Option Told) × Tells done old.room told new.room) × (new.log ≡ old.log))
+    ⊎ ((result : Result (Unit {0}) AllocError) × Writes result old new)
+    ⊎ ((number : ℕ) × (text : List ℕ) × (new ≡ with_log old (adding old.log (Note number text))))
+    ⊎ (new ≡ with_log old (sending old.log))
+    ⊎ ((position : ℕ) × (new.room ≡ reached old.room position) × (new.log ≡ reaching old.log position))
+    ⊎ (new ≡ with_log old (failing old.log))
+
+-- Whoever is past stays past, also when it isn't in the book any more
+abbrev pub PastStaysPast : Type 0
+PastStaysPast =
+    (old new : BayView) (number : ℕ) → IsKept old → IsBayCall old new → IsPast old.room.book old.log.lines number → IsPast new.room.book new.log.lines number

@@ -19,3 +19,5 @@ pub mod Written
 pub mod Giving
 pub mod Safe
 pub mod Keeping
+pub mod Ended
+pub mod Refusals

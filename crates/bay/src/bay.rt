@@ -9,6 +9,7 @@ ghost use Rattle.bay.specs.Rooms.{IsOpened, Asks, IsWhyNot, Ends, IsWhyNotHeld, 
 ghost use Rattle.bay.specs.Following.{IsNextMoment};
 ghost use Rattle.bay.specs.Standings.{HoldsTold};
 ghost use Rattle.bay.specs.Views.{core_of};
+ghost use Rattle.bay.specs.Refusals.{IsWhyNoLines, IsWhyNotBack};
 ghost use Rattle.bay.specs.Bays.{Resumes, with_log, IsKept, Writes, IsWhyNotOpened, IsWhyNotNoted};
 
 use crate::classes::Class;
@@ -51,18 +52,19 @@ pub struct Bay {
 
 impl Model for Bay {
     ghost use Rattle.bay.specs.BayViews.{BayView};
-    ghost use Rattle.bay.specs.Pages.{IsLogged};
+    ghost use Rattle.bay.specs.Ended.{AreInLog};
 
     ghost Value = { BayView };
 
     ghost view = { λ x. record { room = x.room; log = x.log } };
 
-    ghost invariant = { λ x. IsLogged x.room.book x.log };
+    ghost invariant = { λ x. AreInLog x.room.book x.log };
 }
 
 /// The lines of a file.
 fn read_lines(alloc: Global, bytes: &[u8]) -> Result<Found, NotBack>
-    ensures { IfOk result (λ found. IsRead bytes.now found) }
+    ensures lines { IfOk result (λ found. IsRead bytes.now found) }
+    ensures why { IfErr result (λ why. IsWhyNoLines bytes.now why) }
 {
     match read(alloc, bytes) {
         Ok(found) => Ok(found),
@@ -106,7 +108,8 @@ impl Bay {
         bytes: &[u8],
         now: u64,
     ) -> Result<(Bay, usize), NotBack>
-        ensures { IfOk result (λ r. Resumes classes.items terms limit most head bytes.now now r.0 r.1) }
+        ensures back { IfOk result (λ r. Resumes classes.items terms limit most head bytes.now now r.0 r.1) }
+        ensures why { IfErr result (λ why. IsWhyNotBack classes.items head bytes.now why) }
     {
         let found = read_lines(alloc, bytes)?;
         if !is_of(&found.lines, head) {
@@ -125,6 +128,7 @@ impl Bay {
             log.position(),
             now,
         )?;
+        room.look();
         Ok((Bay { room, log }, found.used))
     }
 

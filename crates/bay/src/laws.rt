@@ -1,5 +1,5 @@
 //! What holds of every bay. Each law is the contract of a function that does nothing.
-ghost use Rattle.bay.specs.Bays.{ToldIsKept, ToldComesBack};
+ghost use Rattle.bay.specs.Bays.{ToldIsKept, ToldComesBack, LetGoIsKept, PastStaysPast};
 ghost use Rattle.bay.specs.LineLaws.{CallsAreWaited, NobodyWaitsForNothing, NumbersRise};
 ghost use Rattle.bay.specs.HeardLaws.{TellsOnce};
 ghost use Rattle.bay.specs.Laws.{IsWellHeld, WhoHoldsHoldsOn, WhoWaitsWaitsOn, AnswersInTime};
@@ -45,6 +45,19 @@ pub fn told_comes_back(bay: &Bay)
 {
     told_is_kept(bay);
 }
+
+/// Whoever let go and was told so stays over: after a crash it doesn't hold by what is read of the log, and in the bay that comes back nobody has its number.
+pub fn let_go_is_kept(bay: &Bay)
+    ensures { LetGoIsKept bay.now }
+{
+    bay.look();
+    cut_lines_are_read();
+}
+
+/// So it is from then on, whatever calls there are, also when it isn't in the book any more.
+pub fn past_stays_past()
+    ensures { PastStaysPast }
+{}
 
 /// Each call is a time in which whoever is in line behind it waits. So the line's laws say by how many it is passed.
 pub fn calls_are_waited()

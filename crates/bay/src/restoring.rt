@@ -1,9 +1,10 @@
 //! Those that held by the log hold again.
-ghost use Rattle.std.specs.Prelude.{◌≡◌, ◌<◌, ◌≤◌, ℕ, ◌+◌, false, [], length, IsTrue, OnOk, IfOk, All};
+ghost use Rattle.std.specs.Prelude.{◌≡◌, ◌<◌, ◌≤◌, ◌↔◌, ℕ, ◌+◌, false, [], length, IsTrue, OnOk, IfOk, IfErr, All};
 ghost use Rattle.bay_log.specs.Alive.{alive};
 ghost use Rattle.bay_log.specs.Holders.{AreHolders};
 ghost use Rattle.bay.specs.Cores.{IsFreeClass};
 ghost use Rattle.bay.specs.Restoring.{holder_at, IsUnused, MayHold, IsNextTo, IsNextHolder, AreAlone, Restores, AreRestored, AreDone, after_line, IsOf};
+ghost use Rattle.bay.specs.Refusals.{IsUsed, MayNotHold, IsWhyNotOne, IsWhyNotRestored};
 
 use crate::classes::{Class, is_within};
 use crate::free::is_free;
@@ -16,21 +17,23 @@ use std::alloc::Global;
 pub enum NotBack {
     /// There is no memory.
     NoMemory,
-    /// The file has no line, or no more room for positions.
+    /// There is no position behind the lines of the file.
     NoPlace,
     /// This line, counted from 1, isn't one: changed, not in its place, or none of a log.
     Line(usize),
-    /// It is the log of another bay.
+    /// It is the log of another bay, or has no line.
     Another,
     /// There are more than 32 classes.
     Classes,
-    /// This ask held by the log, and may not: another holds one of its instruments, or its class may not use one, or has no place left.
+    /// This ask held by the log, and may not: another holds one of its instruments, or its class may not use one, or has no place left, or isn't there. Or it has
+    /// the last of all numbers.
     MayNot(u64),
 }
 
 /// Whether nobody holds one of these instruments.
 fn is_unused(book: &Book, needs: u64) -> bool
-    ensures { IsTrue result → IsUnused book.now.asks needs }
+    ensures unused { IsTrue result → IsUnused book.now.asks needs }
+    ensures used { result ≡ false → IsUsed book.now.asks needs }
 {
     needs & book.in_use() == 0
 }
@@ -38,7 +41,8 @@ fn is_unused(book: &Book, needs: u64) -> bool
 /// Whether this one may hold, too.
 fn may_hold(classes: &[Class], book: &Book, holder: Holder) -> bool
     requires { length classes.now ≤ 32 }
-    ensures { IsTrue result → MayHold classes.now book.now.asks holder }
+    ensures may { IsTrue result → MayHold classes.now book.now.asks holder }
+    ensures may_not { result ≡ false → MayNotHold classes.now book.now.asks holder }
 {
     let class = holder.entry.class as usize;
     if classes.len() <= class {
@@ -97,6 +101,7 @@ fn restore_one(
     requires alone { AreAlone classes.now book.old }
     ensures restores { OnOk result (Restores holder moment book.old book.new) }
     ensures alone { OnOk result (AreAlone classes.now book.new) }
+    ensures why { IfErr result (λ why. IsWhyNotOne classes.now book.old.asks holder why) }
 {
     if holder.ask == u64::MAX || !may_hold(classes, book, holder) {
         return Err(NotBack::MayNot(holder.ask));
@@ -132,9 +137,11 @@ pub(crate) fn restore_all(
     ensures alone { OnOk result (AreAlone classes.now book.new) }
     ensures each { OnOk result (AreRestored lines.now moment book.old.durable book.new) }
     ensures all { OnOk result (AreDone lines.now book.new) }
+    ensures why { IfErr result (λ why. IsWhyNotRestored classes.now lines.now why) }
 {
     let _ = lines.len();
     while let Some(place) = next_holder(holders, book.next()) {
+        book.is_sound();
         restore_one(classes, book, holders[place], moment)?;
     }
     Ok(())
@@ -166,7 +173,7 @@ pub(crate) fn after_lines(lines: &[Line]) -> u64
 
 /// Whether these are the lines of this bay.
 pub(crate) fn is_of(lines: &[Line], head: [u8; 32]) -> bool
-    ensures { IsTrue result → IsOf head lines.now }
+    ensures { IsTrue result ↔ IsOf head lines.now }
 {
     match lines.first() {
         Some(Line::Head { bay, .. }) => *bay == head,
@@ -187,6 +194,7 @@ pub(crate) fn restored_book(
     ensures each { IfOk result (λ book. AreRestored lines.now now position book) }
     ensures all { IfOk result (λ book. AreDone lines.now book) }
     ensures next { IfOk result (λ book. All (λ line. after_line line ≤ book.next) lines.now) }
+    ensures why { IfErr result (λ why. IsWhyNotRestored classes.now lines.now why) }
 {
     let Ok(found) = holders(alloc, lines) else {
         return Err(NotBack::NoMemory);

@@ -8,7 +8,9 @@ ghost use Rattle.bay.specs.Following.{IsNextMoment};
 ghost use Rattle.bay.specs.Views.{core_of};
 ghost use Rattle.bay.specs.Restoring.{IsBack};
 ghost use Rattle.bay.specs.Standings.{HoldsTold};
-ghost use Rattle.bay.specs.Pages.{pages, Writes, IsLogged};
+ghost use Rattle.bay.specs.Pages.{pages, Writes};
+ghost use Rattle.bay.specs.Ended.{AreInLog};
+ghost use Rattle.bay.specs.Refusals.{IsWhyNotRestored};
 
 use crate::asking::{take, why_not};
 use crate::classes::Class;
@@ -108,6 +110,7 @@ impl Room {
     ) -> Result<Room, NotBack>
         ensures back { IfOk result (λ room. IsBack lines.now limit most now position room) }
         ensures terms { IfOk result (λ room. (room.classes ≡ classes.items) × (room.terms ≡ terms) × (room.stopped ≡ false)) }
+        ensures why { IfErr result (λ why. IsWhyNotRestored classes.items lines.now why) }
     {
         if 32 < classes.len() {
             return Err(NotBack::Classes);
@@ -355,10 +358,10 @@ impl Room {
 
     /// All that is owed is written to the log. If there is no memory, what was written is, and the rest is owed still.
     pub(crate) fn write(&mut self, log: &mut Log) -> Result<(), AllocError>
-        requires { IsLogged self.old.book log.old }
+        requires { AreInLog self.old.book log.old }
         ensures writes { Writes result (pages self.old.book log.old) (pages self.new.book log.new) }
         ensures same { self.new ≡ with_book self.old self.new.book }
-        ensures logged { IsLogged self.new.book log.new }
+        ensures logged { AreInLog self.new.book log.new }
     {
         write_owed(&mut self.book, log)
     }

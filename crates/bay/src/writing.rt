@@ -2,7 +2,8 @@
 ghost use Rattle.std.specs.Prelude.{◌≡◌, ◌<◌, ◌≤◌, ℕ, None, false, length, OnOk, OnErr, IfSome};
 ghost use Rattle.bay_log.specs.Lines.{is_head};
 ghost use Rattle.bay_book.specs.Asks.{ask_at};
-ghost use Rattle.bay.specs.Pages.{entry_of, how_of, owed_end, owed_hold, pages, WritesThis, WritesOne, WritesAll, Writes, IsLogged};
+ghost use Rattle.bay.specs.Pages.{entry_of, how_of, owed_end, owed_hold, pages, WritesThis, WritesOne, WritesAll, Writes};
+ghost use Rattle.bay.specs.Ended.{AreInLog};
 
 use bay_book::{Ask, Book, End, Mark, Stage};
 use bay_log::{Entry, How, Line, Log};
@@ -93,10 +94,10 @@ fn write_line(
 /// The ask at this place writes that it is over, if it owes that.
 fn write_end(book: &mut Book, log: &mut Log, place: usize) -> Result<(), AllocError>
     requires inside { place < length book.old.asks }
-    requires logged { IsLogged book.old log.old }
+    requires logged { AreInLog book.old log.old }
     ensures writes { OnOk result (WritesOne owed_end place (pages book.old log.old) (pages book.new log.new)) }
     ensures refused { OnErr result (pages book.new log.new ≡ pages book.old log.old) }
-    ensures logged { IsLogged book.new log.new }
+    ensures logged { AreInLog book.new log.new }
 {
     book.is_sound();
     let _ = log.position();
@@ -106,10 +107,10 @@ fn write_end(book: &mut Book, log: &mut Log, place: usize) -> Result<(), AllocEr
 /// The ask at this place writes that it holds, if it owes that.
 fn write_hold(book: &mut Book, log: &mut Log, place: usize) -> Result<(), AllocError>
     requires inside { place < length book.old.asks }
-    requires logged { IsLogged book.old log.old }
+    requires logged { AreInLog book.old log.old }
     ensures writes { OnOk result (WritesOne owed_hold place (pages book.old log.old) (pages book.new log.new)) }
     ensures refused { OnErr result (pages book.new log.new ≡ pages book.old log.old) }
-    ensures logged { IsLogged book.new log.new }
+    ensures logged { AreInLog book.new log.new }
 {
     book.is_sound();
     let _ = log.position();
@@ -118,9 +119,9 @@ fn write_hold(book: &mut Book, log: &mut Log, place: usize) -> Result<(), AllocE
 
 /// All write that they are over, if they owe that.
 fn write_ends(book: &mut Book, log: &mut Log) -> Result<(), AllocError>
-    requires { IsLogged book.old log.old }
+    requires { AreInLog book.old log.old }
     ensures writes { WritesAll owed_end result (pages book.old log.old) (pages book.new log.new) }
-    ensures logged { IsLogged book.new log.new }
+    ensures logged { AreInLog book.new log.new }
 {
     for place in 0..book.len() {
         write_end(book, log, place)?;
@@ -130,9 +131,9 @@ fn write_ends(book: &mut Book, log: &mut Log) -> Result<(), AllocError>
 
 /// All write that they hold, if they owe that.
 fn write_holds(book: &mut Book, log: &mut Log) -> Result<(), AllocError>
-    requires { IsLogged book.old log.old }
+    requires { AreInLog book.old log.old }
     ensures writes { WritesAll owed_hold result (pages book.old log.old) (pages book.new log.new) }
-    ensures logged { IsLogged book.new log.new }
+    ensures logged { AreInLog book.new log.new }
 {
     for place in 0..book.len() {
         write_hold(book, log, place)?;
@@ -142,9 +143,9 @@ fn write_holds(book: &mut Book, log: &mut Log) -> Result<(), AllocError>
 
 /// All that is owed is written: first who is over, then who holds. If there is no memory, what was written is, and the rest is owed still.
 pub(crate) fn write_owed(book: &mut Book, log: &mut Log) -> Result<(), AllocError>
-    requires { IsLogged book.old log.old }
+    requires { AreInLog book.old log.old }
     ensures writes { Writes result (pages book.old log.old) (pages book.new log.new) }
-    ensures logged { IsLogged book.new log.new }
+    ensures logged { AreInLog book.new log.new }
 {
     write_ends(book, log)?;
     write_holds(book, log)

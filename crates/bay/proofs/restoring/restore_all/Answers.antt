@@ -1,6 +1,8 @@
 use Rattle.std.proofs.Common.{length, Some, None, subst}
 use Rattle.bay.specs.Restoring.{IsNextTo}
+use Rattle.bay.specs.Refusals.{IsWhyNotRestored}
 use Rattle.bay.proofs.Restored.{so_far_more, all_done}
+use Rattle.bay.proofs.Refused.{why_lines, handed_on}
 use Rattle.bay.proofs.restoring.restore_all.Goals as goal
 
 pub loop-place-preserved : goal.loop-place-preserved
@@ -16,3 +18,11 @@ returns-clause-all c =
     let l = c.loop-place in let holders = c.args.holders.now in
     all_done c.args.lines.now holders l.book c.requires.holders
     (subst (λ n. IsNextTo n holders (length holders) None) c.next.ensures c.in_default.ensures) l.invariant.done
+
+pub returns-in_err-restore_one-clause-why : goal.returns-in_err-restore_one-clause-why
+returns-in_err-restore_one-clause-why c =
+    let l = c.loop-place in let holders = c.args.holders.now in let place = c.in-Some.place in
+    let why = why_lines c.args.classes.now c.args.lines.now c.args.moment c.args.book.now.durable holders l.book place c.in_err-restore_one.field-0.0 c.requires.holders
+    c.is_sound.ensures l.invariant.each (subst (λ n. IsNextTo n holders (length holders) (Some place)) c.next.ensures c.in-Some.ensures)
+    c.in_err-restore_one.ensures.why in
+    handed_on (IsWhyNotRestored c.args.classes.now c.args.lines.now) c.from_residual.result c.in_err-restore_one.field-0.0 c.from_residual.ensures.1 why

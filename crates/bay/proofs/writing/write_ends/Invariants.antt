@@ -1,10 +1,11 @@
 use Rattle.std.proofs.Common.{◌≡◌, length}
-use Rattle.bay.specs.Pages.{owed_end, pages, WritesTo, IsLogged}
+use Rattle.bay.specs.Pages.{owed_end, pages, WritesTo}
+use Rattle.bay.specs.Ended.{AreInLog}
 use Rattle.bay.proofs.writing.write_ends.Given as goal
 
 abbrev pub invariant-loop-place : goal.invariant-loop-place
 invariant-loop-place l = record {
   writes : WritesTo owed_end l.place (pages l.fn.book l.fn.log) (pages l.book l.log);
-  logged : IsLogged l.book l.log;
+  logged : AreInLog l.book l.log;
   many : length l.book.asks ≡ length l.fn.book.asks;
 }
