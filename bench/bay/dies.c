@@ -4,7 +4,8 @@
 
      DIES="CALL N HOW; .."   at the Nth call of this kind (write, sync, cut): it kills itself `before`; in the `middle` (of a write, when half
                              of the bytes are in the file; of a sync, as a power cut that leaves half of what wasn't synced); or `behind`. Or
-                             the call `fails`: of a write half of the bytes go in, and then the disk is full for two more calls
+                             the call `fails`: of a write half of the bytes go in, and then the disk is full for two more calls. Or a sync
+                             `hangs` for ever
      SYNCED=FILE             what a power cut would leave: how many bytes of the file were synced, and whether its folder was; 8 bytes each
      SLOW=N                  a sync takes up to so many microseconds */
 #define _DEFAULT_SOURCE
@@ -79,6 +80,7 @@ int __wrap_fsync(int file) {
     if (fstat(file, &found)) abort();
     dies_if(strcmp(how, "before") == 0);
     if (slow) usleep((useconds_t)(rand() % (atoi(slow) + 1)));
+    while (strcmp(how, "hangs") == 0) pause();
     if (strcmp(how, "fails") == 0) return refuses(EIO);
     if (strcmp(how, "middle") == 0) {
         off_t stays = (off_t)synced(0);

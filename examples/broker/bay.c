@@ -15,7 +15,6 @@
 #include "labrun_bay.h"
 #include <inttypes.h>
 #include <pthread.h>
-#include <time.h>
 
 #define MOST 32          /* stations */
 #define NOTHING_YET 99u  /* beside what an ask is told */
@@ -46,19 +45,6 @@ static void must(uint32_t status, const char *what) {
     char why[40];
     snprintf(why, sizeof why, "status %" PRIu32, status);
     if (status != LAB_DONE) fails(what, why);
-}
-
-/* Milliseconds by the clock on the wall: the journal has moments, and whoever reads it after a restart counts on from there. (If somebody
-   sets the clock back the bay's time stands, as the bay takes no moment that is before the last one.) */
-static uint64_t now(void) {
-    struct timespec it;
-    clock_gettime(CLOCK_REALTIME, &it);
-    return (uint64_t)it.tv_sec * 1000 + (uint64_t)it.tv_nsec / 1000000;
-}
-
-static void pause_for(uint64_t milliseconds) {
-    struct timespec it = {(time_t)(milliseconds / 1000), (long)(milliseconds % 1000) * 1000000};
-    nanosleep(&it, NULL);
 }
 
 /* After each call, with the mutex still held: what follows from it is told, and whoever has to do something is woken. */
@@ -277,7 +263,11 @@ static void *runs(void *given) {
     while (me->noted < sessions) {
         uint64_t one = 1u << rand_r(&me->seed) % INSTRUMENTS, two = 1u << rand_r(&me->seed) % INSTRUMENTS;
         uint64_t sets[2] = {one | two, (two << 1 | two >> (INSTRUMENTS - 1)) & ((1u << INSTRUMENTS) - 1)};
-        for (uint64_t patience = 1 + longest; !hold(me->asker, sets, 2, now() + patience); patience *= 2) me->lapsed++;
+        for (uint64_t patience = 1 + longest; !hold(me->asker, sets, 2, now() + patience); patience *= 2) {
+            me->lapsed++;
+            printf("ask %" PRIu64 ": station %" PRIu32 " waited in vain (%s)\n", me->asker->number, me->number,
+                   me->asker->what == LAB_LAPSED ? "lapsed" : "not written in time");
+        }
         work(me);
     }
     return NULL;
@@ -303,7 +293,8 @@ int main(int count, char **words) {
     asker_count = count > 2 ? (uint32_t)atoi(words[2]) : 4;
     sessions = count > 3 ? (uint32_t)atoi(words[3]) : sessions;
     longest = count > 4 ? (uint32_t)atoi(words[4]) : longest;
-    if (count < 2 || count > 5 || asker_count < 1 || asker_count > MOST || longest > 1000) return fputs("bay FOLDER [STATIONS [SESSIONS [WORK]]]\n", stderr), 2;
+    if (count < 2 || count > 5 || asker_count < 1 || asker_count > MOST || longest > 1000)
+        return fputs("bay FOLDER [STATIONS [SESSIONS [WORK]]]\n", stderr), 2;
     snprintf(folder, sizeof folder, "%s", words[1]);
     setvbuf(stdout, NULL, _IOLBF, 0);
     uint64_t start = now();
@@ -317,7 +308,9 @@ int main(int count, char **words) {
     for (uint32_t at = 0; at < asker_count; at++) {
         askers[at].owner = at + 1; /* (if others can speak for an ask: 128 bits that nobody guesses) */
         pthread_cond_init(&askers[at].is_told, NULL);
-        stations[at] = (struct station){&askers[at], at + 1, stations[at].noted, stations[at].noted_by, 0, 0, at + (unsigned)start, stations[at].thread};
+        stations[at].asker = &askers[at];
+        stations[at].number = at + 1;
+        stations[at].seed = at + (unsigned)start;
         if (!is_back(&askers[at])) continue;
         back++;
         names_of(text, sizeof text, askers[at].needs);
@@ -343,6 +336,6 @@ int main(int count, char **words) {
     pthread_join(times, NULL);
     lab_bay_free(&bay);
     close(file.file);
-    printf("%" PRIu32 " stations did %" PRIu32 " sessions in %" PRIu64 " ms; %" PRIu32 " asks lapsed\n", asker_count, done, now() - start, lapsed);
+    printf("%" PRIu32 " stations did %" PRIu32 " sessions in %" PRIu64 " ms; %" PRIu32 " asks in vain\n", asker_count, done, now() - start, lapsed);
     return 0;
 }

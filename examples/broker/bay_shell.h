@@ -1,4 +1,5 @@
-/* The file of a bay's journal, for a shell in C (bay.c): what it reads, adds and cuts off. All but `file_open` answer whether it was done. */
+/* What a shell of the bay in C (bay.c) has of the world: a clock, and the file of the journal. The calls on the file but `file_open` answer
+   whether it was done. */
 #include <errno.h>
 #include <fcntl.h>
 #include <stdint.h>
@@ -7,6 +8,7 @@
 #include <string.h>
 #include <sys/file.h>
 #include <sys/stat.h>
+#include <time.h>
 #include <unistd.h>
 
 struct shell_file {
@@ -18,6 +20,19 @@ struct shell_file {
 static void fails(const char *what, const char *why) {
     fprintf(stderr, "%s: %s\n", what, why);
     exit(74);
+}
+
+/* Milliseconds by the clock on the wall: the journal has moments, and whoever reads it after a restart counts on from there. (If somebody
+   sets the clock back the bay's time stands, as the bay takes no moment that is before the last one.) */
+static uint64_t now(void) {
+    struct timespec it;
+    clock_gettime(CLOCK_REALTIME, &it);
+    return (uint64_t)it.tv_sec * 1000 + (uint64_t)it.tv_nsec / 1000000;
+}
+
+static void pause_for(uint64_t milliseconds) {
+    struct timespec it = {(time_t)(milliseconds / 1000), (long)(milliseconds % 1000) * 1000000};
+    nanosleep(&it, NULL);
 }
 
 /* What the file has, with a zero behind it; a new file has nothing. The program ends if it can't be read, or is another's. */
