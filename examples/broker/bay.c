@@ -25,7 +25,7 @@
 /* Whoever asks: one ask at a time, and one thread that waits for it. */
 struct asker {
     uint64_t owner, number; /* the number is that of its last ask */
-    uint64_t needs;         /* what it holds */
+    uint64_t needs;         /* what it was told that it holds */
     uint32_t what;          /* what it was told last */
     pthread_cond_t is_told;
 };
@@ -116,9 +116,9 @@ static void *timer(void *given) {
     return given;
 }
 
-/* Waits until one of the sets is held, and that is on the disk. No if it isn't: `what` says why. (A thread that may be stopped while it waits
+/* Waits until one of the sets is held, and that is on the disk, and gives it. 0 if none is held: `what` says why. (A thread that may be stopped while it waits
    has to call `lab_bay_leave`, from wherever it is stopped.) */
-static int hold(struct asker *me, const uint64_t *sets, size_t count, uint64_t deadline) {
+static uint64_t hold(struct asker *me, const uint64_t *sets, size_t count, uint64_t deadline) {
     pthread_mutex_lock(&mutex);
     struct lab_asked asked = {.number = next_number++, .owner = {0, me->owner}, .deadline = deadline, .limit = LAB_NEVER};
     me->number = asked.number;
@@ -126,9 +126,9 @@ static int hold(struct asker *me, const uint64_t *sets, size_t count, uint64_t d
     must(lab_bay_ask(&bay, &asked, sets, count, now()), "ask");
     pump();
     while (me->what == NOTHING_YET) pthread_cond_wait(&me->is_told, &mutex);
-    int holds = me->what == LAB_HOLDS;
+    uint64_t needs = me->needs;
     pthread_mutex_unlock(&mutex);
-    return holds;
+    return needs;
 }
 
 /* Lets go, and waits until that is on the disk: who says that it is over isn't asked about it again after a crash. */
@@ -167,12 +167,13 @@ static char *open_bay(const char *path, const struct lab_class *classes, size_t 
     return text;
 }
 
-/* Whoever held, and is there again: its ask goes on, with what it holds. No if it is over. */
-static int is_back(struct asker *me) {
+/* Whoever held is there again, before any thread is: its ask goes on, with what it holds. 0 if the ask is over. */
+static uint64_t come_back(struct asker *me) {
     uint32_t status = me->number ? lab_bay_back(&bay, me->number, 0, me->owner, now(), &me->needs) : LAB_BAY_OVER;
-    if (status != LAB_BAY_OVER) must(status, "back");
-    me->what = status == LAB_DONE ? LAB_HOLDS : NOTHING_YET;
-    return status == LAB_DONE;
+    if (status == LAB_BAY_OVER) return 0;
+    must(status, "back");
+    me->what = LAB_HOLDS;
+    return me->needs;
 }
 
 /* ---- an instrument */
@@ -214,6 +215,7 @@ static int has_done(int instrument, uint64_t ask) {
 
 struct station {
     struct asker *asker;
+    uint64_t needs;         /* what it holds */
     uint32_t number, noted; /* up to which of its sessions it has noted them, and by which ask the last one */
     uint64_t noted_by;
     uint32_t done, lapsed;
@@ -235,7 +237,7 @@ static void names_of(char *text, size_t room, uint64_t needs) {
 static void work(struct station *me) {
     int its[INSTRUMENTS];
     char text[100];
-    uint64_t ask = me->asker->number, needs = me->asker->needs;
+    uint64_t ask = me->asker->number, needs = me->needs;
     names_of(text, sizeof text, needs);
     printf("ask %" PRIu64 ": station %" PRIu32 " holds%s\n", ask, me->number, text);
     if (me->noted_by != ask) {
@@ -259,11 +261,11 @@ static void work(struct station *me) {
 /* Who held when the program was killed, and is back, does that session and lets go first: an owner has one ask. */
 static void *runs(void *given) {
     struct station *me = given;
-    if (me->asker->what == LAB_HOLDS) work(me);
+    if (me->needs) work(me);
     while (me->noted < sessions) {
         uint64_t one = 1u << rand_r(&me->seed) % INSTRUMENTS, two = 1u << rand_r(&me->seed) % INSTRUMENTS;
         uint64_t sets[2] = {one | two, (two << 1 | two >> (INSTRUMENTS - 1)) & ((1u << INSTRUMENTS) - 1)};
-        for (uint64_t patience = 1 + longest; !hold(me->asker, sets, 2, now() + patience); patience *= 2) {
+        for (uint64_t patience = 1 + longest; !(me->needs = hold(me->asker, sets, 2, now() + patience)); patience *= 2) {
             me->lapsed++;
             printf("ask %" PRIu64 ": station %" PRIu32 " waited in vain (%s)\n", me->asker->number, me->number,
                    me->asker->what == LAB_LAPSED ? "lapsed" : "not written in time");
@@ -311,9 +313,10 @@ int main(int count, char **words) {
         stations[at].asker = &askers[at];
         stations[at].number = at + 1;
         stations[at].seed = at + (unsigned)start;
-        if (!is_back(&askers[at])) continue;
+        stations[at].needs = come_back(&askers[at]);
+        if (!stations[at].needs) continue;
         back++;
-        names_of(text, sizeof text, askers[at].needs);
+        names_of(text, sizeof text, stations[at].needs);
         printf("ask %" PRIu64 ": station %" PRIu32 " is back at%s\n", askers[at].number, at + 1, text);
     }
     printf("%" PRIu32 " are back\n", back);
