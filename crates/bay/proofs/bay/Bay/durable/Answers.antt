@@ -11,7 +11,7 @@ pub invariant_of-self : goal.invariant_of-self
 invariant_of-self c =
     let x = c.self.inside in let i = c.self.invariant in
     subst (λ (r : RoomView). AreInLog r.book c.reach.new.self) (sym c.reach-2.ensures)
-    (subst (AreInLog (reach x.room.book c.args.position)) (sym c.reach.ensures) (record {
+    (subst (AreInLog (reach x.room.book c.durable.result)) (sym c.reach.ensures) (record {
       held = logged_lines x.room.book x.log (reaching x.log c.args.position) refl i.held;
-      ended = ended_reach x.room.book x.log.lines c.args.position i.ended;
+      ended = ended_reach x.room.book x.log.lines c.durable.result i.ended;
     }))
