@@ -29,3 +29,4 @@ pub mod Through
 pub mod Ended
 pub mod Past
 pub mod Refused
+pub mod ComingBack

@@ -23,6 +23,13 @@ use Rattle.bay.specs.declared.telling.Told.{Told}
 use Rattle.bay.specs.declared.terms.Terms.{Terms}
 use Rattle.bay.specs.Members.{Has}
 use Rattle.bay.specs.Ended.{AreInLog, IsPast}
+use Rattle.bay.specs.Written.{IsWritten}
+use Rattle.bay.specs.Safe.{StaySafe}
+use Rattle.bay.specs.Refusals.{IsWhyNotBack}
+use Rattle.bay.specs.declared.restoring.NotBack.{NotBack}
+use Rattle.bay.specs.declared.restoring.NotBack.TheVariants.{NoMemory as NotBackMemory}
+use Rattle.bay_log.specs.declared.line.Line.{Line}
+use Rattle.bay_log.specs.Laws.{BeginsWith}
 use Rattle.bay.specs.Rooms.{with_book, Stops, Tells, reached, IsKept as IsKeptRoom}
 use Rattle.bay.specs.LineLaws.{IsCall}
 use Rattle.bay.specs.Restoring.{IsOf, IsBack, IsThere}
@@ -119,3 +126,13 @@ IsBayCall old new =
 abbrev pub PastStaysPast : Type 0
 PastStaysPast =
     (old new : BayView) (number : ℕ) → IsKept old → IsBayCall old new → IsPast old.room.book old.log.lines number → IsPast new.room.book new.log.lines number
+
+-- ---- a bay comes back from its own lines
+
+-- If the log says of the asks what the book does, and its lines stay safe: whatever is left of the file after a crash, if it has all that is durable by the
+-- book, and the head is durable, no bay comes back from it with the same classes only if there is no memory
+abbrev pub ComesBack : BayView → Type 0
+ComesBack x =
+    IsWritten x.log.lines x.room.book → StaySafe x.room.classes x.log.lines x.room.book.durable → (head file lost : List ℕ) (front : List Line)
+    → log_text x.log.lines ≡ file ++ lost → x.room.book.durable ≤ base_of x.log.lines + length file → BeginsWith x.log.lines front → IsOf head front
+    → base_of x.log.lines + length (log_text front) ≤ x.room.book.durable → (why : NotBack) → IsWhyNotBack x.room.classes head file why → why ≡ NotBackMemory

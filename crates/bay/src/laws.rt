@@ -1,5 +1,5 @@
 //! What holds of every bay. Each law is the contract of a function that does nothing.
-ghost use Rattle.bay.specs.Bays.{ToldIsKept, ToldComesBack, LetGoIsKept, PastStaysPast};
+ghost use Rattle.bay.specs.Bays.{ToldIsKept, ToldComesBack, LetGoIsKept, PastStaysPast, ComesBack};
 ghost use Rattle.bay.specs.LineLaws.{CallsAreWaited, NobodyWaitsForNothing, NumbersRise};
 ghost use Rattle.bay.specs.HeardLaws.{TellsOnce};
 ghost use Rattle.bay.specs.Laws.{IsWellHeld, WhoHoldsHoldsOn, WhoWaitsWaitsOn, AnswersInTime};
@@ -58,6 +58,15 @@ pub fn let_go_is_kept(bay: &Bay)
 pub fn past_stays_past()
     ensures { PastStaysPast }
 {}
+
+/// From its own lines a bay comes back, unless there is no memory.
+pub fn comes_back(bay: &Bay)
+    ensures { ComesBack bay.now }
+{
+    bay.look();
+    let _ = bay.next_number();
+    cut_lines_are_read();
+}
 
 /// Each call is a time in which whoever is in line behind it waits. So the line's laws say by how many it is passed.
 pub fn calls_are_waited()

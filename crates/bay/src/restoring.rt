@@ -25,7 +25,7 @@ pub enum NotBack {
     Another,
     /// There are more than 32 classes.
     Classes,
-    /// This ask held by the log, and may not: another holds one of its instruments, or its class may not use one, or has no place left, or isn't there. Or it has
+    /// This ask held by the log, and may not: another holds one of its instruments, or its class may not use one, has no place left, or isn't there; or it has
     /// the last of all numbers.
     MayNot(u64),
 }

@@ -1,0 +1,98 @@
+-- A bay comes back from its own lines.
+use Rattle.std.proofs.Common.{◌≡◌, ℕ, zero, suc, ◌+◌, ◌<◌, ◌≤◌, List, [], ◌∷◌, ◌++◌, length, length-append, take, get_or, Some, refl, sym, ap, ◌∙◌, subst, inl, inr, arith}
+use Rattle.std.proofs.lemmas.Bool.{false≢true}
+use Rattle.std.proofs.lemmas.List.{length-take}
+use Rattle.bay_log.specs.declared.line.Entry.{Entry}
+use Rattle.bay_log.specs.declared.line.Line as line
+use Rattle.bay_log.specs.declared.line.Line.TheVariants.{Head, Hold as HoldLine, Back, End as EndLine, Note}
+use Rattle.bay_log.specs.Lines.{base_of, log_text}
+use Rattle.bay_log.specs.Alive.{alive}
+use Rattle.bay_log.specs.Laws.{CutLinesAreRead}
+use Rattle.bay.specs.declared.classes.Class.{Class}
+use Rattle.bay.specs.declared.restoring.NotBack.TheVariants.{NoMemory, NoPlace, Line, Another, Classes, MayNot}
+use Rattle.bay.specs.Classes.{class_at}
+use Rattle.bay.specs.Restoring.{IsOf}
+use Rattle.bay.specs.Safe.{AreSafe, HasPlace, HavePlaces}
+use Rattle.bay.specs.Refusals.{HoldsAndMayNot}
+use Rattle.bay.specs.Bays.{BayView, IsKept, ComesBack}
+use Rattle.bay.proofs.ToldKept.{below_next}
+
+-- ---- the head
+
+of_more : (head : List ℕ) (front rest : List line.Line) → IsOf head front → IsOf head (front ++ rest)
+of_more head [] rest h = absurd h
+of_more head (Head bay base next ∷ front) rest h = h
+of_more head (HoldLine ask entry ∷ front) rest h = absurd h
+of_more head (Back from to ∷ front) rest h = absurd h
+of_more head (EndLine ask how ∷ front) rest h = absurd h
+of_more head (Note ask text ∷ front) rest h = absurd h
+
+base_same : (head : List ℕ) (front rest : List line.Line) → IsOf head front → base_of (front ++ rest) ≡ base_of front
+base_same head [] rest h = absurd h
+base_same head (Head bay base next ∷ front) rest h = refl
+base_same head (HoldLine ask entry ∷ front) rest h = absurd h
+base_same head (Back from to ∷ front) rest h = absurd h
+base_same head (EndLine ask how ∷ front) rest h = absurd h
+base_same head (Note ask text ∷ front) rest h = absurd h
+
+-- ---- by safe lines everybody may hold
+
+no_places : (classes : List Class) (k : ℕ) → length classes ≤ k → (class_at classes k).places ≡ 0
+no_places [] k h = refl
+no_places (c ∷ classes) zero h = absurd (omega (arith, h))
+no_places (c ∷ classes) (suc k) h = no_places classes k (omega (arith, h))
+
+one_place : (lines : List line.Line) (k n : ℕ) → HasPlace lines k n → HavePlaces lines k (n ∷ [])
+one_place lines k n h = (λ i j d less inside. absurd (omega (arith, less, inside)), at)
+  where
+    at : (i : ℕ) (d : ℕ) → i < 1 → HasPlace lines k (get_or (n ∷ []) i d)
+    at zero d inside = h
+    at (suc i) d inside = absurd (omega (arith, inside))
+
+may_hold : (classes : List Class) (lines : List line.Line) (n : ℕ) → AreSafe classes lines
+    → ((e : Entry) → alive lines n ≡ Some e → n < 18446744073709551615) → HoldsAndMayNot classes lines n → ⊥
+may_hold classes lines n safe less h =
+    let e = h.0 in
+    elim h.2 [
+      | inl last ↦ (let low = less e h.1 in omega (arith, low, last))
+      | inr a ↦ elim a [
+        | inl none ↦
+            (let few = safe.few e.class (n ∷ []) (one_place lines e.class n (e, h.1, refl)) in let zero_ = no_places classes e.class none in
+            omega (arith, few, zero_))
+        | inr b ↦ elim b [
+          | inl wide ↦ false≢true (sym wide ∙ safe.within n e h.1)
+          | inr d ↦ elim d [
+            | inl other ↦ false≢true (sym (safe.apart n other.0 e other.1 h.1 other.2 other.3) ∙ other.4)
+            | inr many ↦ (let few = safe.few e.class many.0 many.1 in let more = many.3 in omega (arith, few, more))
+          ]
+        ]
+      ]
+    ]
+
+-- ---- the law
+
+pub comes_back : (x : BayView) → IsKept x → CutLinesAreRead → x.room.book.next ≤ 18446744073709551615 → ComesBack x
+comes_back x k cut next written safe head file lost front is enough begins of short NoMemory w = refl
+comes_back x k cut next written safe head file lost front is enough begins of short NoPlace w =
+    let found = w.0 in let read = w.1 in let lines = x.log.lines in
+    let first = cut.first lines file lost found k.standing.lines is read in
+    let base : base_of lines ≡ base_of found.lines.items = ap base_of first.1 ∙ base_same head found.lines.items first.0 w.2 in
+    let used = read.sound.used in let room = k.standing.room in
+    let some : length (take found.used file) ≡ length (log_text found.lines.items) = ap length read.whole in
+    let all : length (log_text lines) ≡ length file + length lost = ap length is ∙ length-append file lost in
+    let far = w.3 in
+    absurd (let part = length-take found.used file in omega (arith, base, used, room, some, all, far, part))
+comes_back x k cut next written safe head file lost front is enough begins of short (Line n) w =
+    absurd (cut.fault x.log.lines file lost n k.standing.lines is w)
+comes_back x k cut next written safe head file lost front is enough begins of short Another w =
+    let found = w.0 in
+    let whole = cut.whole x.log.lines file lost found k.standing.lines is w.1 front begins (omega (arith, enough, short)) in
+    absurd (w.2 (subst (IsOf head) (sym whole.1) (of_more head front whole.0 of)))
+comes_back x k cut next written safe head file lost front is enough begins of short Classes w = let few = k.room.room.few in absurd (omega (arith, few, w))
+comes_back x k cut next written safe head file lost front is enough begins of short (MayNot n) w =
+    let found = w.0 in let lines = x.log.lines in
+    let first = cut.first lines file lost found k.standing.lines is w.1 in
+    let within = safe.within in
+    let sure = cut.whole lines file lost found k.standing.lines is w.1 safe.sure safe.begins (omega (arith, enough, within)) in
+    absurd (may_hold x.room.classes found.lines.items n (safe.safe found.lines.items first sure)
+    (λ e h. let low = below_next lines found.lines.items x.room.book written first n e h in omega (arith, low, next)) w.3)
