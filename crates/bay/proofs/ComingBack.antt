@@ -72,8 +72,8 @@ may_hold classes lines n safe less h =
 -- ---- the law
 
 pub comes_back : (x : BayView) → IsKept x → CutLinesAreRead → x.room.book.next ≤ 18446744073709551615 → ComesBack x
-comes_back x k cut next written safe head file lost front is enough begins of short NoMemory w = refl
-comes_back x k cut next written safe head file lost front is enough begins of short NoPlace w =
+comes_back x k cut next whole_bay head file lost front is enough begins of short NoMemory w = refl
+comes_back x k cut next whole_bay head file lost front is enough begins of short NoPlace w =
     let found = w.0 in let read = w.1 in let lines = x.log.lines in
     let first = cut.first lines file lost found k.standing.lines is read in
     let base : base_of lines ≡ base_of found.lines.items = ap base_of first.1 ∙ base_same head found.lines.items first.0 w.2 in
@@ -82,17 +82,17 @@ comes_back x k cut next written safe head file lost front is enough begins of sh
     let all : length (log_text lines) ≡ length file + length lost = ap length is ∙ length-append file lost in
     let far = w.3 in
     absurd (let part = length-take found.used file in omega (arith, base, used, room, some, all, far, part))
-comes_back x k cut next written safe head file lost front is enough begins of short (Line n) w =
+comes_back x k cut next whole_bay head file lost front is enough begins of short (Line n) w =
     absurd (cut.fault x.log.lines file lost n k.standing.lines is w)
-comes_back x k cut next written safe head file lost front is enough begins of short Another w =
+comes_back x k cut next whole_bay head file lost front is enough begins of short Another w =
     let found = w.0 in
     let whole = cut.whole x.log.lines file lost found k.standing.lines is w.1 front begins (omega (arith, enough, short)) in
     absurd (w.2 (subst (IsOf head) (sym whole.1) (of_more head front whole.0 of)))
-comes_back x k cut next written safe head file lost front is enough begins of short Classes w = let few = k.room.room.few in absurd (omega (arith, few, w))
-comes_back x k cut next written safe head file lost front is enough begins of short (MayNot n) w =
+comes_back x k cut next whole_bay head file lost front is enough begins of short Classes w = let few = k.room.room.few in absurd (omega (arith, few, w))
+comes_back x k cut next whole_bay head file lost front is enough begins of short (MayNot n) w =
     let found = w.0 in let lines = x.log.lines in
     let first = cut.first lines file lost found k.standing.lines is w.1 in
-    let within = safe.within in
-    let sure = cut.whole lines file lost found k.standing.lines is w.1 safe.sure safe.begins (omega (arith, enough, within)) in
-    absurd (may_hold x.room.classes found.lines.items n (safe.safe found.lines.items first sure)
-    (λ e h. let low = below_next lines found.lines.items x.room.book written first n e h in omega (arith, low, next)) w.3)
+    let within = whole_bay.safe.within in
+    let sure = cut.whole lines file lost found k.standing.lines is w.1 whole_bay.safe.sure whole_bay.safe.begins (omega (arith, enough, within)) in
+    absurd (may_hold x.room.classes found.lines.items n (whole_bay.safe.safe found.lines.items first sure)
+    (λ e h. let low = below_next lines found.lines.items x.room.book whole_bay.written first n e h in omega (arith, low, next)) w.3)
