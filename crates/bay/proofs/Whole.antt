@@ -10,7 +10,7 @@ use Rattle.bay_book.specs.Books.{BookView, IsSound, reach, nobody}
 use Rattle.bay_book.proofs.Sound.{sound_set, sound_add, sound_holding, sound_over, sound_gone, sound_back, sound_hearing, sound_purge}
 use Rattle.bay_log.specs.declared.line.Entry.{Entry}
 use Rattle.bay_log.specs.declared.line.Line.{Line}
-use Rattle.bay_log.specs.declared.line.Line.TheVariants.{Note}
+use Rattle.bay_log.specs.declared.line.Line.TheVariants.{Head, Hold as HoldLine, Back, End as EndLine, Note}
 use Rattle.bay_log.specs.Lines.{AreLines}
 use Rattle.bay_log.specs.Logs.{LogView, beginning, end_of}
 use Rattle.bay_log.specs.Alive.{alive}
@@ -22,7 +22,7 @@ use Rattle.bay.specs.Written.{is_given, bound_of, IsWritten}
 use Rattle.bay.specs.Safe.{AreSafe, StaySafe}
 use Rattle.bay.specs.Pages.{entry_of, pages}
 use Rattle.bay.specs.Views.{RoomView}
-use Rattle.bay.specs.Restoring.{IsBack}
+use Rattle.bay.specs.Restoring.{after_line, IsBack}
 use Rattle.bay.specs.LineLaws.{IsCall}
 use Rattle.bay.specs.Rooms.{Stops, Tells}
 use Rattle.bay.specs.Bays.{BayView, IsKept, IsBayCall, IsWhole, StaysWhole}
@@ -206,9 +206,16 @@ all_of_it lines front b from =
 at_isnt_none : (m : Mark) (p : ℕ) → m ≡ At p → m ≡ NoLine → ⊥
 at_isnt_none m p a b = cc
 
+bound_by : (line : Line) (next : ℕ) → after_line line ≤ next → bound_of line ≤ 18446744073709551615 → bound_of line ≤ next
+bound_by (Head bay base after) next le fits = le
+bound_by (HoldLine ask entry) next le fits = omega (arith, le, fits)
+bound_by (Back from to) next le fits = omega (arith, le, fits)
+bound_by (EndLine ask how) next le fits = omega (arith, le, fits)
+bound_by (Note ask text) next le fits = omega (arith, le, fits)
+
 whole_back : (limit most now : ℕ) (x : BayView) → IsKept x → IsBack x.log.lines limit most now (end_of x.log) x.room
-    → ((line : Line) → Has x.log.lines line → bound_of line ≤ x.room.book.next) → IsWhole x
-whole_back limit most now x k b below =
+    → ((line : Line) → Has x.log.lines line → bound_of line ≤ 18446744073709551615) → IsWhole x
+whole_back limit most now x k b fits =
     let lines = x.log.lines in let book = x.room.book in let s = k.room.book in
     let by : (n : ℕ) (e : Entry) → alive lines n ≡ Some e → HoldsBy book n e = λ n e h.
     (let d = b.all n e h in record { ask = d.0; has = d.1; holds = (b.each d.0 d.1).holds; number = d.2; entry = d.3 }) in
@@ -229,7 +236,9 @@ whole_back limit most now x k b below =
         kept = λ a h holds none. at_isnt_none a.hold_line (end_of x.log) (b.each a h).line none;
         ends = λ a h o g. absurd (false≢true (ap is_over (sym (b.each a h).holds) ∙ o));
         unused = λ a h m. absurd (false≢true (sym m ∙ ap is_given (b.each a h).line));
-        below = below;
+        below = λ line h.
+            let p = place_of lines line line h in
+            bound_by line book.next (subst (λ (l : Line). after_line l ≤ book.next) p.2 (b.next p.0 line p.1)) (fits line h);
       };
       safe = record {
         sure = lines;

@@ -134,8 +134,8 @@ pub record IsWhole (x : BayView) : Type 0 where
   pub written : IsWritten x.log.lines x.room.book
   pub safe : StaySafe x.room.classes x.log.lines x.room.book.durable
 
--- So is a bay that was opened. It stays so whatever is called, if it keeps a log. And so is one that came back, if its next number is larger than those of all
--- lines that were read
+-- So is a bay that was opened. It stays so whatever is called, if it keeps a log. And so is one that came back, if no line that was read has the last of all
+-- numbers
 pub record StaysWhole : Type 0 where
   pub opens :
       (classes : List Class) (terms : Terms) (limit most : ℕ) (head : List ℕ) (x : BayView) → IsOpened classes terms limit most x.room
@@ -143,12 +143,18 @@ pub record StaysWhole : Type 0 where
   pub calls : (old new : BayView) → IsKept old → IsKept new → old.room.terms.keeps ≡ true → IsBayCall old new → IsWhole old → IsWhole new
   pub back :
       (classes : List Class) (terms : Terms) (limit most : ℕ) (head bytes : List ℕ) (now used : ℕ) (x : BayView) → IsKept x
-      → Resumes classes terms limit most head bytes now x used → ((line : Line) → Has x.log.lines line → bound_of line ≤ x.room.book.next) → IsWhole x
+      → Resumes classes terms limit most head bytes now x used → ((line : Line) → Has x.log.lines line → bound_of line ≤ 18446744073709551615) → IsWhole x
 
--- Whatever is left of the file of such a bay after a crash, if it has all that is durable by the book, and the head is durable: no bay comes back from it with
--- the same classes only if there is no memory
-abbrev pub ComesBack : BayView → Type 0
-ComesBack x =
-    IsWhole x → (head file lost : List ℕ) (front : List Line) → log_text x.log.lines ≡ file ++ lost
-    → x.room.book.durable ≤ base_of x.log.lines + length file → BeginsWith x.log.lines front → IsOf head front
-    → base_of x.log.lines + length (log_text front) ≤ x.room.book.durable → (why : NotBack) → IsWhyNotBack x.room.classes head file why → why ≡ NotBackMemory
+-- Whatever is left of the file of such a bay after a crash, if it has all that is durable by the book
+pub record ComesBack (x : BayView) : Type 0 where
+  -- and its head is durable: no bay comes back from it with the same classes only if there is no memory
+  pub refused :
+      IsWhole x → (head file lost : List ℕ) (front : List Line) → log_text x.log.lines ≡ file ++ lost
+      → x.room.book.durable ≤ base_of x.log.lines + length file → BeginsWith x.log.lines front → IsOf head front
+      → base_of x.log.lines + length (log_text front) ≤ x.room.book.durable → (why : NotBack) → IsWhyNotBack x.room.classes head file why
+      → why ≡ NotBackMemory
+  -- and the bay that comes back from it is such a bay again
+  pub again :
+      IsWhole x → (classes : List Class) (terms : Terms) (limit most : ℕ) (head file lost : List ℕ) (now used : ℕ) (y : BayView)
+      → log_text x.log.lines ≡ file ++ lost → x.room.book.durable ≤ base_of x.log.lines + length file
+      → Resumes classes terms limit most head file now y used → IsKept y → IsWhole y
