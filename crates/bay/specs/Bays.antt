@@ -147,7 +147,7 @@ pub record StaysWhole : Type 0 where
 
 -- Whatever is left of the file of such a bay after a crash, if it has all that is durable by the book
 pub record ComesBack (x : BayView) : Type 0 where
-  -- and its head is durable: no bay comes back from it with the same classes only if there is no memory
+  -- and its head is durable: with the same classes it is refused only if there is no memory
   pub refused :
       IsWhole x → (head file lost : List ℕ) (front : List Line) → log_text x.log.lines ≡ file ++ lost
       → x.room.book.durable ≤ base_of x.log.lines + length file → BeginsWith x.log.lines front → IsOf head front

@@ -71,7 +71,8 @@ abbrev pub ComesFrom : List BayClass → BayTerms → List ℕ → ℕ → Optio
 ComesFrom classes terms journal now (Some held) new told told' status = (status ≡ 11) × (new ≡ Some held) × (told' ≡ told)
 ComesFrom classes terms journal now None new told told' status =
     ((status ≡ 0) × (h : Inside) × (new ≡ Some h) × IsInsideBack classes terms journal now h told'.used × (told'.fault ≡ told.fault))
-    ⊎ ((new ≡ None) × (why : NotBack) × IsWhyNotBackFor classes terms journal why × (status ≡ not_back_status why) × (told' ≡ read told.used (not_back_number why)))
+    ⊎ ((new ≡ None) × (why : NotBack) × IsWhyNotBackFor classes terms journal why × (status ≡ not_back_status why)
+    × (told' ≡ read told.used (not_back_number why)))
 
 -- ---- calls on a bay
 
