@@ -7,14 +7,19 @@ use Rattle.bay_log.specs.declared.line.Line as line
 use Rattle.bay_log.specs.declared.line.Line.TheVariants.{Head, Hold as HoldLine, Back, End as EndLine, Note}
 use Rattle.bay_log.specs.Lines.{base_of, log_text}
 use Rattle.bay_log.specs.Alive.{alive}
-use Rattle.bay_log.specs.Laws.{CutLinesAreRead}
+use Rattle.bay_log.specs.Laws.{BeginsWith, CutLinesAreRead}
 use Rattle.bay.specs.declared.classes.Class.{Class}
+use Rattle.bay.specs.declared.restoring.NotBack.{NotBack}
 use Rattle.bay.specs.declared.restoring.NotBack.TheVariants.{NoMemory, NoPlace, Line, Another, Classes, MayNot}
 use Rattle.bay.specs.Classes.{class_at}
 use Rattle.bay.specs.Restoring.{IsOf}
 use Rattle.bay.specs.Safe.{AreSafe, HasPlace, HavePlaces}
-use Rattle.bay.specs.Refusals.{HoldsAndMayNot}
-use Rattle.bay.specs.Bays.{BayView, IsKept, ComesBack}
+use Rattle.bay.specs.Refusals.{HoldsAndMayNot, IsWhyNotBack}
+use Rattle.bay.specs.Bays.{BayView, IsKept, IsWhole, ComesBack}
+use Rattle.bay_log.specs.Logs.{LogView}
+use Rattle.bay.specs.Members.{Has}
+use Rattle.bay.proofs.Members.{append_first}
+use Rattle.bay.proofs.Whole.{stays_whole}
 use Rattle.bay.proofs.ToldKept.{below_next}
 
 -- ---- the head
@@ -71,9 +76,12 @@ may_hold classes lines n safe less h =
 
 -- ---- the law
 
-pub comes_back : (x : BayView) → IsKept x → CutLinesAreRead → x.room.book.next ≤ 18446744073709551615 → ComesBack x
-comes_back x k cut next written safe head file lost front is enough begins of short NoMemory w = refl
-comes_back x k cut next written safe head file lost front is enough begins of short NoPlace w =
+refused : (x : BayView) → IsKept x → CutLinesAreRead → x.room.book.next ≤ 18446744073709551615 → IsWhole x → (head file lost : List ℕ)
+    (front : List line.Line) → log_text x.log.lines ≡ file ++ lost → x.room.book.durable ≤ base_of x.log.lines + length file
+    → BeginsWith x.log.lines front → IsOf head front → base_of x.log.lines + length (log_text front) ≤ x.room.book.durable → (why : NotBack)
+    → IsWhyNotBack x.room.classes head file why → why ≡ NoMemory
+refused x k cut next whole_bay head file lost front is enough begins of short NoMemory w = refl
+refused x k cut next whole_bay head file lost front is enough begins of short NoPlace w =
     let found = w.0 in let read = w.1 in let lines = x.log.lines in
     let first = cut.first lines file lost found k.standing.lines is read in
     let base : base_of lines ≡ base_of found.lines.items = ap base_of first.1 ∙ base_same head found.lines.items first.0 w.2 in
@@ -82,17 +90,30 @@ comes_back x k cut next written safe head file lost front is enough begins of sh
     let all : length (log_text lines) ≡ length file + length lost = ap length is ∙ length-append file lost in
     let far = w.3 in
     absurd (let part = length-take found.used file in omega (arith, base, used, room, some, all, far, part))
-comes_back x k cut next written safe head file lost front is enough begins of short (Line n) w =
+refused x k cut next whole_bay head file lost front is enough begins of short (Line n) w =
     absurd (cut.fault x.log.lines file lost n k.standing.lines is w)
-comes_back x k cut next written safe head file lost front is enough begins of short Another w =
+refused x k cut next whole_bay head file lost front is enough begins of short Another w =
     let found = w.0 in
     let whole = cut.whole x.log.lines file lost found k.standing.lines is w.1 front begins (omega (arith, enough, short)) in
     absurd (w.2 (subst (IsOf head) (sym whole.1) (of_more head front whole.0 of)))
-comes_back x k cut next written safe head file lost front is enough begins of short Classes w = let few = k.room.room.few in absurd (omega (arith, few, w))
-comes_back x k cut next written safe head file lost front is enough begins of short (MayNot n) w =
+refused x k cut next whole_bay head file lost front is enough begins of short Classes w = let few = k.room.room.few in absurd (omega (arith, few, w))
+refused x k cut next whole_bay head file lost front is enough begins of short (MayNot n) w =
     let found = w.0 in let lines = x.log.lines in
     let first = cut.first lines file lost found k.standing.lines is w.1 in
-    let within = safe.within in
-    let sure = cut.whole lines file lost found k.standing.lines is w.1 safe.sure safe.begins (omega (arith, enough, within)) in
-    absurd (may_hold x.room.classes found.lines.items n (safe.safe found.lines.items first sure)
-    (λ e h. let low = below_next lines found.lines.items x.room.book written first n e h in omega (arith, low, next)) w.3)
+    let within = whole_bay.safe.within in
+    let sure = cut.whole lines file lost found k.standing.lines is w.1 whole_bay.safe.sure whole_bay.safe.begins (omega (arith, enough, within)) in
+    absurd (may_hold x.room.classes found.lines.items n (whole_bay.safe.safe found.lines.items first sure)
+    (λ e h. let low = below_next lines found.lines.items x.room.book whole_bay.written first n e h in omega (arith, low, next)) w.3)
+
+pub comes_back : (x : BayView) → IsKept x → CutLinesAreRead → x.room.book.next ≤ 18446744073709551615 → ComesBack x
+comes_back x k cut next = record {
+  refused = refused x k cut next;
+  again = λ w classes terms limit most head file lost now used y is enough r ky.
+      let first = cut.first x.log.lines file lost r.found k.standing.lines is r.read in
+      let same : r.found.lines.items ≡ y.log.lines = ap (λ (l : LogView). l.lines) (sym r.log) in
+      stays_whole.back classes terms limit most head file now used y ky r
+      (λ l h.
+      let there = append_first r.found.lines.items first.0 l (subst (λ (ls : List line.Line). Has ls l) (sym same) h) in
+      let below = w.written.below l (subst (λ (ls : List line.Line). Has ls l) (sym first.1) there) in
+      omega (arith, below, next));
+}

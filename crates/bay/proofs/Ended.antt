@@ -169,10 +169,10 @@ after_add x lines number class owner deadline limit now fits t =
       below = λ n le ne. t.below n (omega (arith, le, above)) ne;
     }
 
-pub ended_kept : (lines : List Line) → IsKeptByChanges (λ (x : BookView). IsEnded x lines)
-ended_kept lines = record {
+pub ended_kept : (keeps : Bool) (lines : List Line) → IsKeptByChanges keeps (λ (x : BookView). IsEnded x lines)
+ended_kept keeps lines = record {
   adds = λ x number class owner deadline limit now fits t. after_add x lines number class owner deadline limit now fits t;
-  holds = λ x place needs now keeps inside w t.
+  holds = λ x place needs now inside w t.
       ended_set x lines place _ (after_holding lines x.durable (ask_at x.asks place) needs now keeps w (its x lines place inside t)) t;
   ends = λ x place how inside goes t.
       ended_set x lines place _ (after_over lines x.durable (ask_at x.asks place) how goes (its x lines place inside t)) t;

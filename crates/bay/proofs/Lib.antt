@@ -30,3 +30,4 @@ pub mod Ended
 pub mod Past
 pub mod Refused
 pub mod ComingBack
+pub mod Whole

@@ -79,8 +79,8 @@ one_of : (a b : Ask) → Has (a ∷ []) b → a ≡ b
 one_of a b (inl is) = is
 one_of a b (inr h) = absurd h
 
-pub past_kept : (lines : List Line) (number : ℕ) → IsKeptByChanges (λ (x : BookView). IsPast x lines number)
-past_kept lines number = record {
+pub past_kept : (keeps : Bool) (lines : List Line) (number : ℕ) → IsKeptByChanges keeps (λ (x : BookView). IsPast x lines number)
+past_kept keeps lines number = record {
   adds = λ x n class owner deadline limit now fits t.
       let above = above_all x n fits in let less = t.given in let v : Ask = asker n class owner deadline limit now in
       record {
@@ -91,7 +91,7 @@ past_kept lines number = record {
         ];
         out = t.out;
       };
-  holds = λ x place needs now keeps inside w t.
+  holds = λ x place needs now inside w t.
       past_set x lines number place (holding needs now keeps (ask_at x.asks place)) inside refl (λ o. absurd (false≢true (ap is_over (sym w) ∙ o.0))) t;
   ends = λ x place how inside goes t.
       past_set x lines number place (over how (ask_at x.asks place)) inside refl (λ o. absurd (false≢true (sym goes ∙ o.0))) t;
@@ -106,13 +106,13 @@ past_kept lines number = record {
 }
 
 past_call : (lines : List Line) (number now : ℕ) (old new : RoomView) → IsCall now old new → IsPast old.book lines number → IsPast new.book lines number
-past_call lines number now old new (inl c) t = through_asks _ (past_kept lines number) c.0 c.1 now old new c.2 t
-past_call lines number now old new (inr (inl c)) t = through_ends _ (past_kept lines number) c.0 c.1 now old new c.2 t
-past_call lines number now old new (inr (inr (inl c))) t = through_leaves _ (past_kept lines number) c.0 now old new c.1 t
-past_call lines number now old new (inr (inr (inr (inl c)))) t = through_goes _ (past_kept lines number) c.0 now old new c.1 t
+past_call lines number now old new (inl c) t = through_asks _ old (past_kept old.terms.keeps lines number) c.0 c.1 now new c.2 t
+past_call lines number now old new (inr (inl c)) t = through_ends _ old (past_kept old.terms.keeps lines number) c.0 c.1 now new c.2 t
+past_call lines number now old new (inr (inr (inl c))) t = through_leaves _ old (past_kept old.terms.keeps lines number) c.0 now new c.1 t
+past_call lines number now old new (inr (inr (inr (inl c)))) t = through_goes _ old (past_kept old.terms.keeps lines number) c.0 now new c.1 t
 past_call lines number now old new (inr (inr (inr (inr (inl c))))) t =
-    through_comes_back _ (past_kept lines number) c.0 c.1 now old new (Some c.2) c.3 t
-past_call lines number now old new (inr (inr (inr (inr (inr c))))) t = through_passes _ (past_kept lines number) now old new c t
+    through_comes_back _ old (past_kept old.terms.keeps lines number) c.0 c.1 now new (Some c.2) c.3 t
+past_call lines number now old new (inr (inr (inr (inr (inr c))))) t = through_passes _ old (past_kept old.terms.keeps lines number) now new c t
 
 -- ---- lines are given
 
@@ -188,15 +188,15 @@ pub past_stays_past : PastStaysPast
 past_stays_past old new number k (inl c) t =
     subst (λ (l : LogView). IsPast new.room.book l.lines number) (sym c.1) (elim c.0.1 [
       | inl call ↦ past_call old.log.lines number c.0.0 old.room new.room call t
-      | inr stops ↦ through_stops _ (past_kept old.log.lines number) c.0.0 old.room new.room stops t
+      | inr stops ↦ through_stops _ old.room (past_kept old.room.terms.keeps old.log.lines number) c.0.0 new.room stops t
     ])
 past_stays_past old new number k (inr (inl c)) t =
     subst (λ (l : LogView). IsPast new.room.book l.lines number) (sym c.1)
-    (through_tells _ (past_kept old.log.lines number) c.0.0 old.room new.room c.0.1 c.0.2 t)
+    (through_tells _ old.room (past_kept old.room.terms.keeps old.log.lines number) c.0.0 new.room c.0.1 c.0.2 t)
 past_stays_past old new number k (inr (inr (inl c))) t =
     (past_writes number c.0 (pages old.room.book old.log) (pages new.room.book new.log) c.1.writes (record { begun = k.standing.begun; past = t })).past
 past_stays_past old new number k (inr (inr (inr (inl c)))) t =
-    subst (Past number) (sym c.2) (past_more old.room.book old.log.lines number (Note c.0 c.1) k.standing.begun refl t)
+    subst (Past number) (sym c.3) (past_more old.room.book old.log.lines number (Note c.0 c.1) k.standing.begun refl t)
 past_stays_past old new number k (inr (inr (inr (inr (inl c))))) t = subst (Past number) (sym c) t
 past_stays_past old new number k (inr (inr (inr (inr (inr (inl c)))))) t =
     subst (λ (r : RoomView). IsPast r.book new.log.lines number) (sym c.1)

@@ -1,5 +1,5 @@
 -- For readers: what the calls of a bay do with its log, and what is true of every bay.
-use Rattle.std.specs.Prelude.{◌≡◌, ◌≢◌, ◌⊎◌, ℕ, ◌+◌, ◌≤◌, ◌<◌, List, ◌++◌, length, Option, Some, None, Result}
+use Rattle.std.specs.Prelude.{◌≡◌, ◌≢◌, ◌⊎◌, ℕ, true, ◌+◌, ◌≤◌, ◌<◌, List, ◌++◌, length, Option, Some, None, Result}
 use Rattle.std.specs.declared.alloc.AllocError.{AllocError}
 use Rattle.bay_book.specs.declared.ask.Ask.{Ask}
 use Rattle.bay_book.specs.declared.ask.End.TheVariants.{LetGo}
@@ -10,7 +10,7 @@ use Rattle.bay_log.specs.declared.line.Line.TheVariants.{Note}
 use Rattle.bay_log.specs.declared.reading.Found.{Found}
 use Rattle.bay_log.specs.Texts.{IsText}
 use Rattle.bay_log.specs.Lines.{base_of, log_text}
-use Rattle.bay_log.specs.Logs.{LogView, IsStanding, resumed, end_of, adding, sending, reaching, failing}
+use Rattle.bay_log.specs.Logs.{LogView, IsStanding, resumed, end_of, beginning, adding, sending, reaching, failing}
 use Rattle.bay_log.specs.Reads.{IsRead}
 use Rattle.bay_log.specs.Alive.{alive}
 use Rattle.bay.specs.declared.bay.NotOpened.{NotOpened}
@@ -23,14 +23,14 @@ use Rattle.bay.specs.declared.telling.Told.{Told}
 use Rattle.bay.specs.declared.terms.Terms.{Terms}
 use Rattle.bay.specs.Members.{Has}
 use Rattle.bay.specs.Ended.{AreInLog, IsPast}
-use Rattle.bay.specs.Written.{IsWritten}
+use Rattle.bay.specs.Written.{bound_of, IsWritten}
 use Rattle.bay.specs.Safe.{StaySafe}
 use Rattle.bay.specs.Refusals.{IsWhyNotBack}
 use Rattle.bay.specs.declared.restoring.NotBack.{NotBack}
 use Rattle.bay.specs.declared.restoring.NotBack.TheVariants.{NoMemory as NotBackMemory}
 use Rattle.bay_log.specs.declared.line.Line.{Line}
 use Rattle.bay_log.specs.Laws.{BeginsWith}
-use Rattle.bay.specs.Rooms.{with_book, Stops, Tells, reached, IsKept as IsKeptRoom}
+use Rattle.bay.specs.Rooms.{IsOpened, with_book, Stops, Tells, reached, IsKept as IsKeptRoom}
 use Rattle.bay.specs.LineLaws.{IsCall}
 use Rattle.bay.specs.Restoring.{IsOf, IsBack, IsThere}
 use Rattle.bay.specs.Pages.{entry_of, pages, Writes as WritesOwed}
@@ -117,7 +117,7 @@ IsBayCall old new =
     (((now : ℕ) × (IsCall now old.room new.room ⊎ Stops now old.room new.room)) × (new.log ≡ old.log))
     ⊎ (((done : ℕ) × (told : Option Told) × Tells done old.room told new.room) × (new.log ≡ old.log))
     ⊎ ((result : Result (Unit {0}) AllocError) × Writes result old new)
-    ⊎ ((number : ℕ) × (text : List ℕ) × (new ≡ with_log old (adding old.log (Note number text))))
+    ⊎ ((number : ℕ) × (text : List ℕ) × HoldsTold old.room.book.asks number × (new ≡ with_log old (adding old.log (Note number text))))
     ⊎ (new ≡ with_log old (sending old.log))
     ⊎ ((position : ℕ) × (new.room ≡ reached old.room position) × (new.log ≡ reaching old.log position))
     ⊎ (new ≡ with_log old (failing old.log))
@@ -129,10 +129,32 @@ PastStaysPast =
 
 -- ---- a bay comes back from its own lines
 
--- If the log says of the asks what the book does, and its lines stay safe: whatever is left of the file after a crash, if it has all that is durable by the
--- book, and the head is durable, no bay comes back from it with the same classes only if there is no memory
-abbrev pub ComesBack : BayView → Type 0
-ComesBack x =
-    IsWritten x.log.lines x.room.book → StaySafe x.room.classes x.log.lines x.room.book.durable → (head file lost : List ℕ) (front : List Line)
-    → log_text x.log.lines ≡ file ++ lost → x.room.book.durable ≤ base_of x.log.lines + length file → BeginsWith x.log.lines front → IsOf head front
-    → base_of x.log.lines + length (log_text front) ≤ x.room.book.durable → (why : NotBack) → IsWhyNotBack x.room.classes head file why → why ≡ NotBackMemory
+-- the log says of the asks what the book does, but for lines that are owed; and its lines are safe, wherever they are cut at or behind what is durable
+pub record IsWhole (x : BayView) : Type 0 where
+  pub written : IsWritten x.log.lines x.room.book
+  pub safe : StaySafe x.room.classes x.log.lines x.room.book.durable
+
+-- So is a bay that was opened. It stays so whatever is called, if it keeps a log. And so is one that came back, if no line that was read has the last of all
+-- numbers
+pub record StaysWhole : Type 0 where
+  pub opens :
+      (classes : List Class) (terms : Terms) (limit most : ℕ) (head : List ℕ) (x : BayView) → IsOpened classes terms limit most x.room
+      → x.log ≡ beginning head 0 0 → IsWhole x
+  pub calls : (old new : BayView) → IsKept old → IsKept new → old.room.terms.keeps ≡ true → IsBayCall old new → IsWhole old → IsWhole new
+  pub back :
+      (classes : List Class) (terms : Terms) (limit most : ℕ) (head bytes : List ℕ) (now used : ℕ) (x : BayView) → IsKept x
+      → Resumes classes terms limit most head bytes now x used → ((line : Line) → Has x.log.lines line → bound_of line ≤ 18446744073709551615) → IsWhole x
+
+-- Whatever is left of the file of such a bay after a crash, if it has all that is durable by the book
+pub record ComesBack (x : BayView) : Type 0 where
+  -- and its head is durable: with the same classes it is refused only if there is no memory
+  pub refused :
+      IsWhole x → (head file lost : List ℕ) (front : List Line) → log_text x.log.lines ≡ file ++ lost
+      → x.room.book.durable ≤ base_of x.log.lines + length file → BeginsWith x.log.lines front → IsOf head front
+      → base_of x.log.lines + length (log_text front) ≤ x.room.book.durable → (why : NotBack) → IsWhyNotBack x.room.classes head file why
+      → why ≡ NotBackMemory
+  -- and the bay that comes back from it is such a bay again
+  pub again :
+      IsWhole x → (classes : List Class) (terms : Terms) (limit most : ℕ) (head file lost : List ℕ) (now used : ℕ) (y : BayView)
+      → log_text x.log.lines ≡ file ++ lost → x.room.book.durable ≤ base_of x.log.lines + length file
+      → Resumes classes terms limit most head file now y used → IsKept y → IsWhole y

@@ -1,5 +1,5 @@
 -- For readers: those that held by the log hold again.
-use Rattle.std.specs.Prelude.{◌≡◌, ℕ, ◌+◌, ◌<◌, ◌≤◌, min, true, false, List, [], ◌∷◌, All, slice_index_or, length, Option, Some, None}
+use Rattle.std.specs.Prelude.{◌≡◌, ℕ, ◌+◌, ◌<◌, ◌≤◌, max, min, true, false, List, [], ◌∷◌, All, slice_index_or, length, Option, Some, None}
 use Rattle.bay_line.specs.Lines.{LineView, nobody}
 use Rattle.bay_book.specs.declared.ask.Ask.{Ask}
 use Rattle.bay_book.specs.declared.ask.Heard.TheVariants.{Holds as HeardHolds}
@@ -82,7 +82,7 @@ AreDone lines book = (n : ℕ) (e : Entry) → alive lines n ≡ Some e → IsTh
 abbrev pub after_line : Line → ℕ
 after_line (Head bay base next) = next
 after_line (HoldLine ask entry) = min (ask + 1) 18446744073709551615
-after_line (Back from to) = min (to + 1) 18446744073709551615
+after_line (Back from to) = min (max from to + 1) 18446744073709551615
 after_line (EndLine ask how) = min (ask + 1) 18446744073709551615
 after_line (Note ask text) = min (ask + 1) 18446744073709551615
 

@@ -1,5 +1,5 @@
 //! What holds of every bay. Each law is the contract of a function that does nothing.
-ghost use Rattle.bay.specs.Bays.{ToldIsKept, ToldComesBack, LetGoIsKept, PastStaysPast, ComesBack};
+ghost use Rattle.bay.specs.Bays.{ToldIsKept, ToldComesBack, LetGoIsKept, PastStaysPast, StaysWhole, ComesBack};
 ghost use Rattle.bay.specs.LineLaws.{CallsAreWaited, NobodyWaitsForNothing, NumbersRise};
 ghost use Rattle.bay.specs.HeardLaws.{TellsOnce};
 ghost use Rattle.bay.specs.Laws.{IsWellHeld, WhoHoldsHoldsOn, WhoWaitsWaitsOn, AnswersInTime};
@@ -57,6 +57,11 @@ pub fn let_go_is_kept(bay: &Bay)
 /// So it is from then on, whatever calls there are, also when it isn't in the book any more.
 pub fn past_stays_past()
     ensures { PastStaysPast }
+{}
+
+/// The log of a bay that keeps one says of the asks what the book does, and its lines are safe, whatever is called.
+pub fn stays_whole()
+    ensures { StaysWhole }
 {}
 
 /// From its own lines a bay comes back, unless there is no memory.

@@ -154,7 +154,7 @@ fn after_line(line: &Line) -> u64
     match line {
         Line::Head { next, .. } => *next,
         Line::Hold { ask, .. } => ask.saturating_add(1),
-        Line::Back { to, .. } => to.saturating_add(1),
+        Line::Back { from, to } => (*from).max(*to).saturating_add(1),
         Line::End { ask, .. } => ask.saturating_add(1),
         Line::Note { ask, .. } => ask.saturating_add(1),
     }

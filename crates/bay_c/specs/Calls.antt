@@ -11,6 +11,7 @@ use Rattle.bay_log.specs.Logs.{end_of, unsent_of, beginning, sending, failing, r
 use Rattle.bay.specs.declared.bay.NotNoted.{NotNoted}
 use Rattle.bay.specs.Bays.{BayView, with_log, Resumes, Writes, IsWhyNotNoted}
 use Rattle.bay.specs.declared.restoring.NotBack.{NotBack}
+use Rattle.bay.specs.Refusals.{IsWhyNotBack}
 use Rattle.bay.specs.Standings.{HoldsTold}
 use Rattle.bay.specs.Following.{IsNextMoment}
 use Rattle.bay.specs.Views.{core_of}
@@ -61,12 +62,17 @@ IsResumedFor classes terms journal now x used =
 abbrev pub IsInsideBack : List BayClass → BayTerms → List ℕ → ℕ → Inside → ℕ → Type 0
 IsInsideBack classes terms journal now (Open x) used = IsResumedFor classes terms journal now x used
 
+-- why no such bay comes back from the journal
+abbrev pub IsWhyNotBackFor : List BayClass → BayTerms → List ℕ → NotBack → Type 0
+IsWhyNotBackFor classes terms journal why = IsWhyNotBack (map class_of classes) terms.bay journal why
+
 -- an empty handle has it (0); or there is none for this reason, and the handle is as it was; or it is in use, and stays as it is (11)
 abbrev pub ComesFrom : List BayClass → BayTerms → List ℕ → ℕ → Option Inside → Option Inside → Read → Read → ℕ → Type 0
 ComesFrom classes terms journal now (Some held) new told told' status = (status ≡ 11) × (new ≡ Some held) × (told' ≡ told)
 ComesFrom classes terms journal now None new told told' status =
     ((status ≡ 0) × (h : Inside) × (new ≡ Some h) × IsInsideBack classes terms journal now h told'.used × (told'.fault ≡ told.fault))
-    ⊎ ((new ≡ None) × (why : NotBack) × (status ≡ not_back_status why) × (told' ≡ read told.used (not_back_number why)))
+    ⊎ ((new ≡ None) × (why : NotBack) × IsWhyNotBackFor classes terms journal why × (status ≡ not_back_status why)
+    × (told' ≡ read told.used (not_back_number why)))
 
 -- ---- calls on a bay
 

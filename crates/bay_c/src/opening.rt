@@ -1,6 +1,6 @@
 //! How a handle gets a bay, and how that goes.
 ghost use Rattle.std.specs.Prelude.{◌≡◌, IfOk, IfErr};
-ghost use Rattle.bay_c.specs.Calls.{IsOpenedFor, IsInsideFor, IsWhyNotOpened, Opens, IsResumedFor, IsInsideBack, read, ComesFrom, Frees};
+ghost use Rattle.bay_c.specs.Calls.{IsOpenedFor, IsInsideFor, IsWhyNotOpened, Opens, IsResumedFor, IsInsideBack, IsWhyNotBackFor, read, ComesFrom, Frees};
 
 use crate::handle::{Handle, claim, put, release, take};
 use crate::inside::Inside;
@@ -76,7 +76,8 @@ fn bay_from(
     journal: &[u8],
     now: u64,
 ) -> Result<(Bay, usize), NotBack>
-    ensures { IfOk result (λ r. IsResumedFor classes.now terms.now journal.now now r.0 r.1) }
+    ensures back { IfOk result (λ r. IsResumedFor classes.now terms.now journal.now now r.0 r.1) }
+    ensures why { IfErr result (λ why. IsWhyNotBackFor classes.now terms.now journal.now why) }
 {
     let Ok(made) = classes_of(alloc, classes) else {
         return Err(NotBack::NoMemory);
@@ -103,7 +104,8 @@ fn boxed_from(
     journal: &[u8],
     now: u64,
 ) -> Result<(Box<Inside, Global>, usize), NotBack>
-    ensures { IfOk result (λ r. IsInsideBack classes.now terms.now journal.now now r.0.value r.1) }
+    ensures back { IfOk result (λ r. IsInsideBack classes.now terms.now journal.now now r.0.value r.1) }
+    ensures why { IfErr result (λ why. IsWhyNotBackFor classes.now terms.now journal.now why) }
 {
     let (bay, used) = bay_from(alloc, classes, terms, journal, now)?;
     match Box::new(alloc, Inside::Open(bay)) {

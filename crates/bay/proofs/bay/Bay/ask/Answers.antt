@@ -14,5 +14,5 @@ invariant_of-self c =
       held = logged_result (Asks c.args.sets.now c.args.request c.args.now x.room room) c.ask.result x.room room x.log c.ask.ensures.asks
           (after_asks c.args.sets.now c.args.request c.args.now x.room room x.log) c.ask.ensures.refused i.held;
       ended = through_result (λ (b : BookView). IsEnded b x.log.lines) (Asks c.args.sets.now c.args.request c.args.now x.room room) c.ask.result x.room room c.ask.ensures.asks
-          (through_asks (λ (b : BookView). IsEnded b x.log.lines) (ended_kept x.log.lines) c.args.sets.now c.args.request c.args.now x.room room) c.ask.ensures.refused i.ended;
+          (through_asks (λ (b : BookView). IsEnded b x.log.lines) x.room (ended_kept x.room.terms.keeps x.log.lines) c.args.sets.now c.args.request c.args.now room) c.ask.ensures.refused i.ended;
     }

@@ -10,5 +10,5 @@ invariant_of-self c =
     let x = c.self.inside in let i = c.self.invariant in
     record {
       held = after_goes c.args.number c.args.now x.room c.gone.new.self x.log c.gone.ensures i.held;
-      ended = through_goes (λ (b : BookView). IsEnded b x.log.lines) (ended_kept x.log.lines) c.args.number c.args.now x.room c.gone.new.self c.gone.ensures i.ended;
+      ended = through_goes (λ (b : BookView). IsEnded b x.log.lines) x.room (ended_kept x.room.terms.keeps x.log.lines) c.args.number c.args.now c.gone.new.self c.gone.ensures i.ended;
     }

@@ -10,5 +10,5 @@ invariant_of-self c =
     let x = c.self.inside in let i = c.self.invariant in
     record {
       held = after_leaves c.args.number c.args.now x.room c.leave.new.self x.log c.leave.ensures i.held;
-      ended = through_leaves (λ (b : BookView). IsEnded b x.log.lines) (ended_kept x.log.lines) c.args.number c.args.now x.room c.leave.new.self c.leave.ensures i.ended;
+      ended = through_leaves (λ (b : BookView). IsEnded b x.log.lines) x.room (ended_kept x.room.terms.keeps x.log.lines) c.args.number c.args.now c.leave.new.self c.leave.ensures i.ended;
     }

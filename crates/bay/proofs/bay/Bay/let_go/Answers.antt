@@ -15,5 +15,5 @@ invariant_of-self c =
       held = logged_result (Ends LetGo c.args.number c.args.now x.room room) c.let_go.result x.room room x.log c.let_go.ensures.ends
           (after_ends LetGo c.args.number c.args.now x.room room x.log) c.let_go.ensures.refused i.held;
       ended = through_result (λ (b : BookView). IsEnded b x.log.lines) (Ends LetGo c.args.number c.args.now x.room room) c.let_go.result x.room room c.let_go.ensures.ends
-          (through_ends (λ (b : BookView). IsEnded b x.log.lines) (ended_kept x.log.lines) LetGo c.args.number c.args.now x.room room) c.let_go.ensures.refused i.ended;
+          (through_ends (λ (b : BookView). IsEnded b x.log.lines) x.room (ended_kept x.room.terms.keeps x.log.lines) LetGo c.args.number c.args.now room) c.let_go.ensures.refused i.ended;
     }

@@ -10,5 +10,5 @@ invariant_of-self c =
     let x = c.self.inside in let i = c.self.invariant in
     record {
       held = after_stops c.args.now x.room c.stop.new.self x.log c.stop.ensures i.held;
-      ended = through_stops (λ (b : BookView). IsEnded b x.log.lines) (ended_kept x.log.lines) c.args.now x.room c.stop.new.self c.stop.ensures i.ended;
+      ended = through_stops (λ (b : BookView). IsEnded b x.log.lines) x.room (ended_kept x.room.terms.keeps x.log.lines) c.args.now c.stop.new.self c.stop.ensures i.ended;
     }

@@ -15,5 +15,5 @@ invariant_of-self c =
       held = logged_result (Ends TakenAway c.args.number c.args.now x.room room) c.take_away.result x.room room x.log c.take_away.ensures.ends
           (after_ends TakenAway c.args.number c.args.now x.room room x.log) c.take_away.ensures.refused i.held;
       ended = through_result (λ (b : BookView). IsEnded b x.log.lines) (Ends TakenAway c.args.number c.args.now x.room room) c.take_away.result x.room room c.take_away.ensures.ends
-          (through_ends (λ (b : BookView). IsEnded b x.log.lines) (ended_kept x.log.lines) TakenAway c.args.number c.args.now x.room room) c.take_away.ensures.refused i.ended;
+          (through_ends (λ (b : BookView). IsEnded b x.log.lines) x.room (ended_kept x.room.terms.keeps x.log.lines) TakenAway c.args.number c.args.now room) c.take_away.ensures.refused i.ended;
     }

@@ -10,5 +10,5 @@ invariant_of-self c =
     let x = c.self.inside in let i = c.self.invariant in
     record {
       held = after_tells c.args.done x.room c.tell.new.self c.tell.result x.log c.tell.ensures i.held;
-      ended = through_tells (λ (b : BookView). IsEnded b x.log.lines) (ended_kept x.log.lines) c.args.done x.room c.tell.new.self c.tell.result c.tell.ensures i.ended;
+      ended = through_tells (λ (b : BookView). IsEnded b x.log.lines) x.room (ended_kept x.room.terms.keeps x.log.lines) c.args.done c.tell.new.self c.tell.result c.tell.ensures i.ended;
     }

@@ -10,5 +10,5 @@ invariant_of-self c =
     let x = c.self.inside in let i = c.self.invariant in
     record {
       held = after_passes c.args.now x.room c.time.new.self x.log c.time.ensures i.held;
-      ended = through_passes (λ (b : BookView). IsEnded b x.log.lines) (ended_kept x.log.lines) c.args.now x.room c.time.new.self c.time.ensures i.ended;
+      ended = through_passes (λ (b : BookView). IsEnded b x.log.lines) x.room (ended_kept x.room.terms.keeps x.log.lines) c.args.now c.time.new.self c.time.ensures i.ended;
     }
