@@ -65,6 +65,8 @@ extern "C" {
 #define LAB_TAKEN 7u
 #define LAB_REPLACED 8u
 #define LAB_STOPPED 9u
+/* of lab_bay_look alone */
+#define LAB_WAITS 10u
 
 /* What C keeps of a bay: all zero before it is opened, as `struct lab_bench`, whose rules are those of this handle. */
 struct lab_bay {
@@ -102,6 +104,15 @@ struct lab_outcome {
     uint64_t needs;  /* of LAB_HOLDS: the instruments that it holds */
     uint32_t what;   /* LAB_HOLDS, or how it is over */
     uint32_t unused;
+};
+
+struct lab_standing {
+    uint64_t number;
+    uint64_t owner[2];
+    uint64_t needs; /* the instruments that it holds; none if it doesn't hold */
+    uint64_t since; /* since when it asks, and then since when it holds */
+    uint32_t kind;  /* its class */
+    uint32_t what;  /* LAB_HOLDS, LAB_WAITS, or how it is over */
 };
 
 /* Opens a bay in which nobody is, with so many classes (32 at most). 0; 5; 11; 22 if there are more. */
@@ -155,6 +166,10 @@ uint32_t lab_bay_failed(struct lab_bay *bay);
 
 /* What is told next, and to whom. It is told again until its serial number is given back as `done` (at first 0). 0; 8 if there is nothing; 7. */
 uint32_t lab_bay_tell(struct lab_bay *bay, uint64_t done, struct lab_outcome *outcome);
+
+/* How the ask at this place of the bay's book stands, counted from 0: so a shell knows who came back from the journal, for one. `*next` is the least
+   number that the next ask may have. An ask that is over is in the book until it was told so. 0; 7; 8 if there is none, and `*next` is told. */
+uint32_t lab_bay_look(struct lab_bay *bay, size_t place, struct lab_standing *standing, uint64_t *next);
 
 /* Frees the bay. The handle is empty then. 0; 7. */
 uint32_t lab_bay_free(struct lab_bay *bay);

@@ -85,7 +85,9 @@ static void taken(const char *text, size_t length, uint64_t behind, int line) {
 /* Each call answers this, and writes nothing. */
 static void each_answers(uint32_t wanted) {
     static const struct lab_outcome no_outcome = {77, 77, 77, 77, 77};
+    static const struct lab_standing no_standing = {77, {77, 77}, 77, 77, 77, 77};
     struct lab_outcome outcome = no_outcome;
+    struct lab_standing standing = no_standing;
     uint8_t text[8] = "1234567";
     uint64_t number = 77, position = 77;
     size_t written = 77;
@@ -103,9 +105,11 @@ static void each_answers(uint32_t wanted) {
     IS(lab_bay_durable(&bay, 1000000) == wanted);
     IS(lab_bay_failed(&bay) == wanted);
     IS(lab_bay_tell(&bay, asking, &outcome) == wanted);
+    IS(lab_bay_look(&bay, 0, &standing, &number) == wanted);
     IS(lab_bay_free(&bay) == wanted);
     IS(number == 77 && position == 77 && written == 77 && memcmp(text, "1234567", 8) == 0);
     IS(memcmp(&outcome, &no_outcome, sizeof outcome) == 0);
+    IS(memcmp(&standing, &no_standing, sizeof standing) == 0);
 }
 
 static void handles(void) {
@@ -580,6 +584,47 @@ static void durable_beyond(void) {
     freed();
 }
 
+/* The ask at this place, and the least number of the next. */
+static void at_place(unsigned line, size_t place, struct lab_standing wanted, uint64_t least) {
+    struct lab_standing it = {77, {77, 77}, 77, 77, 77, 77};
+    uint64_t next = 77;
+    uint32_t status = lab_bay_look(&bay, place, &it, &next);
+    expect(status == LAB_DONE && memcmp(&it, &wanted, sizeof it) == 0 && next == least,
+           "line %u: status %u, ask %llu of %llx %llx needs %llx since %llu, class %u, %u; next %llu", line, status, (unsigned long long)it.number,
+           (unsigned long long)it.owner[0], (unsigned long long)it.owner[1], (unsigned long long)it.needs, (unsigned long long)it.since, it.kind, it.what,
+           (unsigned long long)next);
+}
+
+static void no_place(unsigned line, size_t place, uint64_t least) {
+    static const struct lab_standing none = {77, {77, 77}, 77, 77, 77, 77};
+    struct lab_standing it = none;
+    uint64_t next = 77;
+    uint32_t status = lab_bay_look(&bay, place, &it, &next);
+    expect(status == LAB_NOT_YET && memcmp(&it, &none, sizeof it) == 0 && next == least, "line %u: status %u, next %llu", line, status, (unsigned long long)next);
+}
+
+static void looks(void) {
+    opened(100, LAB_NEVER, LAB_NEVER, 64, 0);
+    no_place(__LINE__, 0, 0);
+    IS(ask_as(7, UINT64_MAX, 3, 1, LAB_NEVER, LAB_NEVER, 4, SETS(4)) == LAB_DONE);
+    IS(ask_as(UINT64_MAX, 9, 5, 0, 20, LAB_NEVER, 6, SETS(4)) == LAB_DONE);
+    at_place(__LINE__, 0, (struct lab_standing){3, {7, UINT64_MAX}, 4, 4, 1, LAB_HOLDS}, 6);
+    at_place(__LINE__, 1, (struct lab_standing){5, {UINT64_MAX, 9}, 0, 6, 0, LAB_WAITS}, 6);
+    no_place(__LINE__, 2, 6);
+    no_place(__LINE__, SIZE_MAX, 6);
+    TOLD(3, LAB_HOLDS, 4);
+    IS(lab_bay_let_go(&bay, 3, 9) == LAB_DONE);
+    at_place(__LINE__, 0, (struct lab_standing){3, {7, UINT64_MAX}, 0, 4, 1, LAB_LET_GO}, 6);
+    at_place(__LINE__, 1, (struct lab_standing){5, {UINT64_MAX, 9}, 4, 9, 0, LAB_HOLDS}, 6);
+    no_place(__LINE__, 2, 6);
+    TOLD(3, LAB_LET_GO, 0);
+    TOLD(5, LAB_HOLDS, 4);
+    QUIET();
+    at_place(__LINE__, 0, (struct lab_standing){5, {UINT64_MAX, 9}, 4, 9, 0, LAB_HOLDS}, 6);
+    no_place(__LINE__, 1, 6);
+    freed();
+}
+
 static void stops(void) {
     opened(100, LAB_NEVER, LAB_NEVER, 64, 0);
     IS(ask_one(1, 0, 1, 0) == LAB_DONE);
@@ -763,6 +808,7 @@ static void comes_back(void) {
     TEXT("", 384);
     DUE(59, 60);
     needs = 77;
+    at_place(__LINE__, 0, (struct lab_standing){5, {7, 9}, 3, 4, 0, LAB_HOLDS}, 7);
     IS(lab_bay_back(&bay, 5, 7, 8, 59, &needs) == LAB_BAY_OVER && needs == 77);
     IS(lab_bay_back(&bay, 5, 7, 9, 59, &needs) == LAB_DONE && needs == 3);
     IS(ask_one(6, 0, 4, 59) == LAB_BAY_NUMBER);
@@ -793,6 +839,7 @@ int main(void) {
     told_late();
     disk_until_the_deadline();
     durable_beyond();
+    looks();
     stops();
     journals();
     comes_back();

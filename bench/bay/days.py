@@ -21,7 +21,7 @@ import model  # noqa: E402
 NEVER = 2**64 - 1
 DONE, NO_ROOM, NOT_YET, OVER = 0, 6, 8, 26
 WHY = {"number": 20, "stopped": 21, "no_class": 22, "empty": 23, "may_not_use": 24, "line_full": 25, "over": OVER, "owner": 29, "not_now": NOT_YET}
-WHAT = ["holds", "let_go", "left", "lapsed", "not_written", "limit", "grace", "taken_away", "replaced", "stopped"]
+WHAT = ["holds", "let_go", "left", "lapsed", "not_written", "limit", "grace", "taken_away", "replaced", "stopped", "waits"]
 
 
 class Handle(ctypes.Structure):
@@ -45,6 +45,11 @@ class Asked(ctypes.Structure):
 class Outcome(ctypes.Structure):
     _fields_ = [("serial", ctypes.c_uint64), ("number", ctypes.c_uint64), ("needs", ctypes.c_uint64), ("what", ctypes.c_uint32)]
     _fields_ += [("unused", ctypes.c_uint32)]
+
+
+class Standing(ctypes.Structure):
+    _fields_ = [("number", ctypes.c_uint64), ("owner", ctypes.c_uint64 * 2), ("needs", ctypes.c_uint64), ("since", ctypes.c_uint64)]
+    _fields_ += [("kind", ctypes.c_uint32), ("what", ctypes.c_uint32)]
 
 
 def moment(it):
@@ -93,6 +98,13 @@ class Machine:
         position = ctypes.c_uint64()
         status = self.call("note", ctypes.c_uint64(number), text, ctypes.c_size_t(len(text)), ctypes.byref(position))
         return status, position.value
+
+    def looks(self):
+        """The asks in its book, and the least number of the next."""
+        asks, least, it = [], ctypes.c_uint64(), Standing()
+        while self.call("look", ctypes.c_size_t(len(asks)), ctypes.byref(it), ctypes.byref(least)) == DONE:
+            asks.append((it.number, it.owner[0] << 64 | it.owner[1], it.needs, it.since, it.kind, WHAT[it.what]))
+        return asks, least.value
 
     def journal(self):
         room, written, position = 1 << 16, ctypes.c_size_t(), ctypes.c_uint64()
@@ -238,11 +250,19 @@ class Day:
             self.model.stop(self.now)
             same("stop", DONE, self.machine.call("stop", ctypes.c_uint64(self.now)))
 
+    def looks(self):
+        """Each ask that isn't over is in the book, and stands there as by the model."""
+        asks, least = self.machine.looks()
+        standing = [(it.number, it.owner, it.needs, it.since, it.kind, it.stage) for it in self.model.asks if it.stage != model.OVER]
+        same("who asks and who holds", sorted(standing), sorted(it for it in asks if it[-1] in (model.WAITS, model.HOLDS)))
+        same("the next number", self.model.next, least)
+
     def goes(self, calls):
         ways = [self.asks] * 4 + [self.acts] * 4 + [self.returns, self.crashes, self.notes, self.writes, self.writes, self.tells, self.tells, self.tells, self.passes, self.stops]
         for _ in range(calls):
             self.dice.choice(ways)()
             self.model.check()
+            self.looks()
 
 
 def main(words):

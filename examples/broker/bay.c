@@ -275,18 +275,20 @@ static void *runs(void *given) {
     return NULL;
 }
 
-/* What the journal tells of the stations: the last ask of each that held, and which session was noted by which. */
-static void read_journal(char *text) {
+/* Whose ask is back, by the bay; and which session of each station was noted by which ask, by the journal. */
+static void who_is_back(char *journal) {
+    struct lab_standing it;
+    uint64_t least;
     char *rest;
-    for (char *line = strtok_r(text, "\n", &rest); line; line = strtok_r(NULL, "\n", &rest)) {
-        uint64_t ask = 0, owner;
+    for (size_t at = 0; lab_bay_look(&bay, at, &it, &least) == LAB_DONE; at++)
+        if (it.owner[1] - 1 < asker_count) askers[it.owner[1] - 1].number = it.number;
+    if (least > next_number) next_number = least;
+    for (char *line = strtok_r(journal, "\n", &rest); line; line = strtok_r(NULL, "\n", &rest)) {
+        uint64_t ask;
         uint32_t session, number;
         /* (a sum of 16 digits and a blank are before the words: docs/BAY.md) */
-        if (sscanf(line + 17, "hold %16" SCNx64 " %*8x %*16x %*16x%16" SCNx64, &ask, &owner) == 2 && owner - 1 < asker_count)
-            askers[owner - 1].number = ask;
         if (sscanf(line + 17, "note %16" SCNx64 " session %" SCNu32 " of station %" SCNu32, &ask, &session, &number) == 3 && number - 1 < asker_count)
             stations[number - 1].noted = session, stations[number - 1].noted_by = ask;
-        if (ask >= next_number) next_number = ask + 1;
     }
 }
 
@@ -304,7 +306,7 @@ int main(int count, char **words) {
     struct lab_class all = {.uses = (1u << INSTRUMENTS) - 1, .places = 3};
     struct lab_terms terms = {.bay = "five instruments of bay.c", .line = 2 * MOST, .grace = 10000, .disk = 1000, .overtakes = 4, .keeps = 1};
     char *journal = open_bay(in_folder(path, sizeof path, "journal"), &all, 1, &terms);
-    read_journal(journal);
+    who_is_back(journal);
     free(journal);
     uint32_t back = 0, done = 0, lapsed = 0;
     for (uint32_t at = 0; at < asker_count; at++) {

@@ -3,6 +3,7 @@ use Rattle.std.specs.Prelude.{◌≡◌, ◌⊎◌, ℕ, ◌<◌, ◌≤◌, Lis
 use Rattle.std.specs.declared.alloc.AllocError.{AllocError}
 use Rattle.bay_book.specs.declared.ask.End.{End}
 use Rattle.bay_book.specs.declared.ask.End.TheVariants.{LetGo, TakenAway}
+use Rattle.bay_book.specs.Asks.{ask_at}
 use Rattle.bay.specs.declared.request.NotAsked.{NotAsked}
 use Rattle.bay.specs.declared.request.NotHeld.{NotHeld}
 use Rattle.bay.specs.declared.telling.Told.{Told}
@@ -22,7 +23,8 @@ use Rattle.bay_c.specs.declared.told.BayClass.{BayClass}
 use Rattle.bay_c.specs.declared.told.BayTerms.{BayTerms}
 use Rattle.bay_c.specs.declared.told.BayAsked.{BayAsked}
 use Rattle.bay_c.specs.declared.told.BayOutcome.{BayOutcome}
-use Rattle.bay_c.specs.Telling.{class_of, terms_of, request_of, outcome_of, number_of}
+use Rattle.bay_c.specs.declared.told.BayStanding.{BayStanding}
+use Rattle.bay_c.specs.Telling.{class_of, terms_of, request_of, outcome_of, standing_of, number_of}
 use Rattle.bay_c.specs.Telling.{refusal_status, not_held_status, not_noted_status, not_back_status, not_back_number}
 
 -- ---- opening
@@ -132,6 +134,21 @@ IsTold None told told' status = (status ≡ 8) × (told' ≡ told)
 -- what is told next (0), or there is nothing (8)
 abbrev pub TellsIt : ℕ → BayView → BayView → BayOutcome → BayOutcome → ℕ → Type 0
 TellsIt done a b told told' status = (t : Option Told) × Tells done a.room t b.room × (b.log ≡ a.log) × IsTold t told told' status
+
+-- how an ask stands, and the least number that the next one may have
+pub record Looked : Type 0 where
+  pub standing : BayStanding
+  pub next : ℕ
+
+abbrev pub looked : BayStanding → ℕ → Looked
+looked standing next = record { standing = standing; next = next }
+
+-- how the ask at this place of the book stands is told (0), or there is none (8); in both cases the next number is told, and nothing changed
+abbrev pub Looks : ℕ → BayView → BayView → Looked → Looked → ℕ → Type 0
+Looks place a b told told' status =
+    (b ≡ a) × (told'.next ≡ a.room.book.next)
+    × (((status ≡ 0) × (place < length a.room.book.asks) × (told'.standing ≡ standing_of (ask_at a.room.book.asks place)))
+    ⊎ ((status ≡ 8) × (length a.room.book.asks ≤ place) × (told'.standing ≡ told.standing)))
 
 -- the bay is gone, and the handle is empty (0); or it was (7)
 abbrev pub Frees : Option Inside → Option Inside → ℕ → Type 0

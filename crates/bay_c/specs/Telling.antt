@@ -1,8 +1,11 @@
 -- For readers: what C hands in, and what it is told, number by number.
-use Rattle.std.specs.Prelude.{ℕ, ◌+◌, ◌*◌, ◌==◌, not, if◌then◌else◌, Option, Some, None}
+use Rattle.std.specs.Prelude.{ℕ, ◌+◌, ◌*◌, ◌/◌, ◌%◌, ◌==◌, not, if◌then◌else◌, Option, Some, None}
 use Rattle.bay_book.specs.declared.ask.End.TheVariants.{LetGo, Left, Lapsed, NotWritten, Limit, Grace, TakenAway, Replaced, Stopped as EndStopped}
+use Rattle.bay_book.specs.declared.ask.Ask.{Ask}
 use Rattle.bay_book.specs.declared.ask.Outcome.{Outcome}
 use Rattle.bay_book.specs.declared.ask.Outcome.TheVariants.{Holds, Over as IsOver}
+use Rattle.bay_book.specs.declared.ask.Stage.{Stage}
+use Rattle.bay_book.specs.declared.ask.Stage.TheVariants.{Waits as IsWaiting, Holds as IsHolding, Over as IsEnded}
 use Rattle.bay.specs.declared.classes.Class.{Class}
 use Rattle.bay.specs.declared.request.NotAsked.{NotAsked}
 use Rattle.bay.specs.declared.request.NotAsked.TheVariants.{Stopped, Number, NoClass, Empty, MayNotUse, OwnerTaken, LineFull, NoMemory}
@@ -21,6 +24,7 @@ use Rattle.bay_c.specs.declared.told.BayClass.{BayClass}
 use Rattle.bay_c.specs.declared.told.BayTerms.{BayTerms}
 use Rattle.bay_c.specs.declared.told.BayAsked.{BayAsked}
 use Rattle.bay_c.specs.declared.told.BayOutcome.{BayOutcome}
+use Rattle.bay_c.specs.declared.told.BayStanding.{BayStanding}
 
 -- the greatest number is no moment, and no limit
 abbrev pub moment : ℕ → Option ℕ
@@ -56,6 +60,23 @@ what_of (IsOver EndStopped) = 9
 
 abbrev pub outcome_of : Told → BayOutcome
 outcome_of t = record { serial = t.serial; number = t.number; needs = t.needs; what = what_of t.outcome; unused = 0 }
+
+-- it holds (0), is over, and how (1 to 9), or waits (10)
+abbrev pub stage_of : Stage → ℕ
+stage_of IsHolding = what_of Holds
+stage_of (IsEnded end) = what_of (IsOver end)
+stage_of IsWaiting = 10
+
+abbrev pub standing_of : Ask → BayStanding
+standing_of a = record {
+  number = a.number;
+  owner_high = a.owner / 18446744073709551616;
+  owner_low = a.owner % 18446744073709551616;
+  needs = a.needs;
+  since = a.since;
+  class = a.class;
+  what = stage_of a.stage;
+}
 
 -- ---- statuses
 

@@ -14,4 +14,4 @@ mod writing;
 pub use handle::{BUSY, Handle, IN_USE, NOT_OPEN};
 pub use inside::Inside;
 pub use slot::Slot;
-pub use told::{BayAsked, BayClass, BayOutcome, BayTerms};
+pub use told::{BayAsked, BayClass, BayOutcome, BayStanding, BayTerms};

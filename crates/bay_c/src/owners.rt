@@ -1,11 +1,11 @@
 //! What whoever asks calls, and whoever looks after the bay.
 ghost use Rattle.std.specs.Prelude.{◌≡◌, ◌+◌, ◌*◌};
-ghost use Rattle.bay_c.specs.Calls.{InBay, AsksFor, LetsGo, TakesAway, LeavesIt, GoesAway, Returns, StopsAt, TellsIt};
+ghost use Rattle.bay_c.specs.Calls.{InBay, AsksFor, LetsGo, TakesAway, LeavesIt, GoesAway, Returns, StopsAt, TellsIt, looked, Looks};
 
 use crate::handle::{Handle, put, take};
 use crate::inside::Inside;
 use crate::statuses::{NOTHING, OVER, not_held_status, refusal_status};
-use crate::told::{BayAsked, BayOutcome, outcome_of, request_of};
+use crate::told::{BayAsked, BayOutcome, BayStanding, outcome_of, request_of, standing_of};
 use bay::Bay;
 use std::alloc::Global;
 
@@ -65,6 +65,17 @@ fn tell_in(machine: &mut Bay, done: u64, outcome: &mut BayOutcome) -> u32
         }
         None => NOTHING,
     }
+}
+
+fn look_in(machine: &Bay, place: usize, standing: &mut BayStanding, next: &mut u64) -> u32
+    ensures { Looks place machine.now machine.now (looked standing.old next.old) (looked standing.new next.new) result }
+{
+    *next = machine.next_number();
+    if place >= machine.len() {
+        return NOTHING;
+    }
+    *standing = standing_of(machine.ask_at(place));
+    0
 }
 
 /// Somebody asks for one of these sets, whichever is free first. It takes memory.
@@ -210,6 +221,28 @@ pub extern "C" fn lab_bay_tell(
     };
     let status = match &mut *inside {
         Inside::Open(machine) => tell_in(machine, done, outcome),
+    };
+    put(&mut bay.slot, &mut bay.live, inside);
+    status
+}
+
+/// How the ask at this place of the book stands, and the least number that the next ask may have.
+#[unsafe(no_mangle)]
+pub extern "C" fn lab_bay_look(
+    alloc: Global,
+    bay: &mut Handle,
+    place: usize,
+    standing: &mut BayStanding,
+    next: &mut u64,
+) -> u32
+    ensures { InBay (Looks place) bay.old.slot.held bay.new.slot.held (looked standing.old next.old) (looked standing.new next.new) result }
+{
+    let mut inside = match take(&mut bay.slot, &mut bay.live, alloc) {
+        Ok(inside) => inside,
+        Err(status) => return status,
+    };
+    let status = match &mut *inside {
+        Inside::Open(machine) => look_in(machine, place, standing, next),
     };
     put(&mut bay.slot, &mut bay.live, inside);
     status

@@ -1,9 +1,9 @@
 //! What C hands in, and what it is told.
 ghost use Rattle.std.specs.Prelude.{◌≡◌, map, IfOk};
-ghost use Rattle.bay_c.specs.Telling.{moment, class_of, terms_of, request_of, what_of, outcome_of};
+ghost use Rattle.bay_c.specs.Telling.{moment, class_of, terms_of, request_of, what_of, outcome_of, stage_of, standing_of};
 
 use bay::{Class, Request, Terms, Told};
-use bay_book::{End, Outcome};
+use bay_book::{Ask, End, Outcome, Stage};
 use std::alloc::{AllocError, Global};
 
 /// A class. In C: `struct lab_class { uint64_t uses; uint32_t places, unused; };`
@@ -62,6 +62,23 @@ pub struct BayOutcome {
     /// 0: it holds; 1 to 9: it is over, and how.
     pub what: u32,
     pub unused: u32,
+}
+
+/// How an ask stands. In C: `struct lab_standing { uint64_t number, owner[2], needs, since; uint32_t kind, what; };`
+#[repr(C)]
+#[derive(Clone, Copy)]
+pub struct BayStanding {
+    pub number: u64,
+    /// The high 64 bits of who asked.
+    pub owner_high: u64,
+    pub owner_low: u64,
+    /// The instruments that it holds.
+    pub needs: u64,
+    /// Since when it asks, or holds.
+    pub since: u64,
+    pub class: u32,
+    /// 0: it holds; 1 to 9: it is over, and how; 10: it waits.
+    pub what: u32,
 }
 
 /// A moment, or none.
@@ -146,5 +163,29 @@ pub(crate) fn outcome_of(told: Told) -> BayOutcome
         needs: told.needs,
         what: what_of(told.outcome),
         unused: 0,
+    }
+}
+
+fn stage_of(stage: Stage) -> u32
+    ensures { result ≡ stage_of stage }
+{
+    match stage {
+        Stage::Holds => what_of(Outcome::Holds),
+        Stage::Over(end) => what_of(Outcome::Over(end)),
+        Stage::Waits => 10,
+    }
+}
+
+pub(crate) fn standing_of(ask: Ask) -> BayStanding
+    ensures { result ≡ standing_of ask }
+{
+    BayStanding {
+        number: ask.number,
+        owner_high: (ask.owner / 18446744073709551616) as u64,
+        owner_low: (ask.owner % 18446744073709551616) as u64,
+        needs: ask.needs,
+        since: ask.since,
+        class: ask.class,
+        what: stage_of(ask.stage),
     }
 }
