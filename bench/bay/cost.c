@@ -5,6 +5,7 @@
                                       SHAPE: disjoint (an instrument each), ring (one's own and the next one's), one (all the same);
                                       CLASSES: each, with a place of its own for each client, or all, with one class that has a place for each;
                                       KEEPS: 0 without a journal, 1 with one that is taken after each change and durable at once
+     ./cost lab SHAPE CLIENTS SESSIONS        the same at a lab of one handle: lab_add, lab_settle and lab_end, without a journal
      ./cost journal SESSIONS FILE             writes the journal of so many sessions
      ./cost resume FILE                       a bay comes back from it; prints the time
 
@@ -82,6 +83,53 @@ static void sessions(const char *shape, long how_many) {
     for (long at = 0; at < how_many; at++) session();
 }
 
+/* ---- a lab of one handle */
+
+static struct lab_bench lab;
+static uint32_t waiting;
+static char adding[MOST][64];
+
+static void lab_asks(uint32_t client) {
+    struct lab_told told;
+    must(lab_add(&lab, client, (const uint8_t *)adding[client], strlen(adding[client]), &told));
+    waiting |= (uint32_t)1 << client;
+}
+
+static void lab_settles(void) {
+    struct lab_came came;
+    must(lab_settle(&lab, waiting, &came));
+    waiting &= ~came.holds;
+    for (uint32_t client = 0; client < clients; client++)
+        if (came.holds >> client & 1) line[(first + count++) % MOST] = client;
+}
+
+static void lab_sessions(const char *shape, long how_many) {
+    static char script[MOST * 40];
+    struct lab_told told;
+    size_t length = (size_t)sprintf(script, "bench 1\n");
+    for (uint32_t at = 0; at < clients; at++) {
+        uint32_t own = *shape == 'o' ? 0 : at, next = (at + 1) % clients;
+        char more[24] = "";
+        length += (size_t)sprintf(script + length, "job j%u\nuses i%u", at, own);
+        if (*shape == 'r') length += (size_t)sprintf(script + length, " i%u", next), sprintf(more, "i%u read\n", next);
+        script[length++] = '\n';
+        sprintf(adding[at], "session\ni%u read\n%send\n", own, more);
+    }
+    must(lab_bench_open((const uint8_t *)script, length, &lab, &told));
+    for (uint32_t at = 0; at < clients; at++) lab_asks(at);
+    lab_settles();
+    for (long at = 0; at < how_many; at++) {
+        if (!count) exit(70);
+        uint32_t client = (uint32_t)line[first];
+        first = (first + 1) % MOST;
+        count--;
+        struct lab_turned turned;
+        must(lab_end(&lab, client, &turned));
+        lab_asks(client);
+        lab_settles();
+    }
+}
+
 static double seconds(void) {
     struct timespec time;
     clock_gettime(CLOCK_MONOTONIC, &time);
@@ -110,6 +158,12 @@ int main(int words, char **word) {
         if (!file) return 70;
         sessions("disjoint", atol(word[2]));
         return fclose(file) != 0;
+    }
+    if (words == 5 && strcmp(word[1], "lab") == 0) {
+        clients = (uint32_t)atol(word[3]);
+        if (clients < 1 || clients > MOST) return 2;
+        lab_sessions(word[2], atol(word[4]));
+        return 0;
     }
     if (words != 6) return 2;
     clients = (uint32_t)atol(word[2]);
