@@ -1,6 +1,7 @@
 pub mod Members
 pub mod InLine
 pub mod Sets
+pub mod Taken
 pub mod Tied
 pub mod Letting
 pub mod Steps
