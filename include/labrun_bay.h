@@ -9,7 +9,7 @@
      then one of these, and nothing after it
      LAB_LET_GO       it let go, and the journal's line that says so is durable
      LAB_LAPSED       its deadline was over while it waited
-     LAB_NOT_WRITTEN  it came to hold in time, but the journal wasn't durable within the bay's time for the disk (or nobody called lab_bay_tell)
+     LAB_NOT_WRITTEN  it came to hold in time, but the journal's line that says so wasn't durable within the bay's time for the disk
      LAB_LIMIT        it held for longer than its limit, and somebody waited for what it had
      LAB_TAKEN        somebody took it away
      LAB_REPLACED     another ask has what it held
@@ -65,7 +65,7 @@ extern "C" {
 #define LAB_TAKEN 7u
 #define LAB_REPLACED 8u
 #define LAB_STOPPED 9u
-/* of lab_bay_look alone */
+/* of lab_bay_look and lab_bay_keeper alone */
 #define LAB_WAITS 10u
 
 /* What C keeps of a bay: all zero before it is opened, as `struct lab_bench`, whose rules are those of this handle. */
@@ -110,7 +110,7 @@ struct lab_standing {
     uint64_t number;
     uint64_t owner[2];
     uint64_t needs; /* the instruments that it holds; none if it doesn't hold */
-    uint64_t since; /* since when it asks, and then since when it holds */
+    uint64_t since; /* since when it asks, then since when it holds, and then since when it is over */
     uint32_t kind;  /* its class */
     uint32_t what;  /* LAB_HOLDS, LAB_WAITS, or how it is over */
 };
@@ -143,8 +143,7 @@ uint32_t lab_bay_gone(struct lab_bay *bay, uint64_t number, uint64_t now);
 /* The client of an ask is there again; `*needs` is what it holds. The owner has to be the one that asked, the high 64 bits first. 0; 7; 26. */
 uint32_t lab_bay_back(struct lab_bay *bay, uint64_t number, uint64_t owner_high, uint64_t owner_low, uint64_t now, uint64_t *needs);
 
-/* It is this moment. `*next` is the next moment at which something is due, or LAB_NEVER. 0; 7. (Take what there is to tell before: a hold that
-   nobody took within the bay's time for the disk is over, even if the disk was in time.) */
+/* It is this moment. `*next` is the next moment at which something is due, or LAB_NEVER. 0; 7. */
 uint32_t lab_bay_time(struct lab_bay *bay, uint64_t now, uint64_t *next);
 
 /* Nobody is let in any more, and nobody may ask: whoever waits is told LAB_STOPPED. 0; 7. */
@@ -170,6 +169,15 @@ uint32_t lab_bay_tell(struct lab_bay *bay, uint64_t done, struct lab_outcome *ou
 /* How the ask at this place of the bay's book stands, counted from 0: so a shell knows who came back from the journal, for one. `*next` is the least
    number that the next ask may have. An ask that is over is in the book until it was told so. 0; 7; 8 if there is none, and `*next` is told. */
 uint32_t lab_bay_look(struct lab_bay *bay, size_t place, struct lab_standing *standing, uint64_t *next);
+
+/* Who keeps this instrument from the ask with this number, and how it stands: whoever holds it; or else the first in line for which it is kept from
+   that ask. The ask needn't be in the bay any more: it may just have lapsed. From one that isn't in line it is kept for those alone that asked
+   before. 0; 7; 8 if nobody keeps it, or there is no such instrument. */
+uint32_t lab_bay_keeper(struct lab_bay *bay, uint64_t number, uint32_t instrument, struct lab_standing *keeper);
+
+/* The instruments of a set that an ask waits for, and how often it was passed there. Its sets are counted from 0, as it asked for them. 0; 7; 8 if
+   it doesn't wait, or asked for no such set. */
+uint32_t lab_bay_waits(struct lab_bay *bay, uint64_t number, size_t set, uint64_t *needs, uint32_t *passed);
 
 /* Frees the bay. The handle is empty then. 0; 7. */
 uint32_t lab_bay_free(struct lab_bay *bay);

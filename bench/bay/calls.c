@@ -90,6 +90,7 @@ static void each_answers(uint32_t wanted) {
     struct lab_standing standing = no_standing;
     uint8_t text[8] = "1234567";
     uint64_t number = 77, position = 77;
+    uint32_t passed = 77;
     size_t written = 77;
     uint64_t asking = done;
     IS(ask_one(1000000, 0, 1, 0) == wanted);
@@ -106,8 +107,10 @@ static void each_answers(uint32_t wanted) {
     IS(lab_bay_failed(&bay) == wanted);
     IS(lab_bay_tell(&bay, asking, &outcome) == wanted);
     IS(lab_bay_look(&bay, 0, &standing, &number) == wanted);
+    IS(lab_bay_keeper(&bay, 1, 0, &standing) == wanted);
+    IS(lab_bay_waits(&bay, 1, 0, &number, &passed) == wanted);
     IS(lab_bay_free(&bay) == wanted);
-    IS(number == 77 && position == 77 && written == 77 && memcmp(text, "1234567", 8) == 0);
+    IS(number == 77 && position == 77 && passed == 77 && written == 77 && memcmp(text, "1234567", 8) == 0);
     IS(memcmp(&outcome, &no_outcome, sizeof outcome) == 0);
     IS(memcmp(&standing, &no_standing, sizeof standing) == 0);
 }
@@ -195,8 +198,8 @@ static void busy(void) {
     IS(met > 0);
     met = 0;
     watched = 1;
-    IS(lab_bay_journal(&bay, text, sizeof text, &written, &position) == LAB_DONE && written == 252 && position == 252);
-    IS(lab_bay_durable(&bay, 252) == LAB_DONE);
+    IS(lab_bay_journal(&bay, text, sizeof text, &written, &position) == LAB_DONE && written == 269 && position == 269);
+    IS(lab_bay_durable(&bay, 269) == LAB_DONE);
     watched = 0;
     TOLD(1, LAB_HOLDS, 1);
     for (int times = 0; times < 60; times++) {
@@ -517,45 +520,70 @@ static void disks(void) {
 
     /* the line was taken, and isn't on the disk in time: the end is owed, and told at once */
     IS(ask_as(0, 0, 2, 0, 20, LAB_NEVER, 20, SETS(1)) == LAB_DONE);
-    TEXT("20aa50d677a50be0 hold 0000000000000002 00000000 0000000000000001 00000000000000000000000000000000 0000000000000014 ----------------\n", 252);
+    TEXT("f09be3862813d6cb hold 0000000000000002 00000000 0000000000000001 00000000000000000000000000000000 0000000000000014 ---------------- 0000000000000014\n", 269);
     DUE(24, 25);
-    IS(lab_bay_durable(&bay, 251) == LAB_DONE);
+    IS(lab_bay_durable(&bay, 268) == LAB_DONE);
     QUIET();
     DUE(25, LAB_NEVER);
     TOLD(2, LAB_NOT_WRITTEN, 0);
     QUIET();
-    TEXT("0a702ef9935c0592 end 0000000000000002 not_written\n", 302);
+    TEXT("ac4e88d7bbee9fbb end 0000000000000002 not_written 0000000000000019\n", 336);
 
     /* another, in time */
     IS(ask_as(0, 0, 3, 0, 30, LAB_NEVER, 30, SETS(1)) == LAB_DONE);
-    TEXT("ce4029cba9b6e516 hold 0000000000000003 00000000 0000000000000001 00000000000000000000000000000000 000000000000001e ----------------\n", 434);
-    IS(lab_bay_durable(&bay, 434) == LAB_DONE);
+    TEXT("67dd8a2ca832ef7c hold 0000000000000003 00000000 0000000000000001 00000000000000000000000000000000 000000000000001e ---------------- 000000000000001e\n", 485);
+    IS(lab_bay_durable(&bay, 485) == LAB_DONE);
     TOLD(3, LAB_HOLDS, 1);
     DUE(100, LAB_NEVER);
     QUIET();
     freed();
 }
 
-/* Who doesn't ask what there is to tell may find that a hold is over for want of the disk, though the disk was in time; who asks doesn't. */
+#define HOLD1 "642a955447430682 hold 0000000000000001 00000000 0000000000000001 00000000000000000000000000000000 000000000000000a ---------------- 000000000000000a\n"
+#define HOLD2 "d890ff159fe81aa1 hold 0000000000000002 00000001 0000000000000004 00000000000000000000000000000000 000000000000000a 000000000000000f 000000000000000a\n"
+
+/* The disk alone can be late: a hold that is written, or has no line, is told however late the shell asks. */
 static void told_late(void) {
-    for (int asks = 0; asks < 2; asks++) {
-        opened(100, LAB_NEVER, 5, 64, 1);
-        IS(ask_as(0, 0, 1, 0, 10, LAB_NEVER, 10, SETS(1)) == LAB_DONE);
-        TEXT(BAY_HEAD "151585b327d0ca5c hold 0000000000000001 00000000 0000000000000001 00000000000000000000000000000000 000000000000000a ----------------\n", 252);
-        IS(lab_bay_durable(&bay, 252) == LAB_DONE);
-        if (asks) TOLD(1, LAB_HOLDS, 1);
-        DUE(15, LAB_NEVER);
-        if (!asks) TOLD(1, LAB_NOT_WRITTEN, 0);
-        QUIET();
-        freed();
-        opened(100, LAB_NEVER, 5, 64, 0);
-        IS(ask_as(0, 0, 1, 0, 10, LAB_NEVER, 10, SETS(1)) == LAB_DONE);
-        if (asks) TOLD(1, LAB_HOLDS, 1);
-        DUE(15, LAB_NEVER);
-        if (!asks) TOLD(1, LAB_NOT_WRITTEN, 0);
-        QUIET();
-        freed();
-    }
+    opened(100, LAB_NEVER, 5, 64, 1);
+    IS(ask_as(0, 0, 1, 0, 10, LAB_NEVER, 10, SETS(1)) == LAB_DONE);
+    TEXT(BAY_HEAD HOLD1, 269);
+    DUE(14, 15);
+    IS(lab_bay_durable(&bay, 269) == LAB_DONE);
+    DUE(14, LAB_NEVER);
+    DUE(15, LAB_NEVER);
+    DUE(1000, LAB_NEVER);
+    TOLD(1, LAB_HOLDS, 1);
+    DUE(2000, LAB_NEVER);
+    QUIET();
+    freed();
+
+    opened(100, LAB_NEVER, 5, 64, 0);
+    IS(ask_as(0, 0, 1, 0, 10, LAB_NEVER, 10, SETS(1)) == LAB_DONE);
+    DUE(10, LAB_NEVER);
+    DUE(1000, LAB_NEVER);
+    TOLD(1, LAB_HOLDS, 1);
+    QUIET();
+    freed();
+}
+
+/* One that is written, and wasn't told so yet, ends as any other: its limit is over, or its client is gone for too long. */
+static void written_and_over(void) {
+    opened(100, 10, 5, 64, 1);
+    IS(ask_as(0, 0, 1, 0, 10, LAB_NEVER, 10, SETS(1)) == LAB_DONE);
+    IS(ask_as(0, 0, 2, 1, 10, 15, 10, SETS(4)) == LAB_DONE);
+    TEXT(BAY_HEAD HOLD1 HOLD2, 418);
+    IS(lab_bay_durable(&bay, 418) == LAB_DONE);
+    DUE(20, LAB_NEVER);
+    IS(lab_bay_gone(&bay, 1, 20) == LAB_DONE);
+    DUE(20, 30);
+    IS(ask_one(3, 1, 4, 20) == LAB_DONE);
+    DUE(24, 25);
+    DUE(25, 30);
+    DUE(30, LAB_NEVER);
+    TOLD(1, LAB_GRACE, 0);
+    TOLD(2, LAB_LIMIT, 0);
+    QUIET(); /* (the line of 3 isn't durable yet) */
+    freed();
 }
 
 /* A hold waits for the disk until its deadline, however short the time for the disk is. */
@@ -577,7 +605,7 @@ static void durable_beyond(void) {
     IS(lab_bay_durable(&bay, 1000000) == LAB_DONE);
     IS(ask_one(1, 0, 1, 0) == LAB_DONE);
     QUIET();
-    TEXT(BAY_HEAD "ee210a1a32b4c7c0 hold 0000000000000001 00000000 0000000000000001 00000000000000000000000000000000 0000000000000000 ----------------\n", 252);
+    TEXT(BAY_HEAD "232e3d5879c0681c hold 0000000000000001 00000000 0000000000000001 00000000000000000000000000000000 0000000000000000 ---------------- 0000000000000000\n", 269);
     QUIET();
     IS(lab_bay_durable(&bay, UINT64_MAX) == LAB_DONE);
     TOLD(1, LAB_HOLDS, 1);
@@ -614,7 +642,7 @@ static void looks(void) {
     no_place(__LINE__, SIZE_MAX, 6);
     TOLD(3, LAB_HOLDS, 4);
     IS(lab_bay_let_go(&bay, 3, 9) == LAB_DONE);
-    at_place(__LINE__, 0, (struct lab_standing){3, {7, UINT64_MAX}, 0, 4, 1, LAB_LET_GO}, 6);
+    at_place(__LINE__, 0, (struct lab_standing){3, {7, UINT64_MAX}, 0, 9, 1, LAB_LET_GO}, 6);
     at_place(__LINE__, 1, (struct lab_standing){5, {UINT64_MAX, 9}, 4, 9, 0, LAB_HOLDS}, 6);
     no_place(__LINE__, 2, 6);
     TOLD(3, LAB_LET_GO, 0);
@@ -622,6 +650,135 @@ static void looks(void) {
     QUIET();
     at_place(__LINE__, 0, (struct lab_standing){5, {UINT64_MAX, 9}, 4, 9, 0, LAB_HOLDS}, 6);
     no_place(__LINE__, 1, 6);
+    freed();
+}
+
+#define KEEPS(number, instrument, ...) keeps(__LINE__, (number), (instrument), (struct lab_standing){__VA_ARGS__})
+#define NOBODY(number, instrument) nobody(__LINE__, (number), (instrument))
+
+/* Who keeps this instrument from the ask with this number. */
+static void keeps(unsigned line, uint64_t number, uint32_t instrument, struct lab_standing wanted) {
+    struct lab_standing it = {77, {77, 77}, 77, 77, 77, 77};
+    uint32_t status = lab_bay_keeper(&bay, number, instrument, &it);
+    expect(status == LAB_DONE && memcmp(&it, &wanted, sizeof it) == 0, "line %u: status %u, ask %llu needs %llx since %llu, class %u, %u", line, status,
+           (unsigned long long)it.number, (unsigned long long)it.needs, (unsigned long long)it.since, it.kind, it.what);
+}
+
+static void nobody(unsigned line, uint64_t number, uint32_t instrument) {
+    static const struct lab_standing none = {77, {77, 77}, 77, 77, 77, 77};
+    struct lab_standing it = none;
+    uint32_t status = lab_bay_keeper(&bay, number, instrument, &it);
+    expect(status == LAB_NOT_YET && memcmp(&it, &none, sizeof it) == 0, "line %u: status %u, ask %llu", line, status, (unsigned long long)it.number);
+}
+
+/* Of whoever holds or has it kept, asks are told apart by whether they asked before, and by whether both have their instruments kept. */
+static void keepers(void) {
+    uint64_t next;
+    opened(100, LAB_NEVER, LAB_NEVER, 1, 0);
+    NOBODY(5, 0);
+    IS(ask_as(7, 9, 1, 0, LAB_NEVER, LAB_NEVER, 4, SETS(1)) == LAB_DONE);
+    IS(ask_as(3, 4, 2, 0, LAB_NEVER, LAB_NEVER, 5, SETS(3)) == LAB_DONE);
+    KEEPS(2, 0, 1, {7, 9}, 1, 4, 0, LAB_HOLDS);
+    KEEPS(1, 0, 1, {7, 9}, 1, 4, 0, LAB_HOLDS); /* (from itself, too) */
+    NOBODY(2, 1);
+    NOBODY(9, 1); /* (2 wasn't passed yet) */
+    NOBODY(2, 63);
+    NOBODY(2, 64); /* (there are 64 instruments) */
+    NOBODY(2, UINT32_MAX);
+
+    /* 3 passes 2, so 1 is kept for 2 from then on, as soon as a place is free for it */
+    IS(ask_one(3, 0, 2, 6) == LAB_DONE);
+    KEEPS(2, 1, 3, {0, 0}, 2, 6, 0, LAB_HOLDS);
+    IS(lab_bay_let_go(&bay, 3, 7) == LAB_DONE);
+    NOBODY(2, 1);
+    NOBODY(1, 1); /* (it asked before 2, and isn't in line) */
+    KEEPS(9, 1, 2, {3, 4}, 0, 5, 0, LAB_WAITS);
+    KEEPS(9, 0, 1, {7, 9}, 1, 4, 0, LAB_HOLDS);
+    IS(ask_as(0, 0, 4, 0, 20, LAB_NEVER, 8, SETS(2)) == LAB_DONE);
+    KEEPS(4, 1, 2, {3, 4}, 0, 5, 0, LAB_WAITS);
+
+    /* 6 has no place until 5 lets go; by then 7 was passed, and instrument 2 is kept for it, though it asked later */
+    IS(ask_one(5, 1, 8, 8) == LAB_DONE && ask_one(6, 1, 4, 8) == LAB_DONE && ask_one(7, 0, 5, 8) == LAB_DONE);
+    NOBODY(6, 2);
+    IS(ask_one(8, 0, 4, 9) == LAB_DONE);
+    KEEPS(6, 2, 8, {0, 0}, 4, 9, 0, LAB_HOLDS);
+    IS(lab_bay_let_go(&bay, 8, 10) == LAB_DONE && lab_bay_let_go(&bay, 5, 11) == LAB_DONE);
+    KEEPS(6, 2, 7, {0, 0}, 0, 8, 0, LAB_WAITS);
+    KEEPS(6, 1, 2, {3, 4}, 0, 5, 0, LAB_WAITS);
+    NOBODY(6, 3);
+    NOBODY(7, 2);
+    KEEPS(8, 2, 7, {0, 0}, 0, 8, 0, LAB_WAITS);
+    IS(lab_bay_leave(&bay, 6, 12) == LAB_DONE);
+    NOBODY(6, 2); /* (what counts of one that isn't in line is who asked before) */
+
+    /* whoever lapsed is told the same */
+    IS(lab_bay_time(&bay, 20, &next) == LAB_DONE);
+    KEEPS(4, 1, 2, {3, 4}, 0, 5, 0, LAB_WAITS);
+    NOBODY(4, 2);
+    IS(lab_bay_stop(&bay, 20) == LAB_DONE);
+    NOBODY(9, 1);
+    KEEPS(9, 0, 1, {7, 9}, 1, 4, 0, LAB_HOLDS);
+    freed();
+}
+
+/* Where all in line have their instruments kept, it is the first of those that asked before; and one's own sets don't count. */
+static void first_keepers(void) {
+    opened(100, LAB_NEVER, LAB_NEVER, 0, 0);
+    IS(ask_one(1, 0, 1, 0) == LAB_DONE && ask_one(2, 0, 3, 1) == LAB_DONE && ask_one(3, 0, 6, 2) == LAB_DONE && ask_one(4, 0, 2, 3) == LAB_DONE);
+    NOBODY(2, 1);
+    KEEPS(3, 1, 2, {0, 0}, 0, 1, 0, LAB_WAITS);
+    NOBODY(3, 2);
+    KEEPS(4, 1, 2, {0, 0}, 0, 1, 0, LAB_WAITS);
+    KEEPS(4, 2, 3, {0, 0}, 0, 2, 0, LAB_WAITS);
+    IS(lab_bay_leave(&bay, 2, 4) == LAB_DONE); /* (so 3 is let in) */
+    KEEPS(4, 1, 3, {0, 0}, 6, 4, 0, LAB_HOLDS);
+    freed();
+    opened(100, LAB_NEVER, LAB_NEVER, 0, 0);
+    IS(ask_one(1, 0, 1, 0) == LAB_DONE && ask_as(0, 0, 2, 0, LAB_NEVER, LAB_NEVER, 1, SETS(3, 5)) == LAB_DONE);
+    NOBODY(2, 1);
+    NOBODY(2, 2);
+    KEEPS(3, 2, 2, {0, 0}, 0, 1, 0, LAB_WAITS);
+    freed();
+}
+
+#define WAITS(number, set, needs, passed) waits_for(__LINE__, (number), (set), (needs), (passed))
+
+static void waits_for(unsigned line, uint64_t number, size_t set, uint64_t needs, uint32_t passed) {
+    uint64_t has = 77;
+    uint32_t times = 77, status = lab_bay_waits(&bay, number, set, &has, &times);
+    expect(status == LAB_DONE && has == needs && times == passed, "line %u: status %u, needs %llx, passed %u", line, status, (unsigned long long)has, times);
+}
+
+#define NO_WAIT(number, set) no_wait(__LINE__, (number), (set))
+
+static void no_wait(unsigned line, uint64_t number, size_t set) {
+    uint64_t has = 77;
+    uint32_t times = 77, status = lab_bay_waits(&bay, number, set, &has, &times);
+    expect(status == LAB_NOT_YET && has == 77 && times == 77, "line %u: status %u, needs %llx, passed %u", line, status, (unsigned long long)has, times);
+}
+
+/* The sets of an ask, in the order in which it asked for them. */
+static void waited_for(void) {
+    opened(100, LAB_NEVER, LAB_NEVER, 64, 0);
+    IS(ask_one(1, 0, 1, 0) == LAB_DONE && ask_one(2, 0, 3, 0) == LAB_DONE);
+    IS(ask_as(0, 0, 3, 0, LAB_NEVER, LAB_NEVER, 0, SETS(5, 3)) == LAB_DONE && ask_one(4, 0, 1, 0) == LAB_DONE);
+    NO_WAIT(1, 0); /* (it holds) */
+    WAITS(2, 0, 3, 0);
+    NO_WAIT(2, 1);
+    WAITS(3, 0, 5, 0);
+    WAITS(3, 1, 3, 0);
+    NO_WAIT(3, 2);
+    NO_WAIT(3, SIZE_MAX);
+    WAITS(4, 0, 1, 0);
+    NO_WAIT(0, 0);
+    NO_WAIT(5, 0);
+    IS(ask_one(5, 0, 4, 0) == LAB_DONE); /* (it is let in at once, and passes 3 at its first set) */
+    WAITS(2, 0, 3, 0);
+    WAITS(3, 0, 5, 1);
+    WAITS(3, 1, 3, 0);
+    IS(lab_bay_leave(&bay, 3, 0) == LAB_DONE);
+    NO_WAIT(3, 0);
+    WAITS(4, 0, 1, 0);
     freed();
 }
 
@@ -649,8 +806,8 @@ static void stops(void) {
 #define N50 "nnnnnnnnnnnnnnnnnnnnnnnnnnnnnnnnnnnnnnnnnnnnnnnnnn"
 #define N500 N50 N50 N50 N50 N50 N50 N50 N50 N50 N50
 
-#define HOLD5 "813dcff3e1a58cdf hold 0000000000000005 00000000 0000000000000003 00000000000000070000000000000009 0000000000000004 0000000000000006\n"
-#define HOLD6 "90fefe0a680e872d hold 0000000000000006 00000001 0000000000000004 00000000000000010000000000000002 0000000000000004 ----------------\n"
+#define HOLD5 "c4e3a9209e385e26 hold 0000000000000005 00000000 0000000000000003 00000000000000070000000000000009 0000000000000004 0000000000000006 0000000000000004\n"
+#define HOLD6 "1646f4d3d93cb594 hold 0000000000000006 00000001 0000000000000004 00000000000000010000000000000002 0000000000000004 ---------------- 0000000000000004\n"
 
 static void journals(void) {
     static uint8_t long_text[501];
@@ -661,10 +818,10 @@ static void journals(void) {
     IS(ask_as(1, 2, 6, 1, LAB_NEVER, LAB_NEVER, 4, SETS(4)) == LAB_DONE);
     QUIET();
     IS(lab_bay_note(&bay, 5, long_text, 1, &position) == LAB_NOT_YET); /* (it holds, and wasn't told so) */
-    TEXT(BAY_HEAD HOLD5 HOLD6, 384);
-    TEXT("", 384);
+    TEXT(BAY_HEAD HOLD5 HOLD6, 418);
+    TEXT("", 418);
     QUIET();
-    IS(lab_bay_durable(&bay, 0) == LAB_DONE && lab_bay_durable(&bay, 251) == LAB_DONE);
+    IS(lab_bay_durable(&bay, 0) == LAB_DONE && lab_bay_durable(&bay, 268) == LAB_DONE);
     QUIET();
 
     /* a write fails: the same bytes again, from what is durable on */
@@ -675,25 +832,25 @@ static void journals(void) {
     opened(100, LAB_NEVER, LAB_NEVER, 64, 1);
     IS(ask_as(7, 9, 5, 0, LAB_NEVER, 6, 4, SETS(3)) == LAB_DONE);
     IS(ask_as(1, 2, 6, 1, LAB_NEVER, LAB_NEVER, 4, SETS(4)) == LAB_DONE);
-    TEXT(BAY_HEAD HOLD5 HOLD6, 384);
+    TEXT(BAY_HEAD HOLD5 HOLD6, 418);
     for (int times = 0; times < 3; times++) {
         IS(lab_bay_failed(&bay) == LAB_DONE);
-        TEXT(BAY_HEAD HOLD5 HOLD6, 384);
+        TEXT(BAY_HEAD HOLD5 HOLD6, 418);
     }
-    IS(lab_bay_durable(&bay, 252) == LAB_DONE);
+    IS(lab_bay_durable(&bay, 269) == LAB_DONE);
     TOLD(5, LAB_HOLDS, 3);
     QUIET();
     IS(lab_bay_failed(&bay) == LAB_DONE);
-    TEXT(HOLD6, 384);
+    TEXT(HOLD6, 418);
     IS(lab_bay_durable(&bay, 120) == LAB_DONE); /* (what is durable stays so) */
     IS(lab_bay_failed(&bay) == LAB_DONE);
-    TEXT(HOLD6, 384);
+    TEXT(HOLD6, 418);
     QUIET();
-    IS(lab_bay_durable(&bay, 384) == LAB_DONE);
+    IS(lab_bay_durable(&bay, 418) == LAB_DONE);
     TOLD(6, LAB_HOLDS, 4);
     QUIET();
     IS(lab_bay_failed(&bay) == LAB_DONE);
-    TEXT("", 384);
+    TEXT("", 418);
 
     /* notes */
     position = 77;
@@ -704,28 +861,28 @@ static void journals(void) {
     IS(ask_one(7, 0, 1, 4) == LAB_DONE);
     IS(lab_bay_note(&bay, 7, long_text, 1, &position) == LAB_NOT_YET);
     IS(position == 77);
-    TEXT("", 384);
-    IS(lab_bay_note(&bay, 5, (const uint8_t *)"volts 3", 7, &position) == LAB_DONE && position == 431);
-    IS(lab_bay_note(&bay, 6, long_text, 500, &position) == LAB_DONE && position == 971);
-    IS(lab_bay_note(&bay, 6, NULL, 0, &position) == LAB_DONE && position == 1011);
+    TEXT("", 418);
+    IS(lab_bay_note(&bay, 5, (const uint8_t *)"volts 3", 7, &position) == LAB_DONE && position == 465);
+    IS(lab_bay_note(&bay, 6, long_text, 500, &position) == LAB_DONE && position == 1005);
+    IS(lab_bay_note(&bay, 6, NULL, 0, &position) == LAB_DONE && position == 1045);
 
     /* ends come before holds; let go and holds are told once their lines are durable */
     IS(lab_bay_let_go(&bay, 5, 9) == LAB_DONE);
-    IS(lab_bay_note(&bay, 5, long_text, 1, &position) == LAB_NOT_YET && position == 1011);
+    IS(lab_bay_note(&bay, 5, long_text, 1, &position) == LAB_NOT_YET && position == 1045);
     QUIET();
-    TEXT("6f8c248aae82608f note 0000000000000005 volts 3\n"
-         "abaca7a419e2f5dc note 0000000000000006 " N500 "\n"
-         "827c921b9b9ca5b2 note 0000000000000006 \n"
-         "8a7b9ab19018b68a end 0000000000000005 let_go\n"
-         "7f56e77f75377614 hold 0000000000000007 00000000 0000000000000001 00000000000000000000000000000000 0000000000000009 ----------------\n",
-         1188);
+    TEXT("1a563bc64bd9ebb7 note 0000000000000005 volts 3\n"
+         "4569e26659a71dcf note 0000000000000006 " N500 "\n"
+         "a6dda0061ec50a97 note 0000000000000006 \n"
+         "495efb8c889a2193 end 0000000000000005 let_go 0000000000000009\n"
+         "74ef1233df65db91 hold 0000000000000007 00000000 0000000000000001 00000000000000000000000000000000 0000000000000009 ---------------- 0000000000000004\n",
+         1256);
     QUIET();
-    IS(lab_bay_durable(&bay, 1055) == LAB_DONE);
+    IS(lab_bay_durable(&bay, 1106) == LAB_DONE);
     QUIET();
-    IS(lab_bay_durable(&bay, 1056) == LAB_DONE);
+    IS(lab_bay_durable(&bay, 1107) == LAB_DONE);
     TOLD(5, LAB_LET_GO, 0);
     QUIET();
-    IS(lab_bay_durable(&bay, 1188) == LAB_DONE);
+    IS(lab_bay_durable(&bay, 1256) == LAB_DONE);
     TOLD(7, LAB_HOLDS, 1);
     QUIET();
 
@@ -737,13 +894,13 @@ static void journals(void) {
     IS(lab_bay_leave(&bay, 8, 9) == LAB_DONE);
     IS(lab_bay_leave(&bay, 7, 9) == LAB_DONE);
     QUIET();
-    TEXT("08087758cea1aefa end 0000000000000006 taken_away\n74442c66faf3c48c end 0000000000000007 left\n", 1280);
+    TEXT("19edaa5b937311f6 end 0000000000000006 taken_away 0000000000000009\n91ecbfe73c79e83d end 0000000000000007 left 0000000000000009\n", 1382);
     freed();
 }
 
 /* ---- a bay that comes back */
 
-static const char file[] = BAY_HEAD HOLD5 HOLD6 "27fe3fc9af2bb618 end 0000000000000005 let_go\n";
+static const char file[] = BAY_HEAD HOLD5 HOLD6 "b5108be9973f349d end 0000000000000005 let_go 0000000000000009\n";
 
 static uint32_t resumed(const void *text, size_t length, uint64_t now, size_t *used, uint64_t *fault) {
     *used = 77;
@@ -773,39 +930,39 @@ static void comes_back(void) {
         if (file[at] == '\n') continue;
         memcpy(text, file, sizeof file);
         text[at] ^= 1;
-        unsigned line = 1 + (at >= 120) + (at >= 252) + (at >= 384);
+        unsigned line = 1 + (at >= 120) + (at >= 269) + (at >= 418);
         uint32_t status = resumed(text, sizeof file - 1, 0, &used, &fault);
         expect(status == LAB_BAY_UNSOUND && fault == line, "byte %zu changed: status %u, fault %llu", at, status, (unsigned long long)fault);
     }
     memcpy(text, file, 120); /* a line that is missing */
-    memcpy(text + 120, file + 252, sizeof file - 252);
-    IS(resumed(text, sizeof file - 1 - 132, 0, &used, &fault) == LAB_BAY_UNSOUND && fault == 2);
-    memcpy(text + 252, file + 120, 132); /* two that changed places */
-    IS(resumed(text, 384, 0, &used, &fault) == LAB_BAY_UNSOUND && fault == 2);
-    IS(resumed(file + 120, 132, 0, &used, &fault) == LAB_BAY_UNSOUND && fault == 1);
-    IS(lab_bay_resume(fewer, 2, &terms, (const uint8_t *)file, 384, 0, &bay, &used, &fault) == LAB_BAY_MAY_NOT && fault == 5);
+    memcpy(text + 120, file + 269, sizeof file - 269);
+    IS(resumed(text, sizeof file - 1 - 149, 0, &used, &fault) == LAB_BAY_UNSOUND && fault == 2);
+    memcpy(text + 269, file + 120, 149); /* two that changed places */
+    IS(resumed(text, 418, 0, &used, &fault) == LAB_BAY_UNSOUND && fault == 2);
+    IS(resumed(file + 120, 149, 0, &used, &fault) == LAB_BAY_UNSOUND && fault == 1);
+    IS(lab_bay_resume(fewer, 2, &terms, (const uint8_t *)file, 418, 0, &bay, &used, &fault) == LAB_BAY_MAY_NOT && fault == 5);
     IS(bay.live == 0 && lab_bay_free(&bay) == LAB_NOT_OPEN);
 
     /* cut at any byte it comes back as far as it has whole lines */
     for (size_t length = 120; length < sizeof file; length++) {
-        size_t whole = length < 252 ? 120 : length < 384 ? 252 : length < 429 ? 384 : 429;
+        size_t whole = length < 269 ? 120 : length < 418 ? 269 : length < 480 ? 418 : 480;
         uint32_t status = resumed(file, length, 0, &used, &fault);
         expect(status == LAB_DONE && used == whole, "cut at %zu: status %u, used %zu", length, status, used);
         uint32_t five = lab_bay_back(&bay, 5, 7, 9, 0, &needs), six = lab_bay_back(&bay, 6, 1, 2, 0, &needs);
-        expect(five == (whole == 252 || whole == 384 ? LAB_DONE : LAB_BAY_OVER), "cut at %zu: 5 comes back: %u", length, five);
-        expect(six == (whole >= 384 ? LAB_DONE : LAB_BAY_OVER), "cut at %zu: 6 comes back: %u", length, six);
+        expect(five == (whole == 269 || whole == 418 ? LAB_DONE : LAB_BAY_OVER), "cut at %zu: 5 comes back: %u", length, five);
+        expect(six == (whole >= 418 ? LAB_DONE : LAB_BAY_OVER), "cut at %zu: 6 comes back: %u", length, six);
         QUIET();
         freed();
     }
 
     /* whose end was written and who is let go of by other classes has no part in it */
-    IS(lab_bay_resume(fewer, 2, &terms, (const uint8_t *)file, 429, 0, &bay, &used, &fault) == LAB_DONE && used == 429);
+    IS(lab_bay_resume(fewer, 2, &terms, (const uint8_t *)file, 480, 0, &bay, &used, &fault) == LAB_DONE && used == 480);
     freed();
 
     /* their clients are gone since then; the numbers go on, and so do the lines */
-    IS(resumed(file, 428, 50, &used, &fault) == LAB_DONE && used == 384);
+    IS(resumed(file, 479, 50, &used, &fault) == LAB_DONE && used == 418);
     QUIET();
-    TEXT("", 384);
+    TEXT("", 418);
     DUE(59, 60);
     needs = 77;
     at_place(__LINE__, 0, (struct lab_standing){5, {7, 9}, 3, 4, 0, LAB_HOLDS}, 7);
@@ -816,10 +973,10 @@ static void comes_back(void) {
     QUIET();
     DUE(60, LAB_NEVER); /* (the limit of 5 is over, and nobody wants what it has) */
     IS(lab_bay_back(&bay, 6, 1, 2, 60, &needs) == LAB_BAY_OVER);
-    IS(lab_bay_note(&bay, 5, (const uint8_t *)"n", 1, &fault) == LAB_DONE && fault == 425); /* (it was told) */
-    TEXT("6a1f3f796ea831dc note 0000000000000005 n\n6f5f9be4b3a9301d end 0000000000000006 grace\n"
-         "f909829f93bf5d67 hold 0000000000000007 00000001 0000000000000004 00000000000000000000000000000000 000000000000003c ----------------\n", 601);
-    IS(lab_bay_durable(&bay, 601) == LAB_DONE);
+    IS(lab_bay_note(&bay, 5, (const uint8_t *)"n", 1, &fault) == LAB_DONE && fault == 459); /* (it was told) */
+    TEXT("2c7eede75b4b6d15 note 0000000000000005 n\n16faba1b50080979 end 0000000000000006 grace 000000000000003c\n"
+         "0c5f6274ad2418c8 hold 0000000000000007 00000001 0000000000000004 00000000000000000000000000000000 000000000000003c ---------------- 000000000000003b\n", 669);
+    IS(lab_bay_durable(&bay, 669) == LAB_DONE);
     IS(lab_bay_note(&bay, 7, (const uint8_t *)"n", 1, &fault) == LAB_NOT_YET);
     freed();
 }
@@ -837,9 +994,13 @@ int main(void) {
     deadlines();
     disks();
     told_late();
+    written_and_over();
     disk_until_the_deadline();
     durable_beyond();
     looks();
+    keepers();
+    first_keepers();
+    waited_for();
     stops();
     journals();
     comes_back();

@@ -106,6 +106,17 @@ class Machine:
             asks.append((it.number, it.owner[0] << 64 | it.owner[1], it.needs, it.since, it.kind, WHAT[it.what]))
         return asks, least.value
 
+    def keeper(self, number, instrument):
+        it = Standing()
+        status = self.call("keeper", ctypes.c_uint64(number), ctypes.c_uint32(instrument), ctypes.byref(it))
+        return status, (it.number, it.owner[0] << 64 | it.owner[1], it.needs, it.since, it.kind, WHAT[it.what]) if status == DONE else None
+
+    def waits(self, number):
+        found, needs, passed = [], ctypes.c_uint64(), ctypes.c_uint32()
+        while self.call("waits", ctypes.c_uint64(number), ctypes.c_size_t(len(found)), ctypes.byref(needs), ctypes.byref(passed)) == DONE:
+            found.append((needs.value, passed.value))
+        return found
+
     def journal(self):
         room, written, position = 1 << 16, ctypes.c_size_t(), ctypes.c_uint64()
         text = ctypes.create_string_buffer(room)
@@ -116,6 +127,11 @@ class Machine:
         told = Outcome()
         status = self.call("tell", ctypes.c_uint64(done), ctypes.byref(told))
         return (told.serial, told.number, WHAT[told.what]) if status == DONE else (status, None, None)
+
+
+def standing(it):
+    """How an ask stands, by the model."""
+    return it.number, it.owner, it.needs, it.since, it.kind, it.stage
 
 
 class Differs(Exception):
@@ -253,9 +269,18 @@ class Day:
     def looks(self):
         """Each ask that isn't over is in the book, and stands there as by the model."""
         asks, least = self.machine.looks()
-        standing = [(it.number, it.owner, it.needs, it.since, it.kind, it.stage) for it in self.model.asks if it.stage != model.OVER]
-        same("who asks and who holds", sorted(standing), sorted(it for it in asks if it[-1] in (model.WAITS, model.HOLDS)))
+        standings = [standing(it) for it in self.model.asks if it.stage != model.OVER]
+        same("who asks and who holds", sorted(standings), sorted(it for it in asks if it[-1] in (model.WAITS, model.HOLDS)))
         same("the next number", self.model.next, least)
+
+    def keepers(self):
+        """Who keeps which instrument from somebody, who may have lapsed; and what it waits for."""
+        number = self.somebody()
+        for instrument in [*range(6), self.dice.choice([6, 63, 64, 70, 2**32 - 1])]:
+            it = self.model.keeper(number, instrument)
+            wanted = (NOT_YET, None) if it is None else (DONE, standing(it))
+            same(f"who keeps {instrument} from {number}", wanted, self.machine.keeper(number, instrument))
+        same(f"what {number} waits for", self.model.waits(number), self.machine.waits(number))
 
     def goes(self, calls):
         ways = [self.asks] * 4 + [self.acts] * 4 + [self.returns, self.crashes, self.notes, self.writes, self.writes, self.tells, self.tells, self.tells, self.passes, self.stops]
@@ -263,6 +288,7 @@ class Day:
             self.dice.choice(ways)()
             self.model.check()
             self.looks()
+            self.keepers()
 
 
 def main(words):

@@ -6,8 +6,10 @@ An *ask* wants one of several sets of instruments and a place of a class. It wai
 1. One owner: the sets of those that hold have nothing in common, and each is one that its ask asked for.
 2. Told is kept: HOLDS and LET_GO are told once their line in the journal is durable; an ask is told HOLDS once at most, and then one end at
    most, and then nothing. From each beginning of the journal that has what was durable, whoever was told and isn't over holds.
-3. In time: after a call at `now` nobody waits whose deadline is over, and nobody holds untold whose time for the disk is over, too.
+3. In time: after a call at `now` nobody waits whose deadline is over; and whoever holds, and whose deadline and time for the disk are over,
+   has a durable line, or needs none.
 4. Nobody waits for nothing: each that waits has no place, or for each of its sets an instrument of it is in use, or kept for one before it.
+   And for nobody: it has no place, or somebody else holds an instrument of one of its sets, or has it kept.
 5. In order: while a place is free for it, an ask is passed at a set by `most` that came later at the most; of those that want the same, who
    asked first is served first.
 """
@@ -40,7 +42,8 @@ class Ask:
     owner: int
     deadline: Optional[int]
     limit: Optional[int]
-    since: int
+    asked: int
+    since: int  # when it asked, then when it came to hold, then when it was over
     needs: int = 0
     gone: Optional[int] = None
     stage: str = WAITS
@@ -110,23 +113,23 @@ class Bay:
             raise Refused("owner")
         if len(self.line) + len(sets) > self.rules.limit:
             raise Refused("line_full")
-        self.asks.append(Ask(number, kind, owner, deadline, limit, max(now, self.now)))
+        self.asks.append(Ask(number, kind, owner, deadline, limit, max(now, self.now), max(now, self.now)))
         self.line += [Wish(number, it, kind, deadline) for it in sets]
         self.next = number + 1
         self._follow(now)
 
     def let_go(self, number: int, now: int) -> None:
-        self._ends(self._held(number), LET_GO)
+        self._ends(self._held(number), LET_GO, now)
         self._follow(now)
 
     def take_away(self, number: int, now: int) -> None:
-        self._ends(self._held(number), TAKEN_AWAY)
+        self._ends(self._held(number), TAKEN_AWAY, now)
         self._follow(now)
 
     def leave(self, number: int, now: int) -> None:
         it = self._find(number)
         if it is not None and it.stage != OVER:
-            self._ends(it, LEFT)
+            self._ends(it, LEFT, now)
         self._follow(now)
 
     def gone(self, number: int, now: int) -> None:
@@ -144,6 +147,25 @@ class Bay:
         self._follow(now)
         return needs
 
+    # ---- who looks on
+
+    def keeper(self, number: int, instrument: int) -> Optional[Ask]:
+        """Who keeps the instrument from the ask with this number, whether it is in the bay or not."""
+        has = lambda it: bool(it.needs >> instrument & 1)
+        holder = next((it for it in self.asks if it.stage == HOLDS and has(it)), None)
+        if holder is not None:
+            return holder
+        its = [it for it in self.line if it.ask == number and has(it)]
+        if all(self._is_kept(it) for it in its):
+            others = [it for it in self.line if it.ask < number]
+        else:
+            others = [it for it in self.line if it.ask != number]
+        return next((self._find(it.ask) for it in others if self._is_kept(it) and has(it)), None)
+
+    def waits(self, number: int) -> list[tuple[int, int]]:
+        """The sets that the ask waits for, and how often it was passed at each."""
+        return [(it.needs, it.passed) for it in self.line if it.ask == number]
+
     # ---- the world outside
 
     def time(self, now: int) -> Optional[int]:
@@ -157,7 +179,7 @@ class Bay:
     def stop(self, now: int) -> None:
         self.is_stopped = True
         for it in [it for it in self.asks if it.stage == WAITS]:
-            self._ends(it, STOPPED)
+            self._ends(it, STOPPED, now)
         self._follow(now)
 
     def note(self, number: int, text: bytes) -> int:
@@ -170,11 +192,11 @@ class Bay:
     def journal(self) -> tuple[bytes, int]:
         """What is to be written and wasn't handed out yet, and the place behind it. Who is over comes first: so each beginning is sound."""
         for it in [it for it in self.asks if it.end_line == DUE]:
-            self._line(f"end {it.number:016x} {it.how}")
+            self._line(f"end {it.number:016x} {it.how} {it.since:016x}")
             it.end_line = len(self.text)
         for it in [it for it in self.asks if it.hold_line == DUE]:
             limit = "-" * 16 if it.limit is None else f"{it.limit:016x}"
-            self._line(f"hold {it.number:016x} {it.kind:08x} {it.needs:016x} {it.owner:032x} {it.since:016x} {limit}")
+            self._line(f"hold {it.number:016x} {it.kind:08x} {it.needs:016x} {it.owner:032x} {it.since:016x} {limit} {it.asked:016x}")
             it.hold_line = len(self.text)
         text, self.sent = self.text[self.sent :], len(self.text)
         return text, len(self.text)
@@ -213,6 +235,10 @@ class Bay:
         held = [it.kind for it in self.asks if it.stage == HOLDS]
         return {kind for kind, (_, places) in enumerate(self.rules.classes) if held.count(kind) < places}
 
+    def _is_kept(self, it: Wish) -> bool:
+        """Whether its instruments are kept for it."""
+        return it.kind in self._free() and it.passed >= self.rules.most
+
     def _in_use(self) -> int:
         return union(it.needs for it in self.asks if it.stage == HOLDS)
 
@@ -242,46 +268,46 @@ class Bay:
     def _takes(self) -> bool:
         for it in self.asks:
             if it.stage == HOLDS and it.gone is not None and self.rules.grace is not None and it.gone + self.rules.grace <= self.now:
-                self._ends(it, GRACE)
+                self._ends(it, GRACE, self.now)
                 return True
         for it in self.asks:
             over = it.stage == HOLDS and it.limit is not None and it.since + it.limit <= self.now
             if over and self._is_wanted(it):
-                self._ends(it, LIMIT)
+                self._ends(it, LIMIT, self.now)
                 return True
         return False
 
     def _lapses(self) -> bool:
         for it in self.asks:
             if it.stage == WAITS and at_most(it.deadline, self.now):
-                self._ends(it, LAPSED)
+                self._ends(it, LAPSED, self.now)
                 return True
-            if it.stage == HOLDS and it.heard == "" and at_most(self._to_be_told(it), self.now):
-                self._ends(it, NOT_WRITTEN)
+            if it.stage == HOLDS and at_most(self._to_be_written(it), self.now):
+                self._ends(it, NOT_WRITTEN, self.now)
                 return True
         return False
 
-    def _to_be_told(self, it: Ask) -> Optional[int]:
-        """Until when one that holds is to be told so."""
-        if it.deadline is None or self.rules.disk is None:
+    def _to_be_written(self, it: Ask) -> Optional[int]:
+        """Until when the line of one that holds is to be durable."""
+        if self._is_durable(it.hold_line) or it.deadline is None or self.rules.disk is None:
             return None
         return max(it.deadline, it.since + self.rules.disk)
 
     def _moments(self, it: Ask) -> list[int]:
         """The moments at which something is due of it."""
         found = [it.deadline] if it.stage == WAITS else []
-        if it.stage == HOLDS and it.heard == "":
-            found.append(self._to_be_told(it))
+        if it.stage == HOLDS:
+            found.append(self._to_be_written(it))
         if it.stage == HOLDS and it.gone is not None and self.rules.grace is not None:
             found.append(it.gone + self.rules.grace)
         if it.stage == HOLDS and it.limit is not None and self._is_wanted(it):
             found.append(it.since + it.limit)
         return [one for one in found if one is not None and one > self.now]
 
-    def _ends(self, it: Ask, how: str) -> None:
+    def _ends(self, it: Ask, how: str, now: int) -> None:
         if it.stage == WAITS:
             self.line = [one for one in self.line if one.ask != it.number]
-        it.stage, it.how = OVER, how
+        it.stage, it.how, it.since = OVER, how, max(now, self.now)
         if it.hold_line == DUE:
             it.hold_line = NONE
         elif it.hold_line != NONE:
@@ -327,7 +353,7 @@ class Bay:
             if word == b"hold":
                 number, kind, needs, owner, since = (int(one, 16) for one in more[:5])
                 limit = None if more[5] == b"-" * 16 else int(more[5], 16)
-                held[number] = Ask(number, kind, owner, None, limit, since, needs, now, HOLDS, "", "holds", it.durable_to)
+                held[number] = Ask(number, kind, owner, None, limit, int(more[6], 16), since, needs, now, HOLDS, "", "holds", it.durable_to)
             elif word == b"end":
                 held.pop(int(more[0], 16), None)
             it.next = max([it.next, *(int(one, 16) + 1 for one in more[:1] if word != b"bay")])
@@ -345,12 +371,15 @@ class Bay:
         assert {it.ask for it in self.line} == {it.number for it in self.asks if it.stage == WAITS}, "who waits is in line"
         for it in self.asks:
             assert not (it.stage == WAITS and at_most(it.deadline, self.now)), "in time"
-            assert not (it.stage == HOLDS and it.heard == "" and at_most(self._to_be_told(it), self.now)), "told in time"
+            assert not (it.stage == HOLDS and at_most(self._to_be_written(it), self.now)), "written in time"
         free, used = self._free(), self._in_use()
         kept = [it for it in self.line if it.kind in free and it.passed >= self.rules.most]
         for it in self.line:
             assert it.kind not in free or it.needs & (used | union(one.needs for one in kept)), "nobody waits for nothing"
             assert it.passed <= self.rules.most, "passed"
+        for number in {it.ask for it in self.line if it.kind in free}:
+            wanted = [at for at in range(64) if any(needs >> at & 1 for needs, _ in self.waits(number))]
+            assert any(self.keeper(number, at) for at in wanted), "nobody waits for nobody"
 
 
 def union(sets: Iterable[int]) -> int:

@@ -213,6 +213,16 @@ static void acts(uint64_t number) {
     says("act", needs, next);
 }
 
+static void reads(uint64_t number) {
+    uint32_t status, passed = 77, instrument = chance(8);
+    uint64_t needs = 77;
+    struct lab_standing keeper = {0, {0, 0}, 0, 0, 0, 0};
+    CALL(-1, status, lab_bay_keeper(&bay, number, instrument, &keeper));
+    says("keeper", keeper.number, keeper.what);
+    CALL(-1, status, lab_bay_waits(&bay, number, 0, &needs, &passed));
+    says("waits", needs, passed);
+}
+
 static void frees(void) {
     uint32_t status;
     CALL(-1, status, lab_bay_free(&bay));
@@ -226,6 +236,7 @@ static void part(uint64_t from, uint64_t to) {
         if (chance(3) == 0) notes(from + chance((uint32_t)(number - from) + 1));
         if (chance(3) == 0) writes(chance(4) == 0);
         tells();
+        reads(from + chance((uint32_t)(number - from) + 1));
     }
 }
 

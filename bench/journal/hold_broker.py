@@ -1,15 +1,13 @@
 #!/usr/bin/env python3
-"""A broker with a journal whose sessions come one by one (`Job.hold`), and that turns pages, to be killed (bench/journal/kills).
+"""A broker with a journal whose sessions come one by one (`labrun.Lab`), to be killed (bench/journal/kills).
 
-usage: hold_broker.py SCRIPT JOURNAL WORK REPORT SYNC PAGE NAME=PORT ..      as broker.py; of the script it takes what each job is to do, in what order
+usage: hold_broker.py SCRIPT JOURNAL WORK SYNC NAME=PORT ..      as broker.py
 
-A page lasts PAGE seconds, or until it is nearly full. WORK says which of these session N is, not its number in the journal. At the end the report of the last page is in
-REPORT."""
+Of the script it takes what each job is to hold, in what order. Each job is a station. N of WORK says which of these a session is, not its number in the journal; its first note says the same."""
 
 import os
 import sys
 import threading
-import time
 from contextlib import ExitStack
 
 sys.path.insert(0, os.path.join(os.path.dirname(os.path.realpath(__file__)), "..", "..", "examples", "broker"))
@@ -19,80 +17,74 @@ import labrun  # noqa: E402
 
 
 def wishes(script):
-    """What each job is to do: a list of sessions, each a list of commands."""
+    """What each job is to hold: the instruments of each of its sessions."""
     jobs = {}
     for words in map(str.split, script.splitlines()):
         if words[0] == "job":
             jobs[words[1]] = []
         elif words[0] == "session":
-            jobs[list(jobs)[-1]].append([])
+            jobs[list(jobs)[-1]].append({})
         elif words[0] not in ("lab", "end"):
-            jobs[list(jobs)[-1]][-1].append(labrun.Command(words[0], words[1], int(words[2])))
+            jobs[list(jobs)[-1]][-1][words[0]] = None
     return jobs
 
 
 def begun(work):
-    """How far each job was, by what was told: its last session that held, and whether that was over."""
+    """How far each job was, by what was told: its last session that held."""
     far = {}
     if os.path.exists(work):
         with open(work, encoding="ascii") as file:
             for line in file:
-                what, job, number = line.split()
-                far[job] = int(number), what == "over"
+                _, job, number = line.split()
+                far[job] = int(number)
     return far
 
 
-def main(script, journal, work, report, sync, page, *ports):
+def main(script, journal, work, sync, *ports):
     at = dict(it.split("=") for it in ports)
     with open(script, encoding="ascii") as file:
         jobs = wishes(file.read())
     far = begun(work)
     told = os.open(work, os.O_WRONLY | os.O_CREAT | os.O_APPEND)
 
-    def works(session, number):
-        def tell(what):
-            os.write(told, f"{what} {session.job.name} {number}\n".encode())
+    def tell(what, job, number):
+        os.write(told, f"{what} {job} {number}\n".encode())
 
-        with session:
-            tell("resume" if session.resumed else "begin")
-            with ExitStack() as talks:
-                to = {name: talks.enter_context(Talk(int(at[name]))) for name in session.instruments}
-                for command in session.commands[session.done :]:
-                    entry = session.command()
-                    to[command.instrument].ask(f"SET {entry.value}")
-            tell("end")
-        tell("over")
+    def works(held, job, number):
+        with ExitStack() as talks:
+            for talk in [talks.enter_context(Talk(int(at[name]))) for name in held.instruments]:
+                talk.ask("ADD 1")
+        tell("end", job, number)
 
     def station(job):
-        number, is_over = far.get(job.name, (0, True))
-        session = job.next_session()
-        if session is not None:
-            # (it held, or came to hold before anybody was told)
-            number += is_over
-            works(session, number)
-        for commands in jobs[job.name][number:]:
+        number, held = far.get(job, 0), back.get(job)
+        if held:
+            # (without a note it came to hold before anybody was told, and so the one before it was over)
+            number = int(held.notes[0]) if held.notes else number + 1
+            if not held.notes:
+                held.note(str(number))
+            tell("resume", job, number)
+            works(held, job, number)
+            held.release()
+            tell("over", job, number)
+        for instruments in jobs[job][number:]:
             number += 1
-            works(job.hold(commands=commands), number)
-
-    def turns(bench):
-        turned = time.monotonic()
-        while not ended.wait(0.02):
-            if time.monotonic() - turned >= float(page) or bench.room.is_low:
-                bench.turn_page()
-                turned = time.monotonic()
+            with lab.station(job).hold(*instruments) as held:
+                held.note(str(number))
+                tell("begin", job, number)
+                works(held, job, number)
+            tell("over", job, number)
 
     print("opens", flush=True)
-    ended = threading.Event()
-    uses = {job: sorted({it.instrument for commands in those for it in commands}) for job, those in jobs.items()}
-    with labrun.Bench.new(uses, journal=journal, sync=sync) as bench:
+    uses = {job: list(dict.fromkeys(name for session in those for name in session)) for job, those in jobs.items()}
+    with labrun.Lab(list(at), stations=uses, journal=journal, sync=sync) as lab:
         print("open", flush=True)
-        turner = threading.Thread(target=turns, args=(bench,), daemon=True)
-        turner.start()
-        bench.run(station)
-        ended.set()
-        turner.join()
-    with open(report, "w", encoding="ascii") as file:
-        file.write(bench.report.text)
+        back = {held.station: held for held in lab.resumed}
+        threads = [threading.Thread(target=station, args=(job,)) for job in jobs]
+        for thread in threads:
+            thread.start()
+        for thread in threads:
+            thread.join()
 
 
 if __name__ == "__main__":

@@ -1,30 +1,11 @@
-// Tests late thirst and stations that hang in labrun.hpp: c++ -std=c++17 -I include bindings/cpp/hung.cpp -L FOLDER -llabrun -pthread
+// Tests late thirst, and stations that hang, on a bench of a script: c++ -std=c++17 -I include bindings/cpp/hung.cpp -L FOLDER -llabrun
+// -pthread
 #include "labrun.hpp"
+#include "checks.hpp"
 #include <array>
-#include <atomic>
-#include <functional>
-#include <iostream>
 #include <random>
-#include <thread>
 
-using namespace std::chrono_literals;
 using clock_type = std::chrono::steady_clock;
-
-static int passed = 0, failed = 0;
-
-static void expect(const char *what, bool is_so) {
-    (is_so ? passed : failed)++;
-    if (!is_so) std::cout << "WRONG " << what << '\n';
-}
-
-template <class Fault, class Call> static bool throws(Call call) {
-    try {
-        call();
-    } catch (const Fault &) {
-        return true;
-    }
-    return false;
-}
 
 static const std::string radio = "job radio\nsession\nscope read\nend\nsession\nscope read\nend\n";
 static const std::string board = "job board\nsession\nscope read\nsupply read\nend\n";
@@ -34,11 +15,6 @@ static const std::string patient = "job board\nsession patience 999999\nscope re
 
 static labrun::bench opened(std::uint32_t overtakes, const std::string &jobs) {
     return labrun::bench("lab 2\n" + jobs, "", labrun::sync::data, overtakes);
-}
-
-// Sleeps until this is so.
-static void until(const std::function<bool()> &is_so) {
-    while (!is_so()) std::this_thread::sleep_for(1ms);
 }
 
 // What a time-out tells, with each number of seconds left out.
@@ -65,9 +41,7 @@ static void the_convoy_goes_on() {
     const int orders[][3] = {{0, 1, 2}, {0, 2, 1}, {1, 0, 2}, {1, 2, 0}, {2, 0, 1}, {2, 1, 0}};
     for (const auto &order : orders) {
         labrun::bench bench = opened(labrun::OVERTAKES, jobs[order[0]] + jobs[order[1]] + jobs[order[2]]);
-        const auto desk = [&](int job) -> labrun::desk & {
-            return bench.desks()[order[0] == job ? 0 : order[1] == job ? 1 : 2];
-        };
+        const auto desk = [&](int job) -> labrun::desk & { return bench.desks()[order[0] == job ? 0 : order[1] == job ? 1 : 2]; };
         auto hangs = desk(0).begin();
         std::thread waits([&] { desk(1).begin(); });
         until([&] { return !bench.waits_for("board").empty(); });
@@ -82,8 +56,9 @@ static void who_is_before_it() {
     auto held = bench.desks()[0].begin();
     expect("board waits", throws<labrun::timed_out>([&] { bench.desks()[1].begin(0ms); }));
     std::vector<labrun::keeper> keepers;
-    expect("who is before it", told_late(bench.desks()[2], &keepers) ==
-                                   "still waits for radio, at scope for _ s: supply is kept for board, which waits for scope, held by radio for _ s");
+    expect("who is before it",
+           told_late(bench.desks()[2], &keepers) ==
+               "still waits for radio, at scope for _ s: supply is kept for board, which waits for scope, held by radio for _ s");
     expect("why", keepers.size() == 1 && keepers[0].why() == "in line before you" && keepers[0].end().why() == "held");
     expect("waits for", bench.waits_for("drive").at(0).end().job == "radio" && bench.waits_for("radio").empty());
     expect("no such job", throws<labrun::error>([&] { bench.waits_for("rodeo"); }));
@@ -107,7 +82,8 @@ static void passed_so_often_and_no_more() {
     auto third = bench.desks()[3].begin(300s);
     second.reset();
     std::vector<labrun::keeper> keepers;
-    expect("the third waits", told_late(bench.desks()[2], &keepers).find("still waits for other, at scope for _ s: supply is kept for board") == 0);
+    expect("the third waits",
+           told_late(bench.desks()[2], &keepers).find("still waits for other, at scope for _ s: supply is kept for board") == 0);
     expect("passed", keepers.size() == 1 && keepers[0].why() == "kept for board, passed 2 times" && !came);
     third.reset();
     waits.join();
@@ -165,45 +141,6 @@ static void taken_away_from_nobody() {
     expect("none left", !bench.desks()[1].begin());
 }
 
-static void a_limit_on_holding() {
-    labrun::bench bench = opened(labrun::OVERTAKES, radio + board + drive);
-    bench.desks()[0].limit(20ms);
-    {
-        auto alone = bench.desks()[0].begin();
-        std::this_thread::sleep_for(40ms);
-        alone->finish();
-    }
-    auto hangs = bench.desks()[0].begin();
-    expect("board", bench.desks()[1].begin(300s).has_value());
-    expect("taken", throws<labrun::taken_away>([&] { hangs->finish(); }));
-    hangs.reset();
-    const labrun::report report = bench.close();
-    expect("report", report.taken.size() == 1 && report.taken[0].second == 2);
-}
-
-// One who waits already learns of a limit that comes later.
-static void a_limit_comes_later() {
-    for (const std::uint32_t overtakes : {0u, 16u}) {
-        labrun::bench bench =
-            opened(overtakes, "job a\nsession\nscope read\nend\njob b\nsession\nscope read\nend\njob c\nsession\nscope read\nsupply read\nend\n");
-        std::atomic<int> held{0};
-        auto first = bench.desks()[0].begin();
-        std::vector<std::thread> threads;
-        for (const int job : {1, 2}) {
-            bench.desks()[static_cast<std::size_t>(job)].limit(20ms);
-            threads.emplace_back([&, job] {
-                auto session = bench.desks()[static_cast<std::size_t>(job)].begin();
-                held++;
-                until([&] { return held == 2; });
-            });
-        }
-        until([&] { return !bench.waits_for("b").empty() && !bench.waits_for("c").empty(); });
-        first.reset();
-        for (std::thread &thread : threads) thread.join();
-        expect("one is taken", bench.close().taken.size() == 1);
-    }
-}
-
 static void patience_in_seconds() {
     for (const std::uint32_t overtakes : {0u, 16u}) {
         labrun::bench bench = opened(overtakes, radio + patient);
@@ -235,15 +172,18 @@ static void left_outside() {
     expect("none lapsed", bench.close().lapsed.empty());
 }
 
-// A session timed out outside, and only after the one before it has let go it is given up. It doesn't come to hold by that: nothing is logged,
-// nobody holds, and the bench comes to its end. So with a third who waits meanwhile, or not.
+// A session timed out outside, and only after the one before it has let go it is given up. It doesn't come to hold by that: nothing is
+// logged, nobody holds, and the bench comes to its end. So with a third who waits meanwhile, or not.
 static void given_up_after_the_other_let_go() {
     const std::string jobs[] = {radio, "job board\nsession patience 999999\nscope read\nend\n", other};
-    const std::pair<std::array<std::size_t, 3>, std::uint32_t> orders[] = {{{0, 1, 2}, 64}, {{1, 0, 2}, 64}, {{2, 1, 0}, 1}, {{0, 2, 1}, UINT32_MAX}};
+    const std::pair<std::array<std::size_t, 3>, std::uint32_t> orders[] = {
+        {{0, 1, 2}, 64}, {{1, 0, 2}, 64}, {{2, 1, 0}, 1}, {{0, 2, 1}, UINT32_MAX}};
     for (const auto &[order, overtakes] : orders)
         for (const bool has_third : {false, true}) {
             labrun::bench bench = opened(overtakes, jobs[order[0]] + jobs[order[1]] + jobs[order[2]]);
-            const auto desk = [&, order = order](std::size_t job) -> labrun::desk & { return bench.desks()[order[0] == job ? 0 : order[1] == job ? 1 : 2]; };
+            const auto desk = [&, order = order](std::size_t job) -> labrun::desk & {
+                return bench.desks()[order[0] == job ? 0 : order[1] == job ? 1 : 2];
+            };
             auto held = desk(0).begin();
             expect("board waits", throws<labrun::timed_out>([&] { desk(1).begin(20ms); }));
             std::atomic<bool> is_given_up{false};
@@ -262,7 +202,8 @@ static void given_up_after_the_other_let_go() {
             expect("none left", !desk(1).begin());
             const labrun::report report = bench.close();
             expect("finished", report.finished && report.lapsed.empty() && report.text.find("withdrawn 1") != std::string::npos);
-            expect("nothing is logged", report.text.find("\nboard 1 ") == std::string::npos && report.text.find("instrument scope 3\n") != std::string::npos);
+            expect("nothing is logged",
+                   report.text.find("\nboard 1 ") == std::string::npos && report.text.find("instrument scope 3\n") != std::string::npos);
         }
     // without a patience it is as if it had never asked
     labrun::bench bench = opened(labrun::OVERTAKES, radio + board + drive);
@@ -308,8 +249,8 @@ static void given_up_at_that_moment() {
     }
 }
 
-// In line, too, nothing is held for nobody: one that came to hold before it is given up lets go at once, and one that came to hold after it when the
-// bench is closed.
+// In line, too, nothing is held for nobody: one that came to hold before it is given up lets go at once, and one that came to hold after it
+// when the bench is closed.
 static void given_up_in_line() {
     for (const std::string patience : {"", " patience 999999"})
         for (const bool is_first : {false, true}) {
@@ -350,27 +291,27 @@ static void with_a_journal(const std::string &path) {
 
 // Jobs of 20 sessions, some of which have a patience, long or short.
 static std::string script_by_chance(std::mt19937 &chance, unsigned jobs) {
-    const unsigned instruments = 2 + chance() % 5;
+    const unsigned instruments = 2 + static_cast<unsigned>(chance() % 5);
     std::string script = "lab 2\n";
     for (unsigned job = 0; job < jobs; job++) {
         script += "job j-" + std::to_string(job) + "\n";
         for (int number = 0; number < 20; number++) {
             static const char *const heads[] = {"session\n", "session patience 999999\n", "session patience 3\n"};
             script += heads[chance() % 3];
-            for (unsigned left = 1 + chance() % 3; left; left--) script += "i-" + std::to_string(chance() % instruments) + " add 1\n";
+            for (unsigned left = 1 + static_cast<unsigned>(chance() % 3); left; left--)
+                script += "i-" + std::to_string(chance() % instruments) + " add 1\n";
             script += "end\n";
         }
     }
     return script;
 }
 
-// The sessions of a desk, with limits, patience and time-outs by chance. How often it was told that one was taken away.
+// The sessions of a desk, with patience and time-outs by chance. How often it was told that one was taken away.
 static std::size_t drive_by_chance(labrun::desk &desk, unsigned seed) {
     std::mt19937 chance(seed);
     const auto micros = [&](unsigned below) { return std::chrono::microseconds(chance() % below); };
     for (std::size_t told = 0;;) {
-        desk.limit(chance() % 2 ? labrun::desk::span(micros(1000)) : std::nullopt);
-        desk.patience(chance() % 2 ? labrun::desk::span(micros(3000)) : std::nullopt);
+        desk.patience(chance() % 2 ? std::optional<std::chrono::nanoseconds>(micros(3000)) : std::nullopt);
         try {
             auto session = chance() % 2 ? desk.begin() : desk.begin(std::chrono::milliseconds(chance() % 3));
             if (!session) return told;
@@ -386,11 +327,11 @@ static std::size_t drive_by_chance(labrun::desk &desk, unsigned seed) {
     }
 }
 
-// Limits, patience, time-outs, and one who takes away, all at once: everybody comes to the end of its sessions.
+// Patience, time-outs, and one who takes away, all at once: everybody comes to the end of its sessions.
 static void all_at_once(const std::string &path) {
     for (unsigned seed = 0; seed < 10; seed++) {
         std::mt19937 chance(seed);
-        const unsigned jobs = 2 + chance() % 7;
+        const unsigned jobs = 2 + static_cast<unsigned>(chance() % 7);
         const std::string script = script_by_chance(chance, jobs);
         const std::uint32_t overtakes[] = {0, 1, 4, 64, UINT32_MAX};
         std::remove(path.c_str());
@@ -426,8 +367,6 @@ int main(int, char **words) {
     taken_away();
     taken_away_and_kept();
     taken_away_from_nobody();
-    a_limit_on_holding();
-    a_limit_comes_later();
     patience_in_seconds();
     left_outside();
     given_up_after_the_other_let_go();
@@ -435,6 +374,5 @@ int main(int, char **words) {
     given_up_in_line();
     with_a_journal(std::string(words[1]) + "/hung.journal");
     all_at_once(std::string(words[1]) + "/all.journal");
-    std::cout << passed << " passed, " << failed << " failed\n";
-    return failed != 0;
+    return ended();
 }

@@ -1,25 +1,17 @@
-// Tests the journal of labrun.hpp: c++ -std=c++17 -I include bindings/cpp/journal.cpp -L FOLDER -llabrun -pthread
+// Tests the journal of a bench of a script: c++ -std=c++17 -I include bindings/cpp/journal.cpp -L FOLDER -llabrun -pthread
 #include "labrun.hpp"
+#include "checks.hpp"
+#include "disk.hpp"
 #include <csignal>
-#include <functional>
-#include <iostream>
 #include <sys/resource.h>
 #include <sys/wait.h>
-#include <thread>
 
-using namespace std::chrono_literals;
 using labrun::bench;
 using labrun::journal_error;
 
-static int passed = 0, failed = 0;
 static std::string path;
 
-static void expect(const char *what, bool is_so) {
-    (is_so ? passed : failed)++;
-    if (!is_so) std::cout << "WRONG " << what << '\n';
-}
-
-static std::string why(const std::function<void()> &call) {
+static std::string fault_of(const std::function<void()> &call) {
     try {
         call();
     } catch (const journal_error &fault) {
@@ -31,7 +23,7 @@ static std::string why(const std::function<void()> &call) {
 
 static const std::string both = "lab 1\njob a\nsession\nscale set 3\nlamp add 2\nscale read\nend\njob b\nsession\nlamp read\nend\n";
 
-static std::string text() {
+static std::string written() {
     std::ifstream file(path, std::ios::binary);
     return {std::istreambuf_iterator<char>(file), std::istreambuf_iterator<char>()};
 }
@@ -60,14 +52,14 @@ static void comes_back() {
         expect("new", !first.resumed() && a && !a->resumed() && a->done() == 0);
         expect("command", a->command()->value == 3 && a->done() == 1);
         a->note("4.998 V\nquit a");
-        expect("b waits", !why([&] { bench(both, path); }).compare("another process has it open"));
+        expect("b waits", !fault_of([&] { bench(both, path); }).compare("another process has it open"));
         // the process dies, as far as the file can tell
         const pid_t child = fork();
         if (!child) _exit(0);
         waitpid(child, nullptr, 0);
         first.close();
     }
-    expect("a note", text().find("\n# note a 1: 4.998 V\\x0aquit a\n") != std::string::npos);
+    expect("a note", written().find("\n# note a 1: 4.998 V\\x0aquit a\n") != std::string::npos);
     bench second(both, path, labrun::sync::none);
     expect("resumed", second.resumed());
     try {
@@ -86,7 +78,7 @@ static void comes_back() {
     expect("finished", report.finished);
     bench third(both, path);
     expect("again", !third.desks()[0].begin() && third.close().text == report.text);
-    const std::string other = why([&] { bench("lab 1\njob a\nsession\nscale set 4\nend\n", path); });
+    const std::string other = fault_of([&] { bench("lab 1\njob a\nsession\nscale set 4\nend\n", path); });
     expect("another script", other == "it is the journal of another script, which differs in line 4");
 }
 
@@ -98,7 +90,7 @@ static void cuts_and_changes() {
         a->command();
         a->note("4.998 V");
     }
-    const std::string report = finished(whole).text, all = text();
+    const std::string report = finished(whole).text, all = written();
     const std::size_t head = both.size() + 6;
     bool is_good = true;
     for (std::size_t length = 0; length <= all.size(); length++) {
@@ -112,7 +104,7 @@ static void cuts_and_changes() {
         changed[place] = static_cast<char>(changed[place] ^ 1);
         put(changed);
         std::string told;
-        const std::string fault = why([&] {
+        const std::string fault = fault_of([&] {
             bench bench(both, path, labrun::sync::none);
             told = finished(bench).text;
         });
@@ -132,37 +124,126 @@ static void no_room() {
     bench bench(both, path);
     labrun::desk &a = bench.desks()[0], &b = bench.desks()[1];
     {
-        limit(text().size() + 5);
-        expect("begin fails", why([&] { a.begin(); }).find("a write failed (File too large)") == 0);
+        limit(written().size() + 5);
+        expect("begin fails", fault_of([&] { a.begin(); }).find("a write failed (File too large)") == 0);
         limit(RLIM_INFINITY);
         auto held = a.begin();
         expect("begin again", held && !held->resumed());
-        const std::string before = text();
+        const std::string before = written();
         limit(before.size() + 5);
-        expect("command fails", !why([&] { held->command(); }).empty() && held->done() == 0);
-        expect("note fails", !why([&] { held->note("4.998 V"); }).empty());
-        expect("finish fails", !why([&] { held->finish(); }).empty());
-        expect("the file is as it was", text() == before);
+        expect("command fails", !fault_of([&] { held->command(); }).empty() && held->done() == 0);
+        expect("note fails", !fault_of([&] { held->note("4.998 V"); }).empty());
+        expect("finish fails", !fault_of([&] { held->finish(); }).empty());
+        expect("the file is as it was", written() == before);
         limit(RLIM_INFINITY);
         expect("command again", held->command()->value == 3);
         // a thread that waits sees it
         std::string told;
-        std::thread waits([&] { told = why([&] { b.begin(); }); });
-        while (text().size() < before.size() + 1) std::this_thread::sleep_for(1ms);
+        std::thread waits([&] { told = fault_of([&] { b.begin(); }); });
+        while (written().size() < before.size() + 1) std::this_thread::sleep_for(1ms);
         std::this_thread::sleep_for(50ms);
-        limit(text().size() + 5);
-        expect("finish fails", !why([&] { held->finish(); }).empty());
+        limit(written().size() + 5);
+        expect("finish fails", !fault_of([&] { held->finish(); }).empty());
         waits.join();
         expect("who waits is told", told.find("a write failed") == 0);
         // (a session that goes can't throw)
     }
-    expect("the next begin throws it", why([&] { a.begin(); }).find("a write failed") == 0);
+    expect("the next begin throws it", fault_of([&] { a.begin(); }).find("a write failed") == 0);
     limit(RLIM_INFINITY);
     {
         auto held = a.begin();
         expect("it holds still", held && held->number() == 1 && held->done() == 1);
     }
     expect("finished", finished(bench).finished);
+}
+
+static const std::string three =
+    "lab 1\njob a\nsession\nx read\nend\nsession\nx read\nend\njob b\nsession\nx read\ny read\nend\njob c\nsession\ny read\nend\n";
+
+// A session can't be taken away, because that can't be written: it is held as before, by its owner and nobody else, and for as long.
+static void a_taking_that_fails() {
+    put("");
+    bench of(three, path, labrun::sync::none);
+    labrun::desk &a = of.desks()[0];
+    auto held = a.begin();
+    std::this_thread::sleep_for(50ms);
+    disk_is_full();
+    expect("not taken", throws<journal_error>([&] { of.take_away("a"); }));
+    disk_is_well();
+    expect("held still", held->is_held() && throws<labrun::not_now>([&] { a.begin(); }));
+    try {
+        of.desks()[1].begin(0ms);
+        expect("b waits", false);
+    } catch (const labrun::timed_out &late) {
+        expect("for as long", late.keepers.at(0).job == "a" && late.keepers[0].held_for >= 50ms);
+    }
+    expect("a command", held->command().has_value());
+    held->finish();
+    auto second = a.begin();
+    expect("taken", of.take_away("a") && throws<labrun::taken_away>([&] { second->finish(); }));
+    const labrun::report report = finished(of);
+    expect("once", report.finished && report.taken == std::vector<std::pair<std::string, std::uint32_t>>{{"a", 2}});
+}
+
+// The same of one that was given up in line and came to hold: it is still nobody's, and lets go as soon as somebody waits.
+static void a_taking_that_fails_of_nobody() {
+    put("");
+    const std::string one = "\nsession\nx read\nend\n";
+    bench of("lab 1\njob a" + one + "job b" + one + "job c" + one, path, labrun::sync::none, 0);
+    {
+        auto held = of.desks()[0].begin();
+        expect("b waits", throws<labrun::timed_out>([&] { of.desks()[1].begin(0ms); }));
+        expect("left", !of.desks()[1].give_up());
+    }
+    disk_is_full();
+    expect("not taken", throws<journal_error>([&] { of.take_away("b"); }));
+    disk_is_well();
+    expect("it lets go", of.desks()[2].begin(300s).has_value());
+    const labrun::report report = of.close();
+    expect("lapsed",
+           report.finished && report.taken.empty() && report.lapsed == std::vector<std::pair<std::string, std::uint32_t>>{{"b", 1}});
+}
+
+// By how many a session may be passed stays what it is when a write has failed.
+static void as_often_after_a_write_that_failed() {
+    for (const std::uint32_t overtakes : {0u, 64u}) {
+        put("");
+        bench of(three, path, labrun::sync::none, overtakes);
+        auto a = of.desks()[0].begin();
+        disk_is_full();
+        expect("no hold", throws<journal_error>([&] { of.desks()[2].begin(); }));
+        disk_is_well();
+        auto b = later([&] { of.desks()[1].begin()->finish(); });
+        until([&] { return !of.waits_for("b").empty(); });
+        // (with 0 it stands in line, and keeps y)
+        expect("as often", throws<labrun::timed_out>([&] { of.desks()[2].begin(20ms); }) == !overtakes);
+        a.reset();
+        b.get();
+        expect("finished", finished(of).finished);
+    }
+}
+
+// A journal is begun: its name is on the disk before the open returns. If any one call that changes a file fails, that is told, and whoever
+// opens it then sees to the name again, since it finds the file there.
+static void the_name_is_on_the_disk(labrun::sync how) {
+    const int wanted = how == labrun::sync::data;
+    long bad = 1;
+    for (bool is_through = false; !is_through; bad++) {
+        std::remove(path.c_str());
+        const auto opens = [&] {
+            folder_syncs = 0;
+            bench(both, path, how);
+        };
+        disk(bad, bad);
+        const bool is_told = throws<journal_error>(opens);
+        is_through = disk_calls < bad;
+        disk_is_well();
+        expect("it is begun, or that is told", is_told == !is_through && folder_syncs == (is_through ? wanted : 0));
+        opens();
+        expect("its name", folder_syncs == wanted);
+    }
+    // (the file is cut, and written; then it is synced, and so is its folder)
+    expect("points of an open: " + std::to_string(bad - 2), bad - 2 == (how == labrun::sync::none ? 2 : 4));
 }
 
 // Does this until it doesn't fail.
@@ -188,7 +269,7 @@ static void load(bool has_room) {
         std::atomic<bool> is_over{false};
         std::thread limits([&] {
             for (; !is_over && !has_room; std::this_thread::sleep_for(200us)) {
-                limit(text().size() + 200);
+                limit(written().size() + 200);
                 std::this_thread::sleep_for(200us);
                 limit(RLIM_INFINITY);
             }
@@ -204,7 +285,8 @@ static void load(bool has_room) {
                         if (auto begun = desk.begin()) session.emplace(std::move(*begun));
                     });
                     if (!session) break;
-                    for (const std::string &name : session->instruments()) clashes += holders[static_cast<std::size_t>(name[2] - '0')]++ != 0;
+                    for (const std::string &name : session->instruments())
+                        clashes += holders[static_cast<std::size_t>(name[2] - '0')]++ != 0;
                     std::this_thread::yield();
                     for (const std::string &name : session->instruments()) holders[static_cast<std::size_t>(name[2] - '0')]--;
                     sessions++;
@@ -226,8 +308,11 @@ int main(int, char **words) {
     comes_back();
     cuts_and_changes();
     no_room();
+    a_taking_that_fails();
+    a_taking_that_fails_of_nobody();
+    as_often_after_a_write_that_failed();
+    for (const auto how : {labrun::sync::none, labrun::sync::data}) the_name_is_on_the_disk(how);
     load(true);
     load(false);
-    std::cout << passed << " passed, " << failed << " failed\n";
-    return failed != 0;
+    return ended();
 }

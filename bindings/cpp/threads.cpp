@@ -1,28 +1,8 @@
-// Tests labrun.hpp: c++ -std=c++17 -I include bindings/cpp/threads.cpp -L FOLDER -llabrun -pthread
+// Tests a bench of a script, and whole runs: c++ -std=c++17 -I include bindings/cpp/threads.cpp -L FOLDER -llabrun -pthread
 #include "labrun.hpp"
-#include <atomic>
-#include <iostream>
+#include "checks.hpp"
 #include <random>
 #include <sys/wait.h>
-#include <thread>
-
-using namespace std::chrono_literals;
-
-static int passed = 0, failed = 0;
-
-static void expect(const char *what, bool is_so) {
-    (is_so ? passed : failed)++;
-    if (!is_so) std::cout << "WRONG " << what << '\n';
-}
-
-template <class Fault, class Call> static bool throws(Call call) {
-    try {
-        call();
-    } catch (const Fault &) {
-        return true;
-    }
-    return false;
-}
 
 static const std::string two = "lab 1\njob a\nsession\nscale add 5\nend\nsession\nscale add 5\nend\njob b\nsession\nscale read\nend\n";
 
@@ -33,7 +13,7 @@ static std::string load_script(int jobs, int sessions, int instruments, unsigned
         text += "job job-" + std::to_string(job) + "\n";
         for (int number = 0; number < sessions; number++) {
             text += "session\n";
-            for (unsigned left = 1 + chance() % 3; left; left--)
+            for (unsigned left = 1 + static_cast<unsigned>(chance() % 3); left; left--)
                 text += "i-" + std::to_string(chance() % static_cast<unsigned>(instruments)) + " add 1\n";
             text += "end\n";
         }
@@ -115,8 +95,8 @@ int main(int count, char **words) {
         expect("unfinished", !bench.close().finished);
     }
     {
-        const std::string patient =
-            "lab 2\njob a\nsession\nscale add 5\nend\njob b\nsession patience 999999\nscale read\nend\nsession patience 2\nscale read\nend\n";
+        const std::string patient = "lab 2\njob a\nsession\nscale add 5\nend\njob b\nsession patience 999999\nscale read\nend\nsession "
+                                    "patience 2\nscale read\nend\n";
         labrun::bench bench(patient);
         auto held = bench.desks()[0].begin();
         expect("patient", throws<labrun::timed_out>([&] { bench.desks()[1].begin(20ms); }));
@@ -150,7 +130,7 @@ int main(int count, char **words) {
             try {
                 bench.close();
             } catch (const labrun::other_process &fault) {
-                refused += fault.what() == "this bench belongs to process " + std::to_string(parent);
+                refused += fault.what() == "this belongs to process " + std::to_string(parent);
             }
             _exit(refused);
         }
@@ -167,6 +147,5 @@ int main(int count, char **words) {
     expect("refused", throws<labrun::refused>([] { labrun::bench bench("lab 1\njob A\n"); }));
     expect("no file", throws<labrun::error>([] { labrun::bench::open("/nowhere"); }));
     load(count > 1 ? std::stoi(words[1]) : 20000);
-    std::cout << passed << " passed, " << failed << " failed\n";
-    return failed != 0;
+    return ended();
 }

@@ -4,9 +4,11 @@
     with lab.hold("scope", "supply", timeout=5.0) as held:
         held.note(measure(held.instruments))
 
-Names and errors are those of the package labrun, whose proved bench is behind it."""
+Names and errors are those of the package labrun, whose proved bay is behind it."""
 
-from .client import BadWish, BrokerError, Held, JournalError, Lab, MayNotUse, NotHeld, Stopped, TakenAway, TimeoutError, Unreachable, connect
+from .client import Lab, connect
+from .errors import BadWish, BrokerError, JournalError, MayNotUse, NotHeld, Stopped, TakenAway, TimeoutError, Unreachable
+from .held import Held
 
 __all__ = [
     "BadWish",

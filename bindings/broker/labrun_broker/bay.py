@@ -10,7 +10,7 @@
     radio = ["scope"]
 
     [guests]
-    count = 8
+    count = 8                           # so many hold at once; more may wait
     may_use = ["scope", "supply"]       # without this line: all
 
     [limits]                            # (each as it is without a line)
@@ -28,9 +28,8 @@ import tomllib
 from dataclasses import dataclass, field
 from typing import Any, Optional, Union
 
-# what the library can take
-MOST_JOBS, MOST_INSTRUMENTS, MOST_IN_COMMON, NAME_LENGTH = 32, 56, 28, 16
-MOST_SESSIONS, MOST_COMMANDS = 1000, 100000
+# what the library can take (the guests are a class, as each station is one, of 32); of guests, as many as a status can show
+MOST_STATIONS, MOST_INSTRUMENTS, MOST_GUESTS, NAME_LENGTH = 31, 64, 1000, 16
 KEYWORDS = ("lab", "job", "session", "end", "steps", "patience")
 A_NAME = f"up to {NAME_LENGTH} of a to z, digits and `-`, first a letter, and none of {' '.join(KEYWORDS)}"
 
@@ -58,7 +57,7 @@ class Bay:
     guests_use: tuple[str, ...] = ()
     gone: str = "keep"
     limits: Limits = Limits()
-    # so many sessions at most may go before one that asks (`Bench.new`); if nothing is said, as if each of the others went once
+    # so many sessions at most may go before one that asks; if nothing is said, as if each of the others went once
     overtakes: Optional[int] = None
 
     @property
@@ -67,7 +66,7 @@ class Bay:
 
     @property
     def jobs(self) -> dict[str, tuple[str, ...]]:
-        """The jobs of the bench, each with the instruments that it may use."""
+        """The stations and the guests, each with the instruments that it may use."""
         return {**self.stations, **{name: self.guests_use for name in self.guest_names}}
 
 
@@ -212,23 +211,16 @@ class _Reader:
 
     def fits(self, bay: Bay) -> None:
         """Whether the library can take it."""
-        count = len(bay.stations) + bay.guests
-        if not count:
+        if not bay.stations and not bay.guests:
             self.fault("stations", "there is neither a station nor a guest: nobody could ask for anything")
-        if count > MOST_JOBS:
-            self.fault("guests.count", f"{len(bay.stations)} stations and {bay.guests} guests are {count}; a bay has {MOST_JOBS} at most")
-            return
-        for name in bay.guest_names:
-            if name in bay.stations:
+        if len(bay.stations) > MOST_STATIONS:
+            self.fault("stations", f"{len(bay.stations)} stations; a bay has {MOST_STATIONS} at most")
+        if bay.guests > MOST_GUESTS:
+            self.fault("guests.count", f"{bay.guests} guests; a bay has {MOST_GUESTS} at most")
+        for name in bay.stations if bay.guests else ():
+            if re.fullmatch(r"guest-\d+", name):
                 self.fault(f"stations.{name}", "this is the name of a guest")
-        if bay.guests > 1 and len(bay.guests_use) > MOST_IN_COMMON:
-            self.fault("guests.may_use", f"two guests would have {len(bay.guests_use)} instruments in common; {MOST_IN_COMMON} is the most")
         users = [*bay.stations.items(), *([("the guests", bay.guests_use)] if bay.guests else [])]
-        for at, (name, uses) in enumerate(users):
-            for other, others in users[:at]:
-                common = set(uses) & set(others)
-                if len(common) > MOST_IN_COMMON:
-                    self.fault(f"stations.{other}", f"it has {len(common)} instruments in common with {name}; {MOST_IN_COMMON} is the most")
         for name in bay.instruments:
             if not any(name in uses for _, uses in users):
                 self.fault("instruments", f"nobody may use {name}")

@@ -6,7 +6,7 @@ import argparse
 import shlex
 from typing import Any, Sequence
 
-from .command import ABOUT, PROGRAM, STATUSES, Word
+from .words import ABOUT, PROGRAM, STATUSES, Word
 
 
 def arguments_of(word: Word) -> list[Any]:

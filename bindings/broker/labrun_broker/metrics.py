@@ -5,7 +5,7 @@ from __future__ import annotations
 from typing import Any, Iterator, Optional
 
 from .serving import HEADERS, Lacking, Served, runs_beside, serve, web
-from .sessions import Past, Record, batches, first, recent_records
+from .sessions import Past, Record, batches, first
 
 try:
     from prometheus_client import CollectorRegistry, Counter, Histogram, generate_latest
@@ -37,7 +37,6 @@ class Metrics:
         self._registry = of = CollectorRegistry()
         self._sessions = Counter("labrun_sessions", "Sessions that are over, by how they ended", ["station", "end"], registry=of)
         self._waits = Histogram("labrun_wait_seconds", "How long sessions waited until they held", ["instrument"], buckets=BUCKETS, registry=of)
-        self._pages = Counter("labrun_pages", "Pages that were turned", registry=of)
         self._refusals = Counter("labrun_refusals", "Wishes that were refused: a wrong name, an instrument that the client may not use, a ticket that no session has", registry=of)
         self._refused = 0
         of.register(Now(keeping))
@@ -47,7 +46,7 @@ class Metrics:
         runs_beside(app, self._count)
 
     async def _count(self) -> None:
-        for record in recent_records(self._keeping.state) if self._keeping.state else ():
+        for record in self._keeping.recent():
             # (sessions that were held before the broker began: they end now)
             self._past.take(record)
         self._past.ended.clear()
@@ -56,10 +55,8 @@ class Metrics:
                 self._take(record)
 
     def _take(self, record: Record) -> None:
-        if record["what"] == "page":
-            self._pages.inc()
         over = self._past.take(record)
-        session = self._past.now.get(record.get("station") or "")
+        session = self._past.now.get(self._past.key_of(record))
         if over is not None:
             self._sessions.labels(over.station, over.how).inc()
         if record["what"] == "held" and session is not None and session.held == record["t"]:

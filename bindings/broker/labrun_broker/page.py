@@ -16,7 +16,7 @@ from pathlib import Path
 from typing import Any, Optional
 
 from .serving import HEADERS, SLOW, Served, runs_beside, serve, web
-from .sessions import Past, Record, Session, batches, recent_records
+from .sessions import Past, Record, Session, batches
 
 PACE = 0.25  # seconds between two messages to a browser, at least
 BEAT = 5.0  # and at most, so that it sees when the broker is gone
@@ -37,7 +37,7 @@ class Watch:
 
     async def run(self) -> None:
         read = 0.0
-        for record in recent_records(self._keeping.state) if self._keeping.state else ():
+        for record in self._keeping.recent():
             self._add(record)
             read = record["t"]
         async for batch in batches(self._keeping):

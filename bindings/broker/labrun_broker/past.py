@@ -11,7 +11,7 @@ import time
 from datetime import datetime, timezone
 from typing import Optional, TextIO
 
-from .journals import records_of_journal
+from .benches import records_of_journal
 from .sessions import ENDS, UNKNOWN, Fault, Past, Session, first, read_records, spans_waited_for
 from .texts import aligned, plain, span
 
@@ -111,7 +111,7 @@ def read_past(path: str) -> tuple[Past, list[str]]:
         with open(path, encoding="utf-8", errors="replace") as file:
             lines = list(file)
         if "steps\n" not in lines:
-            raise Fault(f"{path}: it is no journal, which has a line `steps`")
+            raise Fault(f"{path}: it is no journal of a bench, which has a line `steps` (of a bay, name the folder)")
         try:
             records, faults = list(records_of_journal(lines)), []
         except Fault as fault:

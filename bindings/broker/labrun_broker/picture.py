@@ -6,7 +6,7 @@ import time
 from html import escape
 from typing import Iterable, NamedTuple
 
-from .sessions import HOLDS, UNKNOWN, WAITS, Session, first, spans_waited_for
+from .sessions import HOLDS, UNKNOWN, Session, first, spans_waited_for
 
 LEFT, WIDTH, ROW, BAR = 150, 1050, 24, 18
 LETTER = 6.1  # the width of a letter, at this size

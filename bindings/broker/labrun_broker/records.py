@@ -1,149 +1,94 @@
-"""What the broker writes down beside the journal: the records of each page, a line of JSON each, and when all that is on the disk.
-
-The journal says what became of the bench, the library takes it up again, and the broker adds a note to each session that it gives: the hash of
-its ticket, and by whom. The records say the same, and the rest, for people."""
+"""The records: a line of JSON for each thing that happened, for people. What of a session that held is missing in them, because the broker
+was killed or the power cut, is made good from the bay's journal."""
 
 from __future__ import annotations
 
 import asyncio
-import collections
-import hashlib
+import contextlib
 import json
 import os
-from concurrent.futures import ThreadPoolExecutor
-from typing import Any, Callable, Optional
+from typing import Any, AsyncIterator, Optional
 
 Record = dict[str, Any]
 
+KEPT_IN_MEMORY = 1000
+MOST_WAITING = 1 << 24  # bytes that can't be written; what comes then is lost but for what the journal has
 LINE = json.JSONEncoder(separators=(",", ":"))
-
-# a sync is done at once, because a thread would cost as much, unless the last ones each took longer than this
-QUICK, LAST = 0.0005, 4
-# what nobody waits for is on the disk after so many seconds
-SOON = 0.02
-
-
-def hashed(ticket: str) -> str:
-    """What is kept of a ticket: whoever reads the files can't come in place of its owner."""
-    return hashlib.sha256(ticket.encode()).hexdigest()[:32] if ticket else ""
 
 
 class Records:
-    """The file of a page. What is added is written soon, with all that others add meanwhile."""
+    """A file to whose end lines are added. What is added is written soon, with all that others add meanwhile."""
 
-    def __init__(self, path: str) -> None:
-        self.path = path
+    def __init__(self, path: str, syncs: bool = True) -> None:
+        self.path, self._syncs = path, syncs
         self.file = os.open(path, os.O_RDWR | os.O_CREAT | os.O_APPEND | os.O_CLOEXEC, 0o640)
         self._waiting = bytearray()
+        self._is_synced = True
         size = os.fstat(self.file).st_size
         if size and os.pread(self.file, 1, size - 1) != b"\n":
             # (the broker was killed in the midst of a line)
             self._waiting += b"\n"
 
     def add(self, record: Record) -> None:
+        if len(self._waiting) > MOST_WAITING:
+            return
         if not self._waiting:
-            asyncio.get_running_loop().call_soon(self._write_quietly)
+            asyncio.get_running_loop().call_soon(self.write)
         self._waiting += LINE.encode(record).encode() + b"\n"
 
     def write(self) -> None:
-        """OSError: what isn't written is kept, and tried again."""
-        while self._waiting:
-            del self._waiting[: os.write(self.file, self._waiting)]
+        """What can't be written is kept, and tried again with the next."""
+        with contextlib.suppress(OSError):
+            while self._waiting:
+                del self._waiting[: os.write(self.file, self._waiting)]
+                self._is_synced = False
 
-    def _write_quietly(self) -> None:
-        try:
-            self.write()
-        except OSError:
-            pass
+    def sync(self) -> None:
+        """What was written is on the disk, as far as that can be. Another thread may call it."""
+        if self._syncs and not self._is_synced:
+            self._is_synced = True
+            with contextlib.suppress(OSError):
+                os.fdatasync(self.file)
 
     def close(self) -> None:
-        self._write_quietly()
+        self.write()
+        self.sync()
         os.close(self.file)
 
 
-class Disk:
-    """When what was written to `files` is on the disk. One sync serves all who came before it: those of one round of the loop, and, where it
-    takes long and has a thread, those who come during the sync before. `fails` is called once one failed: nobody knows then what is on the
-    disk, and none succeeds any more.
+class News:
+    """The last records, for whoever watches, and all of them for a file."""
 
-    The first file is the journal. Whoever is told that it holds waits for that alone; the others are synced soon."""
+    def __init__(self) -> None:
+        self.history: list[Record] = []
+        self.file: Optional[Records] = None
+        self._watchers: set[asyncio.Event] = set()
 
-    def __init__(self, fails: Callable[[], None]) -> None:
-        self.files: list[int] = []
-        self.fault: Optional[OSError] = None
-        self._fails = fails
-        self._thread = ThreadPoolExecutor(1, "sync")
-        self._waiting: list[asyncio.Future[None]] = []
-        self._is_asked = self._is_busy = self._takes_all = False
-        self._timer: Optional[asyncio.TimerHandle] = None
-        self._took = collections.deque([0.0], LAST)
+    def add(self, record: Record, **more: Any) -> None:
+        self.history.append(record)
+        if len(self.history) > 2 * KEPT_IN_MEMORY:
+            del self.history[:-KEPT_IN_MEMORY]
+        if self.file is not None:
+            self.file.add({**record, **more})
+        for watcher in self._watchers:
+            watcher.set()
 
-    async def synced(self, takes_all: bool = False) -> None:
-        """Returns once all that was written to the journal, or to all files, is on the disk."""
-        if self.files:
-            loop = asyncio.get_running_loop()
-            one = loop.create_future()
-            self._waiting.append(one)
-            self._takes_all |= takes_all
-            self._asks(loop)
-            await one
+    def write(self) -> None:
+        if self.file is not None:
+            self.file.write()
 
-    def soon(self) -> None:
-        """What was written is to be on the disk, though nobody waits for it."""
-        if self._timer is None and self.files:
-            self._timer = asyncio.get_running_loop().call_later(SOON, self._now)
+    def sync(self) -> None:
+        if self.file is not None:
+            self.file.sync()
 
-    def _now(self) -> None:
-        self._timer, self._takes_all = None, True
-        self._asks(asyncio.get_running_loop())
-
-    def _asks(self, loop: asyncio.AbstractEventLoop) -> None:
-        if not self._is_asked:
-            self._is_asked = True
-            if not self._is_busy:
-                loop.call_soon(self._begin, loop)
-
-    def _begin(self, loop: asyncio.AbstractEventLoop) -> None:
-        files, waiting = self.files[: None if self._takes_all else 1], self._waiting
-        self._waiting, self._is_asked, self._takes_all = [], False, False
-        if min(self._took) < QUICK:
-            self._sync(files, loop)
-            self._ends(waiting)
-            return
-        self._is_busy = True
-        done = loop.run_in_executor(self._thread, self._sync, files, loop)
-        done.add_done_callback(lambda _: self._is_over(waiting, loop))
-
-    def _is_over(self, waiting: list[asyncio.Future[None]], loop: asyncio.AbstractEventLoop) -> None:
-        self._is_busy = False
-        self._ends(waiting)
-        if self._is_asked:
-            self._begin(loop)
-
-    def _sync(self, files: list[int], loop: asyncio.AbstractEventLoop) -> None:
-        begun = loop.time()
+    async def changes(self) -> AsyncIterator[None]:
+        """Wakes whenever something has changed; once for all that changed meanwhile."""
+        event = asyncio.Event()
+        self._watchers.add(event)
         try:
-            for file in files if self.fault is None else ():
-                os.fdatasync(file)
-        except OSError as fault:
-            self.fault = fault
-        self._took.append(loop.time() - begun)
-
-    def _ends(self, waiting: list[asyncio.Future[None]]) -> None:
-        if self.fault is not None:
-            self._fails()
-        for one in waiting:
-            if not one.done():
-                if self.fault is None:
-                    one.set_result(None)
-                else:
-                    one.set_exception(self.fault)
-
-    def close(self) -> None:
-        """All is on the disk, as far as that can be."""
-        if self._timer is not None:
-            self._timer.cancel()
-            self._timer = None
-        if self.files:
-            self._thread.submit(self._sync, self.files, asyncio.get_running_loop()).result()
-            self.files = []
+            while True:
+                await event.wait()
+                event.clear()
+                yield
+        finally:
+            self._watchers.discard(event)

@@ -9,13 +9,7 @@ import asyncio
 import builtins
 import collections
 import hmac
-import math
-import os
-import secrets
-import socket
-import stat
 import time
-from dataclasses import dataclass
 from typing import Any, AsyncIterator, Awaitable, Callable, Coroutine, Optional
 
 import grpc
@@ -23,16 +17,17 @@ import labrun
 from google.protobuf import json_format
 
 from . import broker_pb2 as pb
-from .bay import BadAddress as BadAddress
-from .bay import is_here
-from .keeping import LEASE, BadWish, Ended, Keeping, Seat, Wish
-from .sockets import check_group, clear, for_the_group, give
+from .bay import BadAddress
+from .door import Complaints, Door, check_free
+from .keeping import Keeping
+from .sockets import for_the_group, give
+from .standing import Session, Standings
+from .wishes import BadWish, Ended, Wish, check_form, wish_of
 
-# when a client that waits is told for whom, and when again if that has changed
-FIRST_WORD, NEXT_WORD = 0.3, 1.0
+# when a client that waits is told for whom, when again if that has changed, and when again if it hasn't
+FIRST_WORD, NEXT_WORD, AGAIN = 0.3, 1.0, 60.0
 # so often at most one that watches is told; a call that isn't of a session's stream counts as so many messages
 WATCH, DEAR = 0.2, 20
-MOST_CHOICES = 100
 
 OPTIONS = [
     ("grpc.max_receive_message_length", 1 << 16),
@@ -87,11 +82,11 @@ class Pace:
 
 
 class Client:
-    """One client's stream. It is the owner of the seat that it holds."""
+    """One client's stream. It is the owner of the session that it holds."""
 
     def __init__(self, keeping: Keeping, context: Any) -> None:
         self.keeping, self.context = keeping, context
-        self.seat: Optional[Seat] = None
+        self.session: Optional[Session] = None
         self.pace = Pace(keeping.bay.limits.requests)
         # what waits until it holds
         self._waiting: Optional[asyncio.Task[None]] = None
@@ -121,15 +116,15 @@ class Client:
         finally:
             if self._waiting is not None:
                 self._waiting.cancel()
-            if self.seat is not None:
-                self.keeping.gone(self.seat, self)
+            if self.session is not None:
+                self.keeping.gone(self.session, self)
 
     def _is_heard(self) -> None:
-        if self.seat is not None:
-            self.keeping.heard(self.seat, self)
+        if self.session is not None:
+            self.keeping.heard(self.session, self)
 
     async def _ping(self, asked: Any) -> None:
-        holds = self.seat is not None and self.keeping.heard(self.seat, self, True)
+        holds = self.session is not None and self.keeping.heard(self.session, self, True)
         await self._tell(pb.Told(pong=pb.Pong(at=asked.at, holds=holds)))
 
     async def _tell(self, told: Any) -> None:
@@ -149,36 +144,29 @@ class Client:
             task.exception()
 
     def taken(self, why: str) -> None:
-        self.seat = None
+        self.session = None
         self._starts(self._tell(pb.Told(taken=pb.Fault(kind="TakenAway", text=why))))
 
     # ---- what it asks
 
     async def _wish(self, asked: Any) -> None:
-        if self.seat is not None:
+        if self.session is not None:
             raise BadWish("this stream holds a session, and is in one at a time: another needs a stream of its own")
-        limit = self.keeping.bay.limits.name
-        for text in (asked.by, asked.station, asked.ticket, *asked.instruments, *(name for it in asked.any_of for name in it.names)):
-            if len(text) > limit:
-                raise BadWish(f"a name of {len(text)} characters; {limit} are the most")
-        if len(asked.any_of) > MOST_CHOICES:
-            raise BadWish(f"{len(asked.any_of)} choices; {MOST_CHOICES} are the most")
-        any_of = tuple(tuple(it.names) for it in asked.any_of)
-        ticket = asked.ticket or secrets.token_urlsafe()
-        wish = Wish(tuple(asked.instruments), any_of, asked.station, asked.by, _seconds(asked), ticket, asked.comes_back, asked.pings)
-        seats: list[Seat] = []
-        self._waiting = self._starts(self._holds(wish, seats))
+        wish, asks = wish_of(asked), list[Session]()
+        # (at once: what follows may be answered later)
+        check_form(wish, self.keeping.bay)
+        self._waiting = self._starts(self._holds(wish, asks))
         if asked.wants_waits:
-            self._starts(self._says_for_whom(self._waiting, seats))
+            self._starts(self._says_for_whom(self._waiting, asks))
 
-    async def _holds(self, wish: Wish, seats: list[Seat]) -> None:
-        """Tells the client once it holds. Whoever cancels this gives up: if it came to hold just now, nobody is told, and the session ends."""
+    async def _holds(self, wish: Wish, asks: list[Session]) -> None:
+        """Tells the client once it holds. Whoever cancels this gives up: if it came to hold just now, nobody is told, and the session
+        ends."""
         try:
-            seat = self.seat = await self.keeping.hold(wish, self, seats.append)
-            number = seat.session.number if seat.session is not None else 0
-            held = pb.Held(station=seat.name, session=number, instruments=seat.instruments, ticket=wish.ticket)
-            if not math.isinf(seat.grace):
-                held.grace, held.lease = seat.grace, LEASE * seat.grace
+            it = self.session = await self.keeping.hold(wish, self, asks.append)
+            held = pb.Held(station=it.name, session=it.number, instruments=it.instruments, ticket=wish.ticket)
+            if (lease := self.keeping.lease) is not None:
+                held.grace, held.lease = self.keeping.grace, lease
             told = pb.Told(held=held)
         except FAULTS as fault:
             told = pb.Told(fault=fault_of(fault))
@@ -186,31 +174,28 @@ class Client:
             self._waiting = None
         await self._tell(told)
 
-    async def _says_for_whom(self, waiting: asyncio.Task[None], seats: list[Seat]) -> None:
-        said, span = None, FIRST_WORD
+    async def _says_for_whom(self, waiting: asyncio.Task[None], asks: list[Session]) -> None:
+        said: Any = None
+        said_at, span = 0.0, FIRST_WORD
         while not (await asyncio.wait({waiting}, timeout=span))[0]:
-            keepers = self.keeping.waits_for(seats[0]) if seats else []
-            for_whom = [(it["instrument"], it["station"], it["holds"]) for it in keepers]
+            keepers, why, for_whom = Standings(self.keeping).for_whom(asks[0]) if asks else ([], "", ())
+            now = time.monotonic()
             async with self._writing:
-                if self._waiting is waiting and for_whom != said:
-                    text = ", ".join(it["text"] for it in keepers)
-                    text = text or ("a page is being turned" if seats else "the station, or each guest, is in a session")
-                    await self.context.write(json_format.ParseDict({"waits": {"text": text, "waits_for": keepers}}, pb.Told()))
-            said, span = for_whom, NEXT_WORD
+                if self._waiting is waiting and asks and (for_whom != said or now > said_at + AGAIN):
+                    said, said_at = for_whom, now
+                    await self.context.write(json_format.ParseDict({"waits": {"text": why, "waits_for": keepers}}, pb.Told()))
+            span = NEXT_WORD
 
     async def _note(self, asked: Any) -> None:
-        limit = self.keeping.bay.limits.note
-        if len(asked.text) > limit:
-            raise BadWish(f"a note of {len(asked.text)} characters; {limit} are the most")
-        await self.keeping.note(self._seat(), self, asked.text)
+        await self.keeping.note(self._held(), self, asked.text)
         await self._tell(pb.Told(noted=pb.Noted()))
 
     async def _let_go(self, asked: Any) -> None:
         if self._waiting is not None:
             return await self._give_up(self._waiting)
         failed = asked.failed[: self.keeping.bay.limits.note] if asked.HasField("failed") else None
-        await self.keeping.let_go(self._seat(), self, failed)
-        self.seat = None
+        await self.keeping.let_go(self._held(), self, failed)
+        self.session = None
         await self._tell(GONE)
 
     async def _give_up(self, waiting: asyncio.Task[None]) -> None:
@@ -219,23 +204,15 @@ class Client:
         self._waiting = None
         await self._tell(GONE)
 
-    def _seat(self) -> Seat:
-        if self.seat is None:
+    def _held(self) -> Session:
+        if self.session is None:
             raise labrun.NotHeld("this stream holds nothing")
-        return self.seat
-
-
-def _seconds(wish: Any) -> Optional[float]:
-    """The timeout of a wish; None if it has none."""
-    if not wish.HasField("timeout"):
-        return None
-    if not 0 <= wish.timeout < 1e9:
-        raise BadWish(f"a timeout of {wish.timeout:g} s; it is 0 or more, and below 1000000000")
-    return float(wish.timeout)
+        return self.session
 
 
 class Service:
-    """The calls of the service. Who comes by the network gives the token, if there is one; who comes by the socket was let in by its mode."""
+    """The calls of the service. Who comes by the network gives the token, if there is one; who comes by the socket was let in by its
+    mode."""
 
     def __init__(self, keeping: Keeping, token: Optional[str]) -> None:
         self.keeping, self.token = keeping, token
@@ -289,27 +266,12 @@ class Service:
     async def Release(self, wish: Any, context: Any) -> Any:
         await self._paces(context)
         by = wish.by[: self.keeping.bay.limits.name] or "an operator"
-        return pb.Released(instruments=await _answer(context, self.keeping.release(wish.station, by)))
-
-    async def Report(self, wish: Any, context: Any) -> Any:
-        await self._paces(context)
-        return pb.ReportText(text=await _answer(context, asyncio.to_thread(self.keeping.report, wish.page)))
-
-    async def Pages(self, wish: Any, context: Any) -> Any:
-        await self._paces(context)
-        if wish.turn:
-            await _answer(context, self._turned(wish))
-        return pb.PageList(pages=[pb.Page(**it) for it in self.keeping.pages()])
-
-    async def _turned(self, wish: Any) -> None:
-        await self.keeping.turn_page(_seconds(wish))
+        return pb.Released(instruments=await _answer(context, self.keeping.release(wish.station, by, wish.session)))
 
 
 async def _answer(context: Any, work: Awaitable[Any]) -> Any:
     try:
         return await work
-    except labrun.NotBack as fault:
-        await context.abort(grpc.StatusCode.ABORTED, str(fault))
     except labrun.NotHeld as fault:
         await context.abort(grpc.StatusCode.FAILED_PRECONDITION, str(fault))
     except BadWish as fault:
@@ -318,61 +280,13 @@ async def _answer(context: Any, work: Awaitable[Any]) -> Any:
         await context.abort(grpc.StatusCode.INTERNAL, str(fault))
 
 
-# ---- where it listens
-
-
-@dataclass(frozen=True)
-class Door:
-    """Where the broker listens, and who is let in: by the mode of the socket, or by certificate, key and token."""
-
-    addresses: tuple[str, ...]
-    certificate: Optional[str] = None
-    key: Optional[str] = None
-    token_file: Optional[str] = None
-    group: Optional[str] = None
-
-    def token(self) -> Optional[str]:
-        if self.token_file is None:
-            return None
-        with open(self.token_file, encoding="ascii") as file:
-            if stat.S_IMODE(os.fstat(file.fileno()).st_mode) & 0o007:
-                raise BadAddress(f"{self.token_file}: everybody on this machine may read it: chmod o= {self.token_file}")
-            token = file.read().strip()
-        if len(token) < 16:
-            raise BadAddress(f"{self.token_file}: a token of 16 characters or more is wanted: openssl rand -hex 32 > {self.token_file}")
-        return token
-
-    def credentials(self) -> Any:
-        if self.certificate is None or self.key is None:
-            return None
-        with open(self.key, "rb") as key, open(self.certificate, "rb") as certificate:
-            return grpc.ssl_server_credentials([(key.read(), certificate.read())])
-
-    def check(self) -> None:
-        check_group(self.group)
-        if (self.certificate is None) != (self.key is None):
-            raise BadAddress("a certificate and its key belong together: --tls-certificate FILE --tls-key FILE")
-        for address in self.addresses:
-            if not address.startswith("unix:") and not is_loopback(address) and (self.certificate is None or self.token_file is None):
-                raise BadAddress(
-                    f"{address} is seen by other machines: that takes a certificate and a token, --tls-certificate FILE --tls-key FILE --token-file FILE"
-                )
-
-
-def is_loopback(address: str) -> bool:
-    host, colon, port = address.rpartition(":")
-    if not colon or not port.isdigit():
-        raise BadAddress(f"{address}: unix:PATH or HOST:PORT is wanted")
-    return is_here(host.strip("[]"))
-
-
 async def start(keeping: Keeping, door: Door) -> Any:
     """The server, which has begun to listen. BadAddress and OSError say why it can't."""
     door.check()
     service, credentials = Service(keeping, door.token()), door.credentials()
     # (a server of gRPC that is made and not started may keep the program from ending, so all is looked at before)
     for address in door.addresses:
-        _check_free(address)
+        check_free(address)
     asyncio.get_running_loop().set_exception_handler(Complaints())
     server = grpc.aio.server(options=OPTIONS)
     server.add_generic_rpc_handlers((_methods(service),))
@@ -388,39 +302,6 @@ async def start(keeping: Keeping, door: Door) -> Any:
     return server
 
 
-class Complaints:
-    """What nobody catches is told, with its traceback, once in a while: a client can't fill the log. That a stream was over before gRPC could
-    say how it ended is no fault."""
-
-    PAUSE = 10.0
-
-    def __init__(self) -> None:
-        self.next, self.passed = 0.0, 0
-
-    def __call__(self, loop: asyncio.AbstractEventLoop, context: dict[str, Any]) -> None:
-        if type(context.get("exception")).__name__ == "ExecuteBatchError":
-            return
-        if loop.time() < self.next:
-            self.passed += 1
-            return
-        if self.passed:
-            context = {**context, "message": f"{context.get('message')} (and {self.passed} before it)"}
-        self.next, self.passed = loop.time() + self.PAUSE, 0
-        loop.default_exception_handler(context)
-
-
-def _check_free(address: str) -> None:
-    """Nobody listens there. A socket that a broker left which is gone is taken away."""
-    if address.startswith("unix:"):
-        return clear(address.removeprefix("unix:"))
-    host, _, port = address.rpartition(":")
-    try:
-        kind = socket.AF_INET6 if ":" in host else socket.AF_INET
-        socket.create_server((host.strip("[]"), int(port)), family=kind).close()
-    except (OSError, OverflowError) as fault:
-        raise BadAddress(f"{address}: it can't listen there: {getattr(fault, 'strerror', None) or fault}") from None
-
-
 def _methods(service: Service) -> Any:
     def unary(call: Any, wish: Any) -> Any:
         return grpc.unary_unary_rpc_method_handler(call, wish.FromString, _bytes)
@@ -432,8 +313,6 @@ def _methods(service: Service) -> Any:
             "Watch": grpc.unary_stream_rpc_method_handler(service.Watch, pb.StatusWish.FromString, _bytes),
             "Status": unary(service.Status, pb.StatusWish),
             "Release": unary(service.Release, pb.ReleaseWish),
-            "Report": unary(service.Report, pb.ReportWish),
-            "Pages": unary(service.Pages, pb.PagesWish),
         },
     )
 

@@ -7,7 +7,7 @@ import json
 import os
 import re
 from dataclasses import dataclass, field
-from typing import Any, AsyncIterator, Iterator, Optional, Reversible
+from typing import Any, AsyncIterator, Callable, Iterator, Optional, Reversible
 
 Record = dict[str, Any]
 
@@ -47,11 +47,15 @@ def first(*times: Optional[float]) -> float:
     raise ValueError("none of the times is there")
 
 
+Key = tuple[str, Optional[int]]
+
+
 class Past:
-    """Takes records one by one, in their order. `ended` are the sessions that are over; `now` has those that aren't, by their station."""
+    """Takes records one by one, in their order. `ended` are the sessions that are over; `now` has those that aren't, by their station and number.
+    (Older records have no number of one that asks.)"""
 
     def __init__(self) -> None:
-        self.now: dict[str, Session] = {}
+        self.now: dict[Key, Session] = {}
         self.ended: list[Session] = []
         self.instruments: dict[str, None] = {}
         self.stations: dict[str, None] = {}
@@ -69,48 +73,67 @@ class Past:
         if not station:
             return None
         self.stations[station] = None
-        if what in ENDS:
-            return self._end(station, t, ENDS[what], record.get("text") or "")
-        if what == "asked" or what == "held":
-            return self._begin(station, record)
-        session = self.now.get(station)
+        if what == "asked":
+            return self._asks(station, record)
+        if what == "held":
+            return self._holds(station, record)
+        key = self.key_of(record)
+        session = self.now.get(key)
         if session is None:
             return None
+        if what in ENDS:
+            return self._end(key, t, ENDS[what], record.get("text") or "")
         if what == "note":
             session.notes.append((t, record.get("text") or ""))
-        elif what == "gone":
+        elif what in ("gone", "back"):
             self._back(session, t)
-            session.gone.append((t, None))
-        elif what == "back":
-            self._back(session, t)
+            if what == "gone":
+                session.gone.append((t, None))
         return None
+
+    def key_of(self, record: Record) -> Key:
+        """By which the session of a record is in `now`, if it is there."""
+        station, number = record.get("station") or "", record.get("session")
+        if (station, number) in self.now or (station, None) in self.now:
+            return (station, number) if (station, number) in self.now else (station, None)
+        return next((key for key in reversed(self.now) if key[0] == station and number is None), (station, number))
 
     def sessions(self) -> list[Session]:
         return sorted([*self.ended, *self.now.values()], key=lambda it: it.asked)
 
-    def _begin(self, station: str, record: Record) -> Optional[Session]:
-        session, t, number = self.now.get(station), record["t"], record.get("session")
-        instruments = tuple(record.get("instruments") or ())
-        if record["what"] == "held" and session is not None and session.held is None:
-            session.held, session.how, session.number = t, HOLDS, number
-            session.instruments = instruments or session.instruments
-            return None
-        over = self._end(station, t, UNKNOWN) if session is not None else None
-        new = Session(station, number, record.get("by") or "", instruments, t)
-        if record["what"] == "held":
-            new.held, new.how = t, HOLDS
-        self.now[station] = new
+    def _asks(self, station: str, record: Record) -> Optional[Session]:
+        number = record.get("session")
+        # (without a number a station is in one session at a time)
+        over = self._ends_others(station, record["t"], lambda it: number is None)
+        self.now[station, number] = Session(station, number, record.get("by") or "", tuple(record.get("instruments") or ()), record["t"])
+        return over
+
+    def _holds(self, station: str, record: Record) -> Optional[Session]:
+        t, number, key = record["t"], record.get("session"), self.key_of(record)
+        session, over = self.now.get(key), None
+        if session is None or session.held is not None:
+            over = self._ends_others(station, t, lambda it: it.held is not None)
+            session = Session(station, number, record.get("by") or "", (), t)
+            key = station, number
+        session.held, session.how, session.number = t, HOLDS, number
+        session.instruments = tuple(record.get("instruments") or ()) or session.instruments
+        self.now.pop(key, None)
+        self.now[station, number] = session
+        return over
+
+    def _ends_others(self, station: str, t: float, is_over: Callable[[Session], bool]) -> Optional[Session]:
+        over = None
+        for key in [key for key, it in self.now.items() if key[0] == station and is_over(it)]:
+            over = self._end(key, t, UNKNOWN)
         return over
 
     def _begin_again(self, t: float) -> None:
         """The broker begins. Nobody waits yet, if anybody waited when it ended; what is held is still held, or nobody knows."""
-        for it in [it for it in self.now.values() if it.held is None]:
-            self._end(it.station, t, UNKNOWN)
+        for key in [key for key, it in self.now.items() if it.held is None]:
+            self._end(key, t, UNKNOWN)
 
-    def _end(self, station: str, t: float, how: str, why: str = "") -> Optional[Session]:
-        session = self.now.pop(station, None)
-        if session is None:
-            return None
+    def _end(self, key: Key, t: float, how: str, why: str = "") -> Session:
+        session = self.now.pop(key)
         self._back(session, t)
         session.ended, session.how, session.why = t, how, why
         self.ended.append(session)
@@ -138,22 +161,23 @@ def is_record(it: object) -> bool:
     )  # fmt: skip
 
 
-def pages_in(folder: str) -> list[str]:
-    """The files of records of a state folder, page after page."""
+def files_in(folder: str) -> list[str]:
+    """The files of records of a state folder: those that somebody put aside, with numbers, and that of now."""
     try:
-        found = [(int(it[1]), it[0]) for it in map(re.compile(r"records-(\d{1,9})\.jsonl").fullmatch, os.listdir(folder)) if it]
+        names = os.listdir(folder)
     except OSError as fault:
         raise Fault(f"{folder}: {fault.strerror}") from None
-    return [os.path.join(folder, name) for _, name in sorted(found)]
+    found = sorted((int(it[1]), it[0]) for it in map(re.compile(r"records-(\d{1,9})\.jsonl").fullmatch, names) if it)
+    return [os.path.join(folder, name) for name in (*(name for _, name in found), *(["records.jsonl"] if "records.jsonl" in names else []))]
 
 
 def read_records(folder: str) -> tuple[list[Record], list[str]]:
     """All records of a state folder, and a line for each file in which some aren't whole."""
     records: list[Record] = []
     faults = []
-    paths = pages_in(folder)
+    paths = files_in(folder)
     if not paths:
-        raise Fault(f"{folder}: there are no records (labrun-broker serve --state {folder} writes records-1.jsonl and so on)")
+        raise Fault(f"{folder}: there are no records (labrun-broker serve --state {folder} writes records.jsonl)")
     for path in paths:
         with open(path, "rb") as file:
             found = [parsed(line) for line in file if line.strip()]
@@ -167,7 +191,7 @@ def read_records(folder: str) -> tuple[list[Record], list[str]]:
 def recent_records(folder: str, most: int = 1 << 23) -> list[Record]:
     """The last records of a state folder: as many as are in so many bytes."""
     found: list[bytes] = []
-    for path in reversed(pages_in(folder)):
+    for path in reversed(files_in(folder)):
         with open(path, "rb") as file:
             size = os.fstat(file.fileno()).st_size
             file.seek(max(0, size - most))

@@ -31,12 +31,6 @@ count = 4
 COMMAND = [sys.executable, "-m", "labrun_broker"]
 
 
-def turning_after(sessions: int) -> list[str]:
-    """The command, with a page that is turned after so many sessions of a seat, whoever holds then."""
-    limits = f"keeping.MANY_SESSIONS, keeping.PATIENCE, keeping.PAUSE = {sessions}, 0.005, 0.05"
-    return [sys.executable, "-c", f"import sys\nfrom labrun_broker import command, keeping\n{limits}\nsys.exit(command.main())"]
-
-
 def until(is_so: Callable[[], Any], what: str = "it") -> Any:
     """Waits until something is so, and gives it."""
     end = time.monotonic() + LIMIT
@@ -66,6 +60,8 @@ class Broker:
 
     def begin(self) -> None:
         words = [*self.command, "serve", f"{self.folder}/bay.toml", "--listen", self.address, *self.words]
+        if self.process is not None and self.process.stderr is not None:
+            self.process.stderr.close()
         self.process = subprocess.Popen(words, stderr=subprocess.PIPE, text=True)
         assert self.process.stderr is not None
         self.first = self.process.stderr.readline()

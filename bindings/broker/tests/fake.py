@@ -7,6 +7,8 @@ import time
 from collections import deque
 from typing import Any, AsyncIterator, Optional
 
+from labrun_broker.sessions import recent_records
+
 Record = dict[str, Any]
 
 
@@ -16,7 +18,8 @@ class Keeping:
     def __init__(self, bay: dict[str, list[str]], name: str = "bay-3", now: Optional[float] = None, most: int = 1000) -> None:
         self.bay, self.name, self.now = bay, name, now
         self.history: deque[Record] = deque(maxlen=most)
-        self.refusals, self.state = 0, None
+        self.refusals = 0
+        self.state: Optional[str] = None
         self.since = self._t()
         self.instruments = list(dict.fromkeys(it for uses in bay.values() for it in uses))
         self.stations = {it: self._idle(it) for it in bay}
@@ -78,6 +81,9 @@ class Keeping:
                     break
         return found
 
+    def recent(self) -> list[Record]:
+        return recent_records(self.state) if self.state else []
+
     def status(self) -> Record:
         stations = [{**it, "waits_for": self._waits_for(it)} for it in self.stations.values()]
         rows = []
@@ -85,8 +91,8 @@ class Keeping:
             holder = next((it for it in stations if name in it["instruments"] and it["state"] in ("holding", "gone")), None)
             waiting = [it["name"] for it in stations if name in it["instruments"] and it["state"] == "waiting"]
             rows.append({"name": name, "holder": holder and holder["name"], "since": holder and holder["since"], "waiting": waiting})
-        about: Record = {"bay": self.name, "at": self._t(), "since": self.since, "page": 1}
-        return {**about, "instruments": rows, "stations": stations, "room": {"sessions": 990, "commands": 99000}}
+        about: Record = {"bay": self.name, "at": self._t(), "since": self.since}
+        return {**about, "instruments": rows, "stations": stations}
 
     async def changes(self) -> AsyncIterator[None]:
         wake = asyncio.Event()

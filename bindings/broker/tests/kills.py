@@ -1,8 +1,7 @@
 """Kills clients and brokers at random moments, while eight programs share instruments that refuse, and count, a second client.
 
-usage: python3 -m tests.kills [TIMES] [--seed N] [--pause SECONDS] [--page-after N]
-       so many kills of clients, and as many of brokers (200), run in bindings/broker; with N, a page is turned after so many sessions of a guest,
-       though somebody holds
+usage: python3 -m tests.kills [TIMES] [--seed N] [--pause SECONDS]
+       so many kills of clients, and as many of brokers (200), run in bindings/broker
 
 A program takes some instruments by the broker, talks to each of them, and lets go. A program that is killed while it holds leaves its
 session to the broker, which shows that it is gone; its talk is over, and so the operator, who is this script, releases it. A broker that is
@@ -25,7 +24,8 @@ import time
 from typing import Any, Callable
 
 import labrun_broker
-from tests.brokers import COMMAND, LIMIT, TOP, Broker, turning_after, until
+from labrun_broker.sessions import ENDS
+from tests.brokers import LIMIT, TOP, Broker, until
 
 sys.path.insert(0, f"{TOP}/examples/broker")
 from instruments import Bay  # type: ignore[import]  # noqa: E402
@@ -128,13 +128,13 @@ def is_idle(lab: labrun_broker.Lab) -> bool:
     return all(it["state"] == "idle" for it in patiently(lab.status)["stations"])
 
 
-def kills(times: int, seed: int, brokers_too: bool = True, pause: float = 0.3, page_after: int = 0) -> dict[str, Any]:
+def kills(times: int, seed: int, brokers_too: bool = True, pause: float = 0.3) -> dict[str, Any]:
     """What came of it: `wrong` has a line for each thing that mustn't be. Between two kills there is a pause of so many seconds at most."""
     chance = random.Random(seed)
     killed: collections.Counter[str] = collections.Counter()
     with tempfile.TemporaryDirectory() as folder, Bay(NAMES) as bay, contextlib.ExitStack() as stack:
         state = ("--state", f"{folder}/state", "--sync", "none") if brokers_too else ()
-        broker = Broker(folder, BAY, state, turning_after(page_after) if page_after else COMMAND)
+        broker = Broker(folder, BAY, state)
         stack.callback(broker.ends)
         programs = Programs(broker, bay, chance)
         stack.callback(programs.kill_all)
@@ -153,8 +153,6 @@ def kills(times: int, seed: int, brokers_too: bool = True, pause: float = 0.3, p
                 killed["released"] += release_who_is_gone(lab, 2.0)
                 if programs.ended():
                     break
-            if page_after:
-                until(lambda: len(patiently(lab.pages)) > 1, "a page is turned")
             # all who were only cut off come back
             time.sleep(1.0)
             ended = programs.ended()
@@ -167,28 +165,22 @@ def kills(times: int, seed: int, brokers_too: bool = True, pause: float = 0.3, p
         broker.end()
         wrong = [f"a program ended: status {status}" for status in ended] + ([faults] if ended else [])
         if brokers_too:
-            # (a session that goes on in a new page has another number there)
-            wrong += wrong_records(f"{folder}/state", [(station, "") for station, _ in did] if page_after else did)
-        pages = len(glob.glob(f"{folder}/state/records-*.jsonl"))
+            wrong += wrong_records(f"{folder}/state", did)
     wrong += [f"{name} refused {refused} times" for name, (_, refused) in bay.counts.items() if refused]
-    return {"wrong": wrong, "killed": dict(killed), "did": len(did), "talks": sum(talks for talks, _ in bay.counts.values()), "pages": pages}
+    return {"wrong": wrong, "killed": dict(killed), "did": len(did), "talks": sum(talks for talks, _ in bay.counts.values())}
 
 
 def wrong_records(state: str, did: list[tuple[str, ...]]) -> list[str]:
-    """Each session that a program has done is there, on some page, held once and let go once. (One without a number is any of its station.)"""
-    ends: collections.Counter[tuple[int, str, str, str]] = collections.Counter()
-    for page, path in enumerate(sorted(glob.glob(f"{state}/records-*.jsonl"))):
-        with open(path, encoding="utf-8") as file:
-            for line in file:
-                record = json.loads(line)
-                ends[page, str(record["station"]), str(record["session"]), record["what"]] += 1
-                ends[page, str(record["station"]), "", record["what"]] += 1
-    pages = {key[0] for key in ends}
-    wrong = [f"{key}: {count} times" for key, count in ends.items() if key[2] and key[3] in ("held", "let_go") and count > 1]
-    for (station, session), count in collections.Counter(did).items():
-        found = sum(ends[page, station, session, "let_go"] for page in pages)
-        if found < count:
-            wrong.append(f"{station} {session}: done {count} times, let go {found} times")
+    """Each session that a program has done is there, held once and let go once; and no session twice."""
+    with open(f"{state}/records.jsonl", encoding="utf-8") as file:
+        records = [it for it in map(json.loads, file) if it["session"] is not None]
+    count = collections.Counter((str(it["session"]), it["what"]) for it in records)
+    ends = collections.Counter(str(it["session"]) for it in records if it["what"] in ENDS)
+    wrong = [f"{number}: {what} {times} times" for (number, what), times in count.items() if what in ("asked", "held") and times > 1]
+    wrong += [f"{number}: it ended {times} times" for number, times in ends.items() if times > 1]
+    for station, number in did:
+        if (count[number, "held"], count[number, "let_go"]) != (1, 1):
+            wrong.append(f"{station} {number}: done, held {count[number, 'held']} times, let go {count[number, 'let_go']} times")
     return wrong
 
 
@@ -197,12 +189,11 @@ def main() -> int:
     words.add_argument("times", type=int, nargs="?", default=200)
     words.add_argument("--seed", type=int, default=1)
     words.add_argument("--pause", type=float, default=1.5)
-    words.add_argument("--page-after", type=int, default=0)
     given = words.parse_args()
     begun = time.monotonic()
-    came = kills(given.times, given.seed, pause=given.pause, page_after=given.page_after)
+    came = kills(given.times, given.seed, pause=given.pause)
     print("\n".join(came["wrong"]))
-    did = f"sessions done {came['did']}, talks {came['talks']}, pages {came['pages']}"
+    did = f"sessions done {came['did']}, talks {came['talks']}"
     print(f"kills {came['killed']}, {did}, {time.monotonic() - begun:.0f} s, {len(came['wrong'])} wrong")
     return bool(came["wrong"])
 

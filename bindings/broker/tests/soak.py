@@ -1,9 +1,9 @@
-"""Client processes that hold and let go as fast as they can, for so many sessions, with page turns: what the broker's process takes meanwhile.
+"""Client processes that hold and let go as fast as they can, for so many sessions: what the broker's process takes meanwhile.
 
-usage: python3 -m tests.soak [SESSIONS] [--clients N] [--pages N] [--sync data|none]      100000 sessions, 32 clients, ten pages; in bindings/broker
+usage: python3 -m tests.soak [SESSIONS] [--clients N] [--sync data|none]      100000 sessions, 32 clients; in bindings/broker
 
-Each session is of one to three of six instruments, each a TCP server that refuses, and counts, a second client. An operator turns the page so
-many times. The memory, the open files and the threads of the broker are told ten times. At the end the pages' reports have each session once."""
+Each session is of one to three of six instruments, each a TCP server that refuses, and counts, a second client. The memory, the open files and the
+threads of the broker are told ten times. At the end the records and the journal have each session once, and how long a broker takes to begin is told."""
 
 from __future__ import annotations
 
@@ -11,7 +11,6 @@ import argparse
 import json
 import os
 import random
-import re
 import subprocess
 import sys
 import tempfile
@@ -45,6 +44,14 @@ print(longest)
 """
 
 
+LINES = (("records.jsonl", '"what":"held"'), ("records.jsonl", '"what":"let_go"'), ("bay.journal", " hold "), ("bay.journal", " let_go "))
+
+
+def lines_with(path: str, text: str) -> int:
+    with open(path, encoding="utf-8") as file:
+        return sum(text in line for line in file)
+
+
 def taken(pid: int) -> str:
     """The memory of a process in MiB, its open files and its threads."""
     with open(f"/proc/{pid}/status", encoding="ascii") as file:
@@ -57,12 +64,11 @@ def main() -> int:
     words = argparse.ArgumentParser(usage=__doc__)
     words.add_argument("sessions", type=int, nargs="?", default=100_000)
     words.add_argument("--clients", type=int, default=32)
-    words.add_argument("--pages", type=int, default=10)
     words.add_argument("--sync", default="none")
     given = words.parse_args()
     each = given.sessions // given.clients
     with tempfile.TemporaryDirectory() as folder, Bay(NAMES) as bay:
-        text = BAY.format(names=json.dumps(NAMES), guests=min(given.clients, 31))
+        text = BAY.format(names=json.dumps(NAMES), guests=given.clients)
         broker = Broker(folder, text, ("--state", f"{folder}/state", "--sync", given.sync))
         assert broker.process is not None
         ports = [f"{name}={port}" for name, port in bay.ports.items()]
@@ -77,24 +83,24 @@ def main() -> int:
         for thread in ends:
             thread.start()
         with broker.lab() as lab:
-            told, turned = 0, 0
+            told = 0
             while any(thread.is_alive() for thread in ends):
                 time.sleep(0.2)
                 done = lab.status()["sessions"]
-                if turned < given.pages and done >= (turned + 1) * given.sessions // (given.pages + 1):
-                    lab.pages(turn=True)
-                    turned += 1
                 if done >= told * given.sessions // 10:
                     print(f"{done} sessions: {taken(broker.process.pid)}", flush=True)
                     told += 1
             took = time.monotonic() - begun
-            reports = [lab.report(page) for page in lab.pages()]
-            logged = sum(int(number) for report in reports for number in re.findall(r"^job guest-\d+ sessions (\d+) of", report, re.M))
+        broker.end()
+        logged = min(lines_with(f"{folder}/state/{name}", text) for name, text in LINES)
+        at = time.monotonic()
+        broker.begin()
+        begins = time.monotonic() - at
         broker.end()
         refused = sum(it for _, it in bay.counts.values())
     done = each * given.clients
     print(f"{done} sessions by {given.clients} clients in {took:.0f} s, {done / took:.0f} a second, longest wait {max(waits):.2f} s;", end=" ")
-    print(f"{turned} page turns, {refused} refused, {logged} in the reports")
+    print(f"{refused} refused, {logged} in journal and records; it begins again in {begins:.1f} s")
     return bool(refused or logged != done)
 
 

@@ -27,14 +27,15 @@ FAULTY = (
     ('instruments = ["scope", "lamp"]\n[stations]\nboard = ["scope"]\n', ["instruments: nobody may use lamp"]),
     ('instruments = ["scope"]\n[stations]\n"Board" = ["scope"]\n', ["stations.Board: 'Board' is no name", "stations: there is neither", "instruments: nobody"]),
     ('instruments = ["scope"]\nstations = 5\n', ["stations: a table is wanted", "stations: there is neither", "instruments: nobody"]),
-    ('instruments = ["scope"]\n[guests]\ncount = 33\n', ["guests.count: 0 stations and 33 guests are 33; a bay has 32 at most"]),
+    ('instruments = ["scope"]\n[guests]\ncount = 1001\n', ["guests.count: 1001 guests; a bay has 1000 at most"]),
     ('instruments = ["scope"]\n[guests]\ncount = -1\n', ["guests.count: a number from 0", "stations: there is neither", "instruments: nobody"]),
     ('instruments = ["scope"]\n[guests]\ncount = true\n', ["guests.count: a number from 0", "stations: there is neither", "instruments: nobody"]),
     ('instruments = ["scope"]\n[stations]\nguest-1 = ["scope"]\n[guests]\ncount = 1\n', ["stations.guest-1: this is the name of a guest"]),
     (ONE + "[limits]\nnote = 0\n", ["limits.note: a number from 1"]),
     (ONE + "[limits]\nnotes = 5\n", ["limits.notes: there is no such key; there are clients, name, note, requests"]),
-    (f"instruments = [{', '.join(chr(34) + f'i{it}' + chr(34) for it in range(57))}]\n[guests]\ncount = 1\n", ["instruments: 57 instruments; a bay has 56 at most"]),
-    (f"instruments = [{', '.join(chr(34) + f'i{it}' + chr(34) for it in range(29))}]\n[guests]\ncount = 2\n", ["guests.may_use: two guests would have 29 instruments"]),
+    ('instruments = ["scope"]\n[stations]\nguest-99 = ["scope"]\n[guests]\ncount = 1\n', ["stations.guest-99: this is the name of a guest"]),
+    (f"instruments = [{', '.join(chr(34) + f'i{it}' + chr(34) for it in range(65))}]\n[guests]\ncount = 1\n", ["instruments: 65 instruments; a bay has 64 at most"]),
+    ('instruments = ["scope"]\n[stations]\n' + "".join(f's{it} = ["scope"]\n' for it in range(32)), ["stations: 32 stations; a bay has 31 at most"]),
 )
 
 
@@ -63,5 +64,7 @@ class Bays(unittest.TestCase):
 
     def test_most(self) -> None:
         """As much as the library takes is no fault."""
-        names = ", ".join(f'"i{it}"' for it in range(28))
-        self.assertEqual(bay_of(f"instruments = [{names}]\n[guests]\ncount = 32\n").guests, 32)
+        names = ", ".join(f'"i{it}"' for it in range(64))
+        stations = "".join(f's{it} = ["i{it}", "i63"]\n' for it in range(31))
+        bay = bay_of(f"instruments = [{names}]\n[stations]\n{stations}[guests]\ncount = 1000\n")
+        self.assertEqual((len(bay.instruments), len(bay.stations), bay.guests), (64, 31, 1000))

@@ -13,7 +13,8 @@ import unittest
 from typing import Any
 from unittest import mock
 
-from labrun_broker.command import Signals, main
+from labrun_broker.command import main
+from labrun_broker.run import Signals
 from tests.brokers import BAY, COMMAND, LIMIT, OnBroker, station, until
 
 
@@ -80,7 +81,7 @@ class WithoutBroker(unittest.TestCase):
         """Each word and option of the help is in the man page and in both completions."""
         texts = {kind: ran("manual", kind).stdout for kind in ("man", "bash", "zsh")}
         words = re.findall(r"(?m)^    (\w+)  ", ran("--help").stdout)
-        self.assertLessEqual({"serve", "hold", "status", "top", "release", "report", "pages", "bay"}, set(words))
+        self.assertLessEqual({"serve", "hold", "status", "top", "release", "report", "bay"}, set(words))
         for word in words:
             options = {"serve": ["--state", "--grace"], "hold": ["--timeout", "--any"], "top": ["--json"]}.get(word, [])
             for one in [word, *options]:
@@ -195,19 +196,6 @@ class WithBroker(OnBroker):
             done = broker.ran("release", name)
             self.assertEqual((done.returncode, done.stdout), (1, ""))
             self.assertIn(text, done.stderr)
-
-    def test_pages_and_reports(self) -> None:
-        broker = self.broker()
-        with self.lab(broker, "board").hold("scope"):
-            done = broker.ran("pages", "--turn", "--timeout", "0.1")
-            self.assertEqual(done.returncode, 1)
-            self.assertIn("not back: board (holds scope", done.stderr)
-        self.assertEqual(broker.ran("pages", "--turn").stdout, "1 2\n")
-        report = broker.ran("report", "--page", "1").stdout
-        self.assertIn("\ninstrument scope 1\nboard 2 1/1 read = 0\n", report)
-        done = broker.ran("report", "--page", "9")
-        self.assertEqual((done.returncode, done.stdout), (1, ""))
-        self.assertIn("no report of page 9", done.stderr)
 
     def test_one_broker_at_a_socket(self) -> None:
         broker = self.broker()

@@ -1,9 +1,10 @@
-"""The keeping of the bench, on a loop and without a network."""
+"""The keeping of the bay, on a loop and without a network."""
 
 import asyncio
-import json
+import os
 import random
 import tempfile
+import threading
 import time
 import unittest
 from typing import Any, Optional
@@ -12,8 +13,10 @@ from unittest import mock
 import labrun
 from labrun_broker import keeping as kept
 from labrun_broker.bay import bay_of
-from labrun_broker.journals import sessions_given
-from labrun_broker.keeping import BadWish, Ended, Keeping, Seat, TimedOut, Wish
+from labrun_broker.keeping import Keeping
+from labrun_broker.places import Places
+from labrun_broker.standing import Session
+from labrun_broker.wishes import BadWish, Ended, TimedOut, Wish
 from tests.brokers import BAY
 
 TICKET = "a ticket of a test"
@@ -39,14 +42,25 @@ class OnKeeping(unittest.IsolatedAsyncioTestCase):
     async def asyncSetUp(self) -> None:
         self.owner = Owner()
 
-    async def asks(self, keeping: Keeping, *instruments: str, **more: Any) -> "asyncio.Task[Seat]":
+    async def asks(self, keeping: Keeping, *instruments: str, **more: Any) -> "asyncio.Task[Session]":
         """Whoever asks, and is in the line by now."""
         task = asyncio.create_task(keeping.hold(Wish(instruments, **more), self.owner))
         await asyncio.sleep(0.01)
         return task
 
-    async def holds(self, keeping: Keeping, *instruments: str, **more: Any) -> Seat:
+    async def holds(self, keeping: Keeping, *instruments: str, **more: Any) -> Session:
         return await keeping.hold(Wish(instruments, **more), self.owner)
+
+
+class OnFolder(unittest.IsolatedAsyncioTestCase):
+    async def keeping(self, folder: str, bay: str = BAY, grace: float = 60.0) -> Keeping:
+        keeping = Keeping(bay_of(bay), folder, grace)
+        await keeping.open()
+        self.addAsyncCleanup(keeping.close)
+        return keeping
+
+    def folder(self) -> str:
+        return self.enterContext(tempfile.TemporaryDirectory())
 
 
 def whats(keeping: Keeping, station: Optional[str] = None) -> list[str]:
@@ -78,13 +92,11 @@ class Sessions(OnKeeping):
 
     async def test_chain(self) -> None:
         """The guest waits for the board, and that for the radio, which holds."""
-        keeping = await self.keeping()
-        with mock.patch.object(keeping.bench, "_overtakes", 0):
-            keeping.bench._call("lab_overtakes", 0)
-            radio = await self.holds(keeping, "scope", station="radio")
-            board = await self.asks(keeping, "scope", "supply", station="board")
-            guest = await self.asks(keeping, "supply")
-            text = how(keeping, "guest-1")["waits_for"][0]["text"]
+        keeping = await self.keeping("overtakes = 0\n" + BAY)
+        radio = await self.holds(keeping, "scope", station="radio")
+        board = await self.asks(keeping, "scope", "supply", station="board")
+        guest = await self.asks(keeping, "supply")
+        text = how(keeping, "guest-1")["waits_for"][0]["text"]
         self.assertRegex(text, r"^supply is kept for board, which waits for scope, held by radio for \d+\.\d s$")
         await keeping.let_go(radio, self.owner)
         await keeping.let_go(await board, self.owner)
@@ -108,22 +120,36 @@ class Sessions(OnKeeping):
         await keeping.let_go(board, self.owner)
         self.assertEqual(how(keeping, "scope")["holder"], None)
 
-    async def test_seats(self) -> None:
-        """Four guests; the fifth waits for the first that is through, in order."""
-        keeping = await self.keeping()
-        first = await self.holds(keeping, "load-1")
-        others = [await self.asks(keeping, "load-1") for _ in range(3)]
-        fifth, sixth = await self.asks(keeping, "load-2"), await self.asks(keeping, "scope")
-        self.assertFalse(fifth.done() or sixth.done(), "each guest is taken")
-        self.assertEqual([it["instruments"] for it in keeping.status()["in_line"]], [["load-2"], ["scope"]])
-        with self.assertRaisesRegex(TimedOut, "all 4 guests"):
-            await self.holds(keeping, "scope", timeout=0.02)
-        await keeping.let_go(first, self.owner)
-        self.assertEqual((await fifth).name, first.name)
-        others[2].cancel()
-        self.assertEqual((await sixth).state, "holding")
-        for task in others[:2]:
+    async def test_who_waits_needs_no_place(self) -> None:
+        """Seven wait for the oven, which one of eight guests holds; the next has the scope at once."""
+        keeping = await self.keeping('instruments = ["oven", "scope"]\n[guests]\ncount = 8\n')
+        holder = await self.holds(keeping, "oven")
+        waiters = [await self.asks(keeping, "oven") for _ in range(7)]
+        scopes = [await self.holds(keeping, "scope", timeout=0)]
+        # (and so it is for as many as come)
+        waiters += [await self.asks(keeping, "oven") for _ in range(20)]
+        await keeping.let_go(scopes[0], self.owner)
+        await self.holds(keeping, "scope", timeout=0)
+        self.assertEqual((len(how(keeping, "oven")["waiting"]), [it.done() for it in waiters]), (27, [False] * 27))
+        await keeping.let_go(holder, self.owner)
+        self.assertEqual((await waiters[0]).state, "holding")
+        for task in waiters[1:]:
             task.cancel()
+
+    async def test_places(self) -> None:
+        """Four guests hold; the fifth waits for the first that is through, in order."""
+        names = ", ".join(f'"load-{at}"' for at in range(1, 8))
+        keeping = await self.keeping(f"instruments = [{names}]\n[guests]\ncount = 4\n")
+        first, *_ = [await self.holds(keeping, f"load-{at}") for at in range(1, 5)]
+        fifth, sixth = await self.asks(keeping, "load-5"), await self.asks(keeping, "load-6")
+        self.assertFalse(fifth.done() or sixth.done(), "each guest holds")
+        self.assertEqual([(it["station"], it["instruments"]) for it in keeping.status()["in_line"]], [("", ["load-5"]), ("", ["load-6"])])
+        with self.assertRaisesRegex(TimedOut, "all 4 guests"):
+            await self.holds(keeping, "load-7", timeout=0.02)
+        await keeping.let_go(first, self.owner)
+        self.assertEqual(((await fifth).state, sixth.done()), ("holding", False))
+        await keeping.let_go(await fifth, self.owner)
+        self.assertEqual((await sixth).state, "holding")
 
     async def test_a_station_is_in_one_session(self) -> None:
         keeping = await self.keeping()
@@ -133,6 +159,20 @@ class Sessions(OnKeeping):
         waits = await self.asks(keeping, "scope", station="board")
         await keeping.let_go(seat, self.owner)
         self.assertEqual((await waits).instruments, ("scope",))
+
+    async def test_several_for_one_station(self) -> None:
+        """They wait in their order, and so they are shown."""
+        keeping = await self.keeping()
+        session = await self.holds(keeping, "supply", station="board")
+        waits = [await self.asks(keeping, name, station="board", by=name) for name in ("scope", "supply")]
+        self.assertEqual([(it["station"], it["by"]) for it in keeping.status()["in_line"]], [("board", "scope"), ("board", "supply")])
+        self.assertEqual((how(keeping, "board")["state"], how(keeping, "board")["instruments"]), ("holding", ["supply"]))
+        await keeping.let_go(session, self.owner)
+        self.assertEqual([it.done() for it in waits], [False, False])
+        await asyncio.sleep(0)
+        self.assertEqual(((await waits[0]).instruments, waits[1].done()), (("scope",), False))
+        await keeping.let_go(await waits[0], self.owner)
+        self.assertEqual((await waits[1]).instruments, ("supply",))
 
     async def test_any_of(self) -> None:
         keeping = await self.keeping()
@@ -202,6 +242,20 @@ class Gone(OnKeeping):
         with self.assertRaises(labrun.NotHeld):
             await keeping.let_go(seat, self.owner)
 
+    async def test_one_that_waits_asks_again(self) -> None:
+        """As one whose connection was cut, which isn't seen yet: it waits once, behind the others, and its older connection is told."""
+        keeping, other = await self.keeping(), Owner()
+        board = await self.holds(keeping, "scope", station="board")
+        first = await self.asks(keeping, "scope", ticket=TICKET)
+        guest = await self.asks(keeping, "scope")
+        again = asyncio.create_task(keeping.hold(Wish(("scope",), ticket=TICKET), other))
+        with self.assertRaisesRegex(Ended, "another connection came for the session"):
+            await first
+        self.assertEqual(len(how(keeping, "scope")["waiting"]), 2)
+        await keeping.let_go(board, self.owner)
+        await keeping.let_go(await guest, self.owner)
+        self.assertIs((await again).owner, other)
+
     async def test_kept(self) -> None:
         keeping = await self.keeping(grace=0.02)
         seat = await self.holds(keeping, "scope")
@@ -220,26 +274,24 @@ class Gone(OnKeeping):
         with self.assertRaisesRegex(Ended, "taken away by the broker, because its client was gone for 0.05 s"):
             await keeping.hold(Wish(ticket=TICKET, comes_back=True), self.owner)
 
-    async def test_the_grace_begins_when_the_client_was_last_heard(self) -> None:
-        """If it says that it is there: by a ping, and then by any word. Else it begins when the client is gone."""
-        keeping = await self.keeping('gone = "release"\n' + BAY, grace=50)
-        for pings, words, of in ((True, 0, 0), (True, 1, 1), (False, 1, 2)):
+    async def test_when_a_client_is_gone(self) -> None:
+        """Once it has been silent for a third of the grace, if it says that it is there: by a ping, and then by any word. Else once its stream ends."""
+        keeping = await self.keeping('gone = "release"\n' + BAY, grace=3)
+        for pings, words, gone in ((True, 0, 1.0), (True, 1, 1.5), (False, 1, None)):
             with self.subTest((pings, words)):
-                seat = await self.holds(keeping, "scope", pings=pings)
-                times = [keeping._now()]
-                await asyncio.sleep(0.3)
-                times.append(keeping._now())
+                session = await self.holds(keeping, "scope", pings=pings)
+                begun = keeping.now()
+                await asyncio.sleep(0.5)
                 for _ in range(words):
-                    self.assertTrue(keeping.heard(seat, self.owner))
-                await asyncio.sleep(0.3)
-                times.append(keeping._now())
-                keeping.gone(seat, self.owner)
-                if seat.timer is not None:
-                    seat.timer.cancel()
-                keeping._looks_at(seat)
-                assert seat.timer is not None
-                self.assertAlmostEqual(seat.timer.when(), times[of] + 50, delta=0.15)
-                await keeping.release(seat.name, "eve")
+                    self.assertTrue(keeping.heard(session, self.owner))
+                while session.state == "holding" and keeping.now() < begun + 2000:
+                    await asyncio.sleep(0.02)
+                self.assertEqual(session.state, "holding" if gone is None else "gone")
+                if gone is not None and session.gone_at is not None:
+                    self.assertGreaterEqual((session.gone_at - begun) / 1000, gone - 0.01)
+                    self.assertTrue(keeping.heard(session, self.owner), "a word, and it is there again")
+                    self.assertEqual(session.state, "holding")
+                await keeping.release(session.name, "eve")
 
     async def test_who_says_nothing_is_gone(self) -> None:
         """Though its connection is there. Who pings again and again stays, and so does one that never did."""
@@ -285,24 +337,38 @@ class Gone(OnKeeping):
         seat = await self.holds(keeping, "scope", "supply", station="board")
         self.assertEqual(await keeping.release("board", "eve"), ("scope", "supply"))
         self.assertEqual(self.owner.told, ["board: the session was taken away by eve: scope, supply"])
-        self.assertEqual((seat.state, keeping.bench.taken), ("idle", (("board", 2),)))
+        self.assertEqual((seat.state, how(keeping, "board")["state"]), ("over", "idle"))
         again = await self.holds(keeping, "scope", station="board")
-        self.assertIs(again, seat)
+        self.assertGreater(again.number, seat.number)
+        with self.assertRaisesRegex(labrun.NotHeld, f"board is in session {again.number}, and not in {seat.number} any more"):
+            await keeping.release("board", "eve", seat.number)
+        self.assertEqual(await keeping.release("board", "eve", again.number), ("scope",))
         for name, kind, text in (("radio", labrun.NotHeld, "radio holds nothing"), ("lamp", BadWish, "lamp is no station")):
             with self.subTest(name), self.assertRaisesRegex(kind, text):
                 await keeping.release(name, "eve")
 
     async def test_released_before_its_client_is_told(self) -> None:
-        keeping = await self.keeping()
-        on_disk = asyncio.Event()
-        with mock.patch.object(keeping, "_on_disk", on_disk.wait):
+        folder, may = self.enterContext(tempfile.TemporaryDirectory()), threading.Event()
+        keeping = Keeping(bay_of(BAY), folder)
+        await keeping.open()
+        self.addAsyncCleanup(keeping.close)
+        self.addCleanup(may.set)
+        real = os.fdatasync
+
+        def fdatasync(file: int) -> None:
+            may.wait(5)
+            real(file)
+
+        with mock.patch("os.fdatasync", fdatasync):
             waits = await self.asks(keeping, "scope", station="board")
+            self.assertEqual((how(keeping, "board")["state"], waits.done()), ("holding", False))
             releases = asyncio.create_task(keeping.release("board", "eve"))
+            with self.assertRaisesRegex(Ended, "taken away before its client was told"):
+                await waits
             await asyncio.sleep(0.01)
-            on_disk.set()
-            await releases
-        with self.assertRaisesRegex(Ended, "taken away before its client was told"):
-            await waits
+            self.assertFalse(releases.done(), "it isn't on the disk yet")
+            may.set()
+            self.assertEqual(await releases, ("scope",))
         self.assertEqual(how(keeping, "scope")["holder"], None)
         self.assertEqual((await self.holds(keeping, "scope", station="board")).state, "holding")
 
@@ -320,162 +386,66 @@ class Gone(OnKeeping):
             self.assertTrue(0 <= status["at"] - guest["gone_since"] < 5 and 0 <= status["at"] - guest["since"] < 5)
 
 
-class Pages(OnKeeping):
-    async def test_turned(self) -> None:
-        keeping = await self.keeping()
-        seat = await self.holds(keeping, "scope", station="board")
-        with self.assertRaisesRegex(labrun.NotBack, "board"):
-            await keeping.turn_page(0.05)
-        turning = asyncio.create_task(keeping.turn_page(5))
-        await asyncio.sleep(0.05)
-        waits = await self.asks(keeping, "load-1")
-        self.assertFalse(waits.done(), "what comes meanwhile waits for the new page")
-        await keeping.let_go(seat, self.owner)
-        self.assertEqual(await turning, 2)
-        self.assertEqual((await asyncio.wait_for(waits, 1)).state, "holding")
-        self.assertIn("job board sessions 1 of 2 withdrawn 1", keeping.report(1))
-        self.assertEqual(keeping.pages(), [{"page": 1, "is_open": False}, {"page": 2, "is_open": True}])
-        with self.assertRaisesRegex(BadWish, "no report of page 7"):
-            keeping.report(7)
+class Memory:
+    """A bay's state that is no folder: all that another store has to be."""
 
-    async def test_by_itself(self) -> None:
-        """A page is turned before it is full, and nobody is refused."""
-        with mock.patch.object(kept, "MANY_SESSIONS", 20):
-            keeping = await self.keeping()
+    path = "memory"
 
-            async def guest(count: int) -> None:
-                for _ in range(count):
-                    seat = await self.holds(keeping, "scope", "load-1")
-                    await asyncio.sleep(0)
-                    await keeping.let_go(seat, self.owner)
+    def __init__(self) -> None:
+        self.store, self.records, self._text, self._places, self.told = self, self, b"", Places(), list[dict[str, Any]]()
 
-            await asyncio.gather(*(guest(60) for _ in range(4)))
-        self.assertEqual(keeping.sessions, 240)
-        self.assertGreaterEqual(keeping.page, 3)
-        self.assertEqual(whats(keeping).count("let_go"), 240)
+    def opened(self, where: str, syncs: bool) -> "Memory":
+        return self
 
-    async def test_each_page_has_its_own(self) -> None:
-        """Also those who come to a new page before anybody else: what a page's records have is what its journal has."""
-        folder = self.enterContext(tempfile.TemporaryDirectory())
-        with mock.patch.object(kept, "MANY_SESSIONS", 10):
-            keeping = Keeping(bay_of(BAY), folder)
+    def text(self) -> bytes:
+        return self._text
+
+    def cut(self, length: int) -> None:
+        self._text = self._text[:length]
+
+    def write(self, text: Any = b"") -> None:  # (of the store with a text, of the records without)
+        self._text += text
+
+    def append(self, text: bytes) -> None:
+        self._text += text
+
+    def sync(self) -> None: ...
+
+    def close(self) -> None: ...
+
+    def add(self, record: dict[str, Any]) -> None:
+        self.told.append(record)
+
+    def recent(self) -> list[dict[str, Any]]:
+        return list(self.told)
+
+    def places(self, is_needed: bool) -> Places:
+        return self._places
+
+    def keeps(self, places: Places) -> None:
+        self._places = places
+
+
+class Seam(OnKeeping):
+    async def test_another_store(self) -> None:
+        """What is held comes back from wherever it was kept."""
+        memory = Memory()
+        for is_first in (True, False):
+            keeping = Keeping(bay_of(BAY), "nowhere", opens=memory.opened)
             await keeping.open()
-
-            async def guest(at: int) -> None:
-                for count in range(30):
-                    seat = await keeping.hold(Wish(("scope", "load-1"), ticket=f"a ticket, {at} {count:9}"), self.owner)
-                    await asyncio.sleep(0)
-                    await keeping.let_go(seat, self.owner)
-
-            await asyncio.gather(*(guest(at) for at in range(6)))
+            if is_first:
+                held = await keeping.hold(Wish(("scope",), station="board", ticket=TICKET, by="ann"), self.owner)
+                await keeping.note(held, self.owner, "5 V")
+            else:
+                self.assertEqual((how(keeping, "board")["state"], how(keeping, "board")["note"]), ("gone", "5 V"))
+                await keeping.let_go(await keeping.hold(Wish(ticket=TICKET, comes_back=True), self.owner), self.owner)
             await keeping.close()
-        self.assertGreaterEqual(keeping.page, 3)
-        total = 0
-        for page in range(1, keeping.page + 1):
-            with open(f"{folder}/records-{page}.jsonl", encoding="utf-8") as file:
-                records = [json.loads(line) for line in file]
-            ends = [sorted((it["station"], it["session"]) for it in records if it["what"] == what) for what in ("held", "let_go")]
-            given = sessions_given(f"{folder}/bay.journal" + (f".{page}" if page < keeping.page else ""))
-            self.assertEqual(ends, [sorted(given)] * 2)
-            total += len(given)
-        self.assertEqual(total, 180)
-
-    async def test_somebody_holds_for_long(self) -> None:
-        """Pages are turned all the same, and he holds on in each."""
-        with mock.patch.multiple(kept, MANY_SESSIONS=5, PATIENCE=0.02, PAUSE=0.02):
-            keeping = await self.keeping()
-            long = await self.holds(keeping, "supply", station="board")
-            waits = await self.asks(keeping, "supply")
-            for _ in range(40):
-                await keeping.let_go(await self.holds(keeping, "scope", station="radio"), self.owner)
-                self.assertEqual((how(keeping, "supply")["holder"], waits.done()), ("board", False))
-                await asyncio.sleep(0.01)
-            self.assertGreaterEqual(keeping.page, 3)
-            await keeping.let_go(long, self.owner)
-            self.assertEqual((await asyncio.wait_for(waits, 1)).name, "guest-1")
-        self.assertEqual(whats(keeping, "board"), ["asked", "held", "let_go"])
+        self.assertEqual([it["what"] for it in memory.told if it["station"] == "board"], ["asked", "held", "note", "gone", "back", "let_go"])
 
 
-class OverSessions(OnKeeping):
-    """A page is turned while sessions hold."""
-
-    async def test_what_each_page_has(self) -> None:
-        keeping = await self.keeping()
-        board = await self.holds(keeping, "supply", station="board", by="ann")
-        self.assertEqual(await keeping.turn_page_over_sessions(), 2)
-        await keeping.let_go(await self.holds(keeping, "scope", station="radio"), self.owner)
-        await keeping.let_go(board, self.owner)
-        self.assertEqual(await keeping.turn_page(1), 3)
-        self.assertEqual(keeping.report(2).splitlines()[1:5], ["instrument scope 1", "radio 2 1/1 read = 0", "instrument supply 1", "board 2 1/1 read = 0"])
-        self.assertEqual(whats(keeping, "board"), ["asked", "held", "let_go"])
-        self.assertEqual(whats(keeping).count("page"), 2)
-
-    async def test_the_old_page_is_over(self) -> None:
-        keeping = await self.keeping()
-        await self.holds(keeping, "supply", station="board")
-        await keeping.turn_page_over_sessions()
-        self.assertEqual(keeping.report(1).splitlines()[1:4], ["instrument scope 0", "instrument supply 1", "board 2 1/1 read = 0"])
-        self.assertTrue(keeping.report(1).endswith("finished\n"))
-
-    async def test_who_waits_keeps_his_place(self) -> None:
-        """Also one that waits for any of some, and whoever comes meanwhile is the last."""
-        keeping = await self.keeping()
-        board = await self.holds(keeping, "scope", station="board")
-        load = await self.holds(keeping, "load-1", "load-2")
-        order: list[str] = []
-        tasks = []
-        for name, wish in (
-            ("radio", Wish(("scope",), station="radio")),
-            ("any", Wish(any_of=(("load-1",), ("load-2",)))),
-            ("guest", Wish(("scope", "load-2"))),
-        ):
-            tasks.append(asyncio.create_task(self.goes_through(keeping, name, wish, order)))
-            await asyncio.sleep(0.01)
-        turning = asyncio.create_task(keeping.turn_page_over_sessions())
-        tasks.append(asyncio.create_task(self.goes_through(keeping, "last", Wish(("scope",)), order)))
-        self.assertEqual(await turning, 2)
-        await asyncio.sleep(0.02)
-        self.assertEqual((order, how(keeping, "scope")["holder"], how(keeping, "load-1")["holder"]), ([], "board", load.name))
-        self.assertEqual(how(keeping, "radio")["waits_for"][0]["station"], "board")
-        await keeping.let_go(board, self.owner)
-        await keeping.let_go(load, self.owner)
-        await asyncio.wait_for(asyncio.gather(*tasks), 5)
-        self.assertLess(order.index("radio"), order.index("last"))
-        self.assertEqual(sorted(order), ["any", "guest", "last", "radio"])
-
-    async def goes_through(self, keeping: Keeping, name: str, wish: Wish, order: list[str]) -> None:
-        owner = Owner()
-        seat = await keeping.hold(wish, owner)
-        order.append(name)
-        await asyncio.sleep(0.01)
-        await keeping.let_go(seat, owner)
-
-    async def test_time_limits_go_on(self) -> None:
-        keeping = await self.keeping()
-        await self.holds(keeping, "scope", station="board")
-        begun = time.monotonic()
-        waits = asyncio.create_task(self.holds(keeping, "scope", station="radio", timeout=0.3))
-        for _ in range(3):
-            await asyncio.sleep(0.02)
-            await keeping.turn_page_over_sessions()
-        with self.assertRaises(labrun.TimeoutError):
-            await waits
-        self.assertTrue(0.25 < time.monotonic() - begun < 5)
-        self.assertEqual(whats(keeping, "radio"), ["asked", "gave_up"])
-
-    async def test_it_fails(self) -> None:
-        """The old page goes on."""
-        keeping = await self.keeping()
-        board = await self.holds(keeping, "scope", station="board")
-        waits = await self.asks(keeping, "scope", station="radio")
-        with mock.patch.object(labrun.Bench, "new", side_effect=MemoryError), self.assertRaises(MemoryError):
-            await keeping.turn_page_over_sessions()
-        self.assertEqual((keeping.page, waits.done(), how(keeping, "scope")["holder"]), (1, False, "board"))
-        await keeping.let_go(board, self.owner)
-        self.assertEqual((await asyncio.wait_for(waits, 1)).name, "radio")
-
+class Chance(OnKeeping):
     async def test_nobody_is_given_what_another_holds(self) -> None:
-        """Clients by chance, with time limits and without, some of which go away, while pages are turned again and again."""
+        """Clients by chance, with time limits and without, some of which go away."""
         for seed in range(8):
             keeping, chance, holders = await self.keeping(), random.Random(seed), dict[str, str]()
 
@@ -486,22 +456,16 @@ class OverSessions(OnKeeping):
                     wish = Wish(any_of=tuple((it,) for it in wanted)) if chance.random() < 0.3 else Wish(wanted)
                     try:
                         async with asyncio.timeout(chance.choice([0.004, 5, 5])):
-                            seat = await keeping.hold(wish, owner)
+                            session = await keeping.hold(wish, owner)
                     except TimeoutError:
                         continue
-                    clash = [it for it in seat.instruments if it in holders]
+                    clash = [it for it in session.instruments if it in holders]
                     self.assertEqual(clash, [], f"seed {seed}: {name} was given what {[holders[it] for it in clash]} holds")
-                    holders.update(dict.fromkeys(seat.instruments, name))
+                    holders.update(dict.fromkeys(session.instruments, name))
                     await asyncio.sleep(chance.choice([0, 0, 0.001, 0.01]))
-                    for it in seat.instruments:
+                    for it in session.instruments:
                         del holders[it]
-                    await keeping.let_go(seat, owner)
+                    await keeping.let_go(session, owner)
 
-            clients = [asyncio.create_task(client(f"client {at}")) for at in range(6)]
-            while not all(it.done() for it in clients):
-                if chance.random() < 0.5:
-                    await keeping.turn_page_over_sessions()
-                await asyncio.sleep(chance.choice([0, 0, 0.001]))
-            await asyncio.gather(*clients)
-            self.assertGreater(keeping.page, 1)
+            await asyncio.gather(*(client(f"client {at}") for at in range(6)))
             self.assertEqual({it["state"] for it in keeping.status()["stations"]}, {"idle"})

@@ -15,8 +15,3 @@ class Kills(unittest.TestCase):
         came = kills(10, 2)
         self.assertEqual((came["wrong"], came["killed"]["client"], came["killed"]["broker"]), ([], 10, 10))
         self.assertGreater(came["did"], 0)
-
-    def test_pages_that_are_turned_over_sessions(self) -> None:
-        came = kills(10, 3, page_after=4)
-        self.assertEqual((came["wrong"], came["killed"]["client"], came["killed"]["broker"]), ([], 10, 10))
-        self.assertGreater(came["pages"], 1)

@@ -32,7 +32,6 @@ def day(it: Keeping) -> None:
     it.hold("radio", "scope")
     it.gone("radio")
     it.ask("board", "scope")
-    it.tell("page", None)
     it.refusals = 4
 
 
@@ -57,7 +56,7 @@ class Numbers(unittest.TestCase):
             rest = {name: value for name, value in numbers.items() if not name.startswith("labrun_wait")}
             expected = {
                 'labrun_sessions_total{end="done",station="board"}': 2, 'labrun_sessions_total{end="failed",station="board"}': 1,
-                'labrun_sessions_total{end="gave up",station="radio"}': 1, "labrun_pages_total": 1, "labrun_refusals_total": 4,
+                'labrun_sessions_total{end="gave up",station="radio"}': 1, "labrun_refusals_total": 4,
                 "labrun_stations_holding": 0, "labrun_stations_waiting": 1, "labrun_stations_gone": 1,
             }  # fmt: skip
             self.assertEqual(rest, expected)
@@ -68,7 +67,7 @@ class Numbers(unittest.TestCase):
             self.assertEqual(numbers['labrun_wait_seconds_count{instrument="scope"}'], 4)
 
     def test_a_session_that_began_before_the_broker_is_counted(self) -> None:
-        held = {"t": time.time() - 9, "what": "held", "station": "board", "session": 2, "instruments": ["scope"], "by": None, "text": ""}
+        held = {"t": time.time() - 9, "what": "held", "station": "board", "session": 1, "instruments": ["scope"], "by": None, "text": ""}
         with tempfile.TemporaryDirectory() as folder:
             with open(f"{folder}/records-1.jsonl", "w", encoding="utf-8") as file:
                 file.write(json.dumps({**held, "station": "radio"}) + "\n" + json.dumps({**held, "what": "let_go", "station": "radio"}) + "\n")

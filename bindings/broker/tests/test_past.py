@@ -14,8 +14,11 @@ from typing import Any, Iterator
 
 from labrun_broker import past
 from labrun_broker.command import main
-from labrun_broker.journals import records_of_journal
+from labrun_broker.benches import records_of_journal
+from labrun_broker.journals import Left
+from labrun_broker.mending import missing
 from labrun_broker.picture import gantt
+from labrun_broker.places import Places
 from labrun_broker.sessions import HOLDS, UNKNOWN, WAITS, Past, Session, read_records, recent_records, spans_waited_for
 
 START = 1700000000.0
@@ -105,6 +108,22 @@ class Sessions(unittest.TestCase):
         told = [(one.station, one.how, one.ended and one.ended - START) for one in it.sessions()]
         self.assertEqual(told, [("board", "done", 15), ("radio", UNKNOWN, 9), ("radio", UNKNOWN, 20), ("radio", HOLDS, None)])
         self.assertEqual(it.ended[1].gone, [(START + 9, START + 12)])
+
+    def test_several_of_one_station(self) -> None:
+        """One holds, and two wait for the station: sessions are known by their numbers."""
+        records = [
+            record(0, "asked", "board", "scope", session=7),
+            record(0, "held", "board", "scope", session=7),
+            record(1, "asked", "board", "scope", session=8),
+            record(2, "asked", "board", "supply", session=9),
+            record(3, "note", "board", session=7, text="5 V"),
+            record(4, "gave_up", "board", "scope", session=8),
+            record(5, "let_go", "board", "scope", session=7),
+            record(5, "held", "board", "supply", session=9),
+        ]
+        it = past_of(records)
+        told = [(one.number, one.how, one.held and one.held - START, one.ended and one.ended - START, len(one.notes)) for one in it.sessions()]
+        self.assertEqual(told, [(7, "done", 0, 5, 1), (8, "gave up", None, 4, 0), (9, HOLDS, 5, None, 0)])
 
     def test_waited_for_and_unused(self) -> None:
         def session(asked: float, held: Any, ended: Any) -> Session:
@@ -209,6 +228,39 @@ class Journals(unittest.TestCase):
                 file.write("steps\n")
             self.assertEqual(ran("table", f"{folder}/other.journal")[1].split(), past.OF_SESSION)
             self.assertRegex(ran("table", f"{folder}/bay.journal")[1], r"\nboard +2 .* 10 s +done +scope supply +V = 5: ok\n")
+
+
+class Mended(unittest.TestCase):
+    """What the records lost, by the journal."""
+
+    def left(self, *numbers: int) -> dict[int, Left]:
+        """Sessions that came to hold in this order, a second each; the last still holds."""
+        found = {it: Left(it, 0, 1, (0, it), 1000 * at, 1000 * at, "guest-1", "ann", ["5 V"], how="let_go") for at, it in enumerate(numbers)}
+        found[numbers[-1]].how = ""
+        return found
+
+    def told(self, numbers: tuple[int, ...], records: list[dict[str, Any]]) -> list[tuple[Any, ...]]:
+        return [(it["session"], it["what"]) for it in missing(self.left(*numbers), records, Places(("scope",)))]
+
+    def of(self, what: str, *sessions: int) -> list[dict[str, Any]]:
+        return [record(0, what, "guest-1", "scope", session=it, text="5 V" if what == "note" else "") for it in sessions]
+
+    def test_of_each(self) -> None:
+        self.assertEqual(self.told((7,), []), [(7, "held"), (7, "note")])
+        self.assertEqual(self.told((6, 7), [*self.of("held", 6, 7), *self.of("note", 7)]), [(6, "note"), (6, "let_go")])
+        self.assertEqual(self.told((6, 7), [*self.of("held", 6), *self.of("note", 6), *self.of("let_go", 6)]), [(7, "held"), (7, "note")])
+
+    def test_only_the_last_records_are_read(self) -> None:
+        """The 5 waited for long, and held behind 9: of those before it nothing is missing."""
+        records = [*self.of("note", 9), *self.of("let_go", 9), *self.of("held", 5), *self.of("note", 5)]
+        self.assertEqual(self.told((7, 8, 9, 5, 10), records), [(5, "let_go"), (10, "held"), (10, "note")])
+        self.assertEqual(self.told((7, 8), self.of("note", 7) * 1000), [])
+
+    def test_what_it_says(self) -> None:
+        it = Left(3, 1, 2, (0, 3), 5000, 5000, "board", "ann", failed="smoke", how="let_go", until=6000)
+        of = {"station": "board", "session": 3, "instruments": ["supply"], "by": "ann"}
+        expected = [{"t": 5.0, "what": "held", **of, "text": "as the journal has it"}, {"t": 6.0, "what": "failed", **of, "text": "smoke, as the journal has it"}]
+        self.assertEqual(missing({3: it}, [], Places(("scope", "supply"), ("board",))), expected)
 
 
 class Words(unittest.TestCase):

@@ -7,6 +7,7 @@ import signal
 import socket
 import subprocess
 import sys
+import tempfile
 import threading
 import time
 import unittest
@@ -16,8 +17,11 @@ import grpc
 import labrun
 import labrun_broker
 from labrun_broker import broker_pb2 as pb
-from labrun_broker import client
-from labrun_broker.service import BadAddress, Door, Pace, is_loopback
+from labrun_broker import held as sessions
+from labrun_broker.bay import BadAddress
+from labrun_broker.door import Door, is_loopback
+from labrun_broker.service import Pace
+from labrun_broker.stream import Lost, Stream
 from tests.brokers import BAY, LIMIT, Broker, OnBroker, free_port, station, until
 
 HOLDS = """
@@ -42,7 +46,7 @@ class Clients(OnBroker):
     def test_it_holds(self) -> None:
         lab = self.lab(self.broker(), "board")
         with lab.hold("scope", "supply", timeout=5) as held:
-            self.assertEqual((held.station, held.instruments, held.number, held.state), ("board", ("scope", "supply"), 2, "held"))
+            self.assertEqual((held.station, held.instruments, held.number, held.state), ("board", ("scope", "supply"), 1, "held"))
             held.note(12.5)
             self.assertEqual(station(lab, "board")["note"], "12.5")
         self.assertEqual(held.state, "finished")
@@ -117,6 +121,27 @@ class Clients(OnBroker):
         self.assertEqual(lab.release("guest-1"), ("scope", "supply"))
         with lab.hold("supply", timeout=5):
             pass
+
+    def test_for_whom_one_waits(self) -> None:
+        """It is told who that is, again if that changes or its client is gone, and now and then if nothing does."""
+        folder = self.enterContext(tempfile.TemporaryDirectory())
+        text = "import sys\nfrom labrun_broker import command, service\nservice.AGAIN = 2\nsys.exit(command.main())"
+        broker = Broker(folder, BAY, command=[sys.executable, "-c", text])
+        self.addCleanup(broker.ends)
+        one = self.program(broker, "scope")
+        assert one.stdout is not None
+        one.stdout.readline()
+        lab, told = self.lab(broker), list[str]()
+        thread = threading.Thread(target=lambda: lab.hold("scope", timeout=LIMIT, waits=told.append).acquire())
+        thread.start()
+        until(lambda: len(told) == 2, "it is told again, though nothing has changed")
+        for line in told:
+            self.assertRegex(line, r"^scope is held by guest-1 for \d+(\.\d)? s \(a program\)$")
+        one.kill()
+        until(lambda: len(told) > 2 and "gone" in told[-1])
+        self.assertRegex(told[-1], r"guest-1 for .* \(a program, gone for \d\.\d s: see to it, and then run labrun-broker release guest-1\)$")
+        lab.release("guest-1")
+        thread.join(LIMIT)
 
     def test_released_after_the_grace(self) -> None:
         broker = self.broker('gone = "release"\n' + BAY, "--grace", "1")
@@ -223,7 +248,9 @@ class WhoIsLetIn(OnBroker):
         return names
 
     def test_tls_and_a_token(self) -> None:
-        folder = self.enterContext(__import__("tempfile").TemporaryDirectory())
+        folder = self.enterContext(tempfile.TemporaryDirectory())
+        _, key, _ = self.certificate(folder)
+        os.rename(key, f"{folder}/another")
         certificate, key, token = self.certificate(folder)
         with open(f"{folder}/wrong", "w", encoding="ascii") as file:
             file.write("a token that is another one")
@@ -236,11 +263,16 @@ class WhoIsLetIn(OnBroker):
             pass  # the socket needs no token
         for more, why in (({}, "asks for its token"), ({"token_file": f"{folder}/wrong"}, "this isn't its token")):
             with labrun_broker.connect(at, certificate_file=certificate, **more) as lab:
-                for act in (lab.hold("scope").acquire, lab.status, lambda: lab.release("board"), lambda: next(lab.watch()), lab.report, lab.pages):
+                for act in (lab.hold("scope").acquire, lab.status, lambda: lab.release("board"), lambda: next(lab.watch())):
                     with self.assertRaisesRegex(labrun_broker.Unreachable, why):
                         act()
         with labrun_broker.connect(at, token_file=token) as lab, self.assertRaises(labrun_broker.Unreachable):
             lab.status()
+        for wrong in (f"{folder}/another", token):
+            words = ["--listen", f"127.0.0.1:{free_port()}", "--tls-certificate", certificate, "--tls-key", wrong]
+            done = broker.ran("serve", f"{broker.folder}/bay.toml", *words)
+            self.assertEqual((done.returncode, done.stderr.count("\n")), (78, 1), done.stderr)
+            self.assertIn(f"{certificate} and {wrong} are no certificate and its key", done.stderr)
         done = broker.ran("status", "--broker", at, "--certificate", certificate)
         self.assertEqual(done.returncode, 69)
         self.assertIn("asks for its token", done.stderr)
@@ -311,7 +343,7 @@ class Floods(OnBroker):
                 with self.assertRaisesRegex(labrun_broker.BadWish, "are the most"):
                     held.note(text)
             # (a broker of another version may have another limit, and end the stream)
-            with unittest.mock.patch("labrun_broker.client.MOST_BYTES", 1 << 30):
+            with unittest.mock.patch("labrun_broker.stream.MOST_BYTES", 1 << 30):
                 with self.assertRaisesRegex(labrun_broker.BadWish, "the broker doesn't take this note: Received message larger than max"):
                     held.note("x" * 70000)
             held.note("5 V")
@@ -325,7 +357,7 @@ class Floods(OnBroker):
         with lab.hold("scope") as held:
             held.release("smoke" * 100000)
         self.assertLess(time.monotonic() - begun, 10)
-        with open(f"{broker.folder}/state/records-1.jsonl", encoding="utf-8") as file:
+        with open(f"{broker.folder}/state/records.jsonl", encoding="utf-8") as file:
             self.assertLess(len(file.readlines()), 20)
         broker.end()
         self.assertEqual(broker.said, "")
@@ -333,20 +365,20 @@ class Floods(OnBroker):
     def test_no_question_is_asked_for_ever(self) -> None:
         """Whatever ends the stream each time: the question is given up after the grace, and the session goes on."""
         lab = self.lab(self.broker())
-        asks, count = client._Stream.asks, 0
+        asks, count = Stream.asks, 0
         for code in (grpc.StatusCode.UNAVAILABLE, grpc.StatusCode.RESOURCE_EXHAUSTED, grpc.StatusCode.DATA_LOSS):
 
-            async def lost(stream: client._Stream, **what: object) -> object:
+            async def lost(stream: Stream, **what: object) -> object:
                 nonlocal count
                 if "note" in what or "let_go" in what:
                     count += 1
                     stream._call.cancel()
-                    raise client._Lost(code, "lost")
+                    raise Lost(code, "lost")
                 return await asks(stream, **what)
 
             with self.subTest(code), lab.hold("scope", timeout=LIMIT) as held:
                 begun, count = time.monotonic(), 0
-                with unittest.mock.patch.object(client._Stream, "asks", lost), unittest.mock.patch.object(client, "GRACE", 0.3):
+                with unittest.mock.patch.object(Stream, "asks", lost), unittest.mock.patch.object(sessions, "GRACE", 0.3):
                     for ask in (lambda: held.note("5"), held.release):
                         with self.assertRaises(labrun.LabrunError):
                             ask()
@@ -374,7 +406,7 @@ class Floods(OnBroker):
                         held.set()
                 count += 1
         self.goes_on(self.lab(broker))
-        with open(f"{broker.folder}/state/records-1.jsonl", encoding="utf-8") as file:
+        with open(f"{broker.folder}/state/records.jsonl", encoding="utf-8") as file:
             self.assertLess(sum('"what":"back"' in line for line in file), 7)
         broker.end()
         self.assertNotIn("Traceback", broker.said)

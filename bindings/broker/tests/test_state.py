@@ -1,30 +1,21 @@
-"""A broker with a state folder, which is killed and goes on where it was, and whose disk is full for a while."""
+"""A broker with a state folder, which is killed or ended, and goes on where it was."""
 
 import asyncio
-import contextlib
 import json
 import math
 import os
-import signal
 import subprocess
-import sys
 import tempfile
 import threading
-import time
 import unittest
-from typing import Any
 from unittest import mock
 
 import labrun
 import labrun_broker
-from labrun import _journal
-from labrun_broker import keeping as kept
-from labrun_broker.bay import bay_of
-from labrun_broker.journals import sessions_given
-from labrun_broker.keeping import BadWish, Ended, Keeping, Wish
-from labrun_broker.records import LAST
+from labrun_broker.keeping import Keeping
+from labrun_broker.wishes import Ended, Wish
 from tests.brokers import BAY, COMMAND, LIMIT, Broker, OnBroker, station, until
-from tests.test_keeping import TICKET, Owner, how, whats
+from tests.test_keeping import TICKET, OnFolder, Owner, how
 
 
 class State(OnBroker):
@@ -58,7 +49,7 @@ class State(OnBroker):
         held.release()
         thread.join(LIMIT)
         self.assertEqual(order, ["board", "radio"])
-        with open(f"{broker.folder}/state/records-1.jsonl", encoding="utf-8") as file:
+        with open(f"{broker.folder}/state/records.jsonl", encoding="utf-8") as file:
             what = [json.loads(line)["what"] for line in file if '"station":"board"' in line]
         self.assertEqual(what, ["asked", "held", "let_go", "asked", "held", "note", "gone", "back", "note", "let_go"])
 
@@ -72,7 +63,7 @@ class State(OnBroker):
         held.acquire()
         held.note("12.5 V")
         broker.kill()
-        os.truncate(f"{broker.folder}/state/records-1.jsonl", 0)
+        os.truncate(f"{broker.folder}/state/records.jsonl", 0)
         broker.begin()
         again = self.lab(broker)
         until(lambda: station(again, "board")["state"] == "holding", "it has come back")
@@ -115,22 +106,11 @@ class State(OnBroker):
             with again.hold("scope", timeout=5):
                 pass
 
-    def test_pages_and_reports(self) -> None:
+    def test_what_is_there(self) -> None:
         broker = self.broker(BAY, "--state", "FOLDER/state")
-        lab = self.lab(broker, "board")
-        with lab.hold("scope"):
+        with self.lab(broker, "board").hold("scope"):
             pass
-        with lab.hold("supply"):
-            self.assertIn("\ninstrument scope 1\nboard 2 1/1 read = 0\n", lab.report())
-            self.assertTrue(lab.report().endswith("unfinished\n"))
-        self.assertEqual(lab.pages(turn=True), [1, 2])
-        self.assertEqual(lab.report(1).splitlines()[1:5], ["instrument scope 1", "board 2 1/1 read = 0", "instrument supply 1", "board 3 1/1 read = 0"])
-        self.assertTrue(lab.report(1).endswith("finished\n"))
-        broker.kill()
-        broker.begin()
-        self.assertEqual(until(lambda: self.lab(broker).pages()), [1, 2])
-        files = ["bay.journal", "bay.journal.1", "lock", "records-1.jsonl", "records-2.jsonl"]
-        self.assertEqual(sorted(os.listdir(f"{broker.folder}/state")), files)
+        self.assertEqual(sorted(os.listdir(f"{broker.folder}/state")), ["bay.journal", "bay.json", "records.jsonl"])
 
     def test_two_brokers(self) -> None:
         broker = self.broker(BAY, "--state", "FOLDER/state")
@@ -138,14 +118,75 @@ class State(OnBroker):
         self.assertEqual(done.returncode, 1)
         self.assertIn("another broker keeps its state there", done.stderr)
 
+    def served(self, broker: Broker, bay: str) -> "subprocess.CompletedProcess[str]":
+        """What a broker of another bay says that doesn't begin."""
+        with open(f"{broker.folder}/bay.toml", "w", encoding="utf-8") as file:
+            file.write(bay)
+        return broker.ran("serve", f"{broker.folder}/bay.toml", "--listen", broker.address, "--state", f"{broker.folder}/state")
+
     def test_another_bay(self) -> None:
         broker = self.broker(BAY, "--state", "FOLDER/state")
+        with self.lab(broker).hold("scope"):
+            pass
         broker.end()
-        with open(f"{broker.folder}/bay.toml", "w", encoding="utf-8") as file:
-            file.write(BAY.replace("load-2", "load-3"))
-        done = broker.ran("serve", f"{broker.folder}/bay.toml", "--listen", broker.address, "--state", f"{broker.folder}/state")
+        done = self.served(broker, BAY.replace("north", "south"))
         self.assertEqual(done.returncode, 74)
         self.assertIn("bay.journal: it is of another bay", done.stderr)
+
+    def test_the_bay_changes(self) -> None:
+        """It gets and loses instruments, stations and guests while somebody holds, who goes on to hold the same."""
+        broker = self.broker(BAY, "--state", "FOLDER/state")
+        board, guest = self.lab(broker, "board"), self.lab(broker)
+        held, other = board.hold("supply"), guest.hold("load-2")
+        held.acquire()
+        other.acquire()
+        broker.end()
+        changed = """
+            bay = "north"
+            instruments = ["meter", "load-2", "supply", "lamp"]
+            [stations]
+            drive = ["meter", "lamp"]
+            board = ["supply"]
+            [guests]
+            count = 1
+            """
+        with open(f"{broker.folder}/bay.toml", "w", encoding="utf-8") as file:
+            file.write(changed)
+        broker.begin()
+        with self.lab(broker, "drive").hold("meter", "lamp", timeout=LIMIT):
+            until(lambda: {station(board, name)["state"] for name in ("board", other.station)} == {"holding"}, "they are back")
+            holders = {it["name"]: it["holder"] for it in board.status()["instruments"]}
+            self.assertEqual(holders, {"meter": "drive", "load-2": other.station, "supply": "board", "lamp": "drive"})
+        self.assertEqual((held.instruments, other.instruments), (("supply",), ("load-2",)))
+        broker.end()
+        for bay, text in ((changed.replace('board = ["supply"]', 'board = ["lamp"]'), "board holds supply, which by the bay it may not"),):
+            done = self.served(broker, bay)
+            self.assertEqual(done.returncode, 74)
+            self.assertIn(text, done.stderr)
+        with open(f"{broker.folder}/bay.toml", "w", encoding="utf-8") as file:
+            file.write(changed)
+        broker.begin()
+        held.release()
+        other.release()
+
+    def test_an_older_broker_wrote_it(self) -> None:
+        """It is refused, with what to do; and then that helps."""
+        folder = self.enterContext(tempfile.TemporaryDirectory())
+        os.mkdir(f"{folder}/state")
+        for name, text in (("bay.journal", "lab 2\njob board\nsession patience 0\nscope read\nend\nsteps\n"), ("records-1.jsonl", ""), ("lock", "")):
+            with open(f"{folder}/state/{name}", "w", encoding="utf-8") as file:
+                file.write(text)
+        with open(f"{folder}/bay.toml", "w", encoding="utf-8") as file:
+            file.write(BAY)
+        words = [*COMMAND, "serve", f"{folder}/bay.toml", "--listen", f"unix:{folder}/s", "--state", f"{folder}/state"]
+        done = subprocess.run(words, capture_output=True, text=True, timeout=LIMIT)
+        self.assertEqual(done.returncode, 74)
+        self.assertIn("bay.journal: an older labrun-broker wrote it, and this one can't go on with it. With the older one let all sessions end", done.stderr)
+        os.rename(f"{folder}/state/bay.journal", f"{folder}/bay.journal")
+        broker = Broker(folder, BAY, ("--state", f"{folder}/state"))
+        self.addCleanup(broker.ends)
+        with broker.lab() as lab, lab.hold("scope", timeout=LIMIT):
+            pass
 
     def test_tickets_arent_in_the_files(self) -> None:
         broker = self.broker(BAY, "--state", "FOLDER/state")
@@ -157,419 +198,190 @@ class State(OnBroker):
         held.release()
 
 
-class TakenUp(unittest.IsolatedAsyncioTestCase):
-    async def keeping(self, folder: str) -> Keeping:
-        keeping = Keeping(bay_of(BAY), folder)
-        await keeping.open()
-        self.addAsyncCleanup(keeping.close)
-        return keeping
-
+class TakenUp(OnFolder):
     async def test_what_was_told_and_what_was_not(self) -> None:
-        """Two sessions hold when the broker ends. Of one nobody was told, and so it is let go; the other one's client comes back."""
-        folder = self.enterContext(tempfile.TemporaryDirectory())
+        """Two sessions hold when the broker ends. Of one nobody was told, and its client asks again; the other one's client comes back."""
+        folder, copy, may = self.folder(), self.folder(), threading.Event()
+        self.addCleanup(may.set)
         keeping, owner = await self.keeping(folder), Owner()
         seat = await keeping.hold(Wish(("scope",), station="radio", by="ann", ticket="a ticket of a test"), owner)
         await keeping.note(seat, owner, "5 V")
-        await keeping.bench.jobs["board"].hold("supply").acquire_async()
         over = await keeping.hold(Wish(("load-1",), ticket="another ticket of it"), owner)
         await keeping.let_go(over, owner)
         gone = await keeping.hold(Wish(("load-2",), ticket="the ticket of a third"), owner)
         await keeping.release(gone.name, "eve")
-        await keeping.close()
-        keeping = await self.keeping(folder)
+        with mock.patch("os.fdatasync", lambda file: may.wait(5)):
+            untold = asyncio.create_task(keeping.hold(Wish(("supply",), station="board", ticket="the ticket of one untold"), owner))
+            await asyncio.sleep(0.1)
+            self.assertFalse(untold.done())
+            subprocess.run(["cp", "-a", f"{folder}/.", copy], check=True)
+            may.set()
+            await untold
+        keeping = await self.keeping(copy)
         status = {it["name"]: it for it in keeping.status()["stations"]}
-        self.assertEqual([(it["name"], it["by"], it["note"]) for it in status.values() if it["state"] != "idle"], [("radio", "ann", "5 V")])
+        told = [(it["name"], it["by"], it["note"]) for it in status.values() if it["state"] != "idle"]
+        self.assertEqual(told, [("board", None, None), ("radio", "ann", "5 V")])
         back = await keeping.hold(Wish(ticket="a ticket of a test", comes_back=True), owner)
         self.assertEqual((back.name, back.instruments), ("radio", ("scope",)))
-        for ticket, how in (("another ticket of it", "let_go"), ("the ticket of a third", "taken"), ("a ticket of nobody", "")):
-            with self.assertRaises(Ended) as caught:
+        again = await keeping.hold(Wish(("supply",), station="board", ticket="the ticket of one untold"), owner)
+        self.assertEqual((again.name, again.instruments), ("board", ("supply",)))
+        for ticket, ended, text in (
+            ("another ticket of it", "let_go", "has let go"), ("the ticket of a third", "taken", "taken away by eve"), ("a ticket of nobody", "", "no session"),
+        ):  # fmt: skip
+            with self.assertRaisesRegex(Ended, text) as caught:
                 await keeping.hold(Wish(ticket=ticket, comes_back=True), owner)
-            self.assertEqual(caught.exception.how, how)
-        await keeping.let_go(await keeping.hold(Wish(("supply",), station="board"), owner), owner)
+            self.assertEqual(caught.exception.how, ended)
+
+    async def test_a_guest_is_the_same(self) -> None:
+        """It has the name that it had, and nobody else gets that meanwhile."""
+        folder, owner = self.folder(), Owner()
+        keeping = await self.keeping(folder)
+        first = await keeping.hold(Wish(("scope",)), owner)
+        second = await keeping.hold(Wish(("supply",), ticket=TICKET), owner)
+        await keeping.let_go(first, owner)
+        await keeping.close()
+        keeping = await self.keeping(folder)
+        self.assertEqual([it["name"] for it in keeping.status()["stations"] if it["state"] == "gone"], ["guest-2"])
+        others = [await keeping.hold(Wish((name,)), owner) for name in ("scope", "load-1")]
+        self.assertEqual([it.name for it in others], ["guest-1", "guest-3"])
+        back = await keeping.hold(Wish(ticket=TICKET, comes_back=True), owner)
+        self.assertEqual((back.name, back.number), ("guest-2", second.number))
+
+    async def test_a_bay_that_has_no_room_for_them(self) -> None:
+        """Fewer guests than hold, or a station less, or an instrument less: it says who holds, and nothing is lost by it."""
+        folder, owner = self.folder(), Owner()
+        keeping = await self.keeping(folder)
+        for wish in (Wish(("scope",), station="radio"), Wish(("load-1",)), Wish(("load-2",))):
+            await keeping.hold(wish, owner)
+        await keeping.close()
+        for before, after, why in (
+            ("count = 4", "count = 1", "a guest|guest-. holds load-., .* or more guests hold than may"),
+            ('radio = ["scope"]', "", "radio holds scope, which by the bay it may not"),
+            (', "load-2"', "", "guest-2 holds load-2, which by the bay it may not"),
+        ):
+            with self.assertRaisesRegex(labrun.JournalError, why):
+                await self.keeping(folder, BAY.replace(before, after))
+        keeping = await self.keeping(folder)
+        self.assertEqual([it["name"] for it in keeping.status()["stations"] if it["state"] == "gone"], ["radio", "guest-1", "guest-2"])
+
+    async def test_numbers_go_on(self) -> None:
+        """Of sessions that ask later each is larger, whatever became of the broker."""
+        folder, owner, last = self.folder(), Owner(), 0
+        for _ in range(3):
+            keeping = await self.keeping(folder)
+            for _ in range(3):
+                session = await keeping.hold(Wish(("scope",)), owner)
+                self.assertGreater(session.number, last)
+                last = session.number
+                await keeping.let_go(session, owner)
+            await keeping.close()
 
 
-class Damaged(unittest.IsolatedAsyncioTestCase):
-    """The line that says who was told that a session holds is another one, by one byte. Nobody else gets its instruments by that."""
-
-    async def keeping(self, folder: str, bay: str = BAY, grace: float = 60.0) -> Keeping:
-        keeping = Keeping(bay_of(bay), folder, grace)
-        await keeping.open()
-        self.addAsyncCleanup(keeping.close)
-        return keeping
+class Damaged(OnFolder):
+    """The journal isn't as the broker wrote it. Nobody gets the instruments of who holds by that."""
 
     async def left(self, folder: str) -> bytes:
-        """What a broker leaves whose one session holds, and its line."""
+        """What a broker leaves whose one session holds."""
         keeping = await self.keeping(folder)
         await keeping.hold(Wish(("scope",), station="radio", by="ann", ticket=TICKET), Owner())
         await keeping.close()
         with open(f"{folder}/bay.journal", "rb") as file:
-            return next(line for line in file if line.startswith(b"# gives "))
+            return file.read()
 
-    def damages(self, folder: str, line: bytes, at: int, byte: int) -> None:
-        with open(f"{folder}/bay.journal", "r+b") as file:
-            text = file.read()
-            file.seek(text.index(line) + at)
-            file.write(bytes([byte]))
+    def copy(self, folder: str, text: bytes) -> str:
+        copy = self.folder()
+        subprocess.run(["cp", "-a", f"{folder}/.", copy], check=True)
+        with open(f"{copy}/bay.journal", "wb") as file:
+            file.write(text)
+        return copy
 
     async def test_each_byte(self) -> None:
-        refused = 0
-        with tempfile.TemporaryDirectory() as folder:
-            line = await self.left(folder)
-            for at in [*range(0, len(line), 5), len(line) - 1]:
-                with self.subTest(at), tempfile.TemporaryDirectory() as copy:
-                    subprocess.run(["cp", "-a", f"{folder}/.", copy], check=True)
-                    self.damages(copy, line, at, line[at] ^ 1)
-                    try:
-                        keeping = await self.keeping(copy)
-                    except labrun.JournalError:  # (it isn't a comment any more)
-                        refused += 1
-                        continue
-                    self.assertEqual((how(keeping, "radio")["state"], how(keeping, "scope")["holder"]), ("gone", "radio"))
-                    await keeping.close()
-        self.assertLessEqual(refused, 1)
+        folder = self.folder()
+        text = await self.left(folder)
+        for at in range(0, len(text) - 1, 7):
+            with self.subTest(at):
+                copy = self.copy(folder, text[:at] + bytes([text[at] ^ 1]) + text[at + 1 :])
+                with self.assertRaisesRegex(labrun.JournalError, "isn't as the broker wrote it|no journal of a bay|another bay"):
+                    await self.keeping(copy)
 
-    async def test_until_an_operator_has_seen_to_it(self) -> None:
-        folder = self.enterContext(tempfile.TemporaryDirectory())
-        line = await self.left(folder)
-        self.damages(folder, line, 5, ord("t"))
-        for grace in (0.02, 60.0):  # (and however often the broker begins again)
-            keeping = await self.keeping(folder, 'gone = "release"\n' + BAY, grace)
-            await asyncio.sleep(0.1)
-            self.assertEqual(how(keeping, "radio")["state"], "gone")
-            self.assertIn("nobody knows for whom", how(keeping, "radio")["note"])
-            with self.assertRaises(labrun.TimeoutError):
-                await keeping.hold(Wish(("scope",), station="board", timeout=0.05), Owner())
-            with self.assertRaises(Ended):
-                await keeping.hold(Wish(ticket=TICKET, comes_back=True), Owner())
-            self.assertIn("nobody wrote these lines as they are: ", keeping.complaints[0])
-            if grace < 1:
-                self.assertIn("nobody knows for whom radio holds scope: see to it, and then run labrun-broker release radio", keeping.complaints[1])
+    async def test_the_end_is_cut(self) -> None:
+        """As by a kill in the midst of a write: the whole lines count."""
+        folder = self.folder()
+        text = await self.left(folder)
+        told = text.index(b"\n", text.index(b" hold ")) + 1
+        for at in {0, 1, 20, told - 1, told, told + 1, len(text) - 1, len(text)}:
+            with self.subTest(at):
+                keeping = await self.keeping(self.copy(folder, text[:at]))
+                self.assertEqual(how(keeping, "radio")["state"], "gone" if at >= told else "idle")
                 await keeping.close()
-        self.assertEqual(await keeping.release("radio", "eve"), ("scope",))
-        await keeping.hold(Wish(("scope",), station="board"), Owner())
 
-    async def test_an_older_version_wrote_it(self) -> None:
-        """Its lines have no sum; they are read, and the journal has them as they are now from then on."""
-        folder, owner = self.enterContext(tempfile.TemporaryDirectory()), Owner()
-        line = await self.left(folder)
-        path = f"{folder}/bay.journal"
-        with open(path, "rb") as file:
-            text = file.read()
-        old = b"# note radio 2: labrun-broker gives " + line.split()[5] + b" ann\n"
-        for damaged in (False, True):
-            with open(path, "wb") as file:
-                file.write(text.replace(line, old.replace(b"gives", b"givet") if damaged else old))
-            keeping = await self.keeping(folder)
-            self.assertEqual(how(keeping, "radio")["state"], "gone")
-            self.assertEqual(bool(keeping.complaints), damaged)
-            if not damaged:
-                await keeping.hold(Wish(ticket=TICKET, comes_back=True), owner)
-                with open(path, "rb") as file:
-                    self.assertIn(line, file.read())
-            await keeping.close()
+    async def test_what_its_numbers_mean_is_gone(self) -> None:
+        folder = self.folder()
+        await self.left(folder)
+        for text in ("", "{}", "[]", '{"instruments": [1], "stations": [], "grace": 0}', '{"instruments": [], "stations": [], "grace": -1}'):
+            with open(f"{folder}/bay.json", "w", encoding="utf-8") as file:
+                file.write(text)
+            with self.assertRaisesRegex(labrun.JournalError, "bay.json: it isn't as the broker wrote it"):
+                await self.keeping(folder)
+        os.unlink(f"{folder}/bay.json")
+        with self.assertRaisesRegex(labrun.JournalError, "bay.json: it isn't there"):
+            await self.keeping(folder)
 
-    async def test_no_note_is_such_a_line(self) -> None:
-        folder, owner = self.enterContext(tempfile.TemporaryDirectory()), Owner()
-        keeping = await self.keeping(folder)
-        seat = await keeping.hold(Wish(("scope",), station="radio", ticket=TICKET), owner)
-        for text in ("labrun-broker takes it away by eve", "5\n# gives radio 2: 0123456789abcdef - keep eve", "# takes radio 2: 0 by eve"):
-            with self.assertRaisesRegex(BadWish, "could be taken for a line that the broker writes itself"):
-                await keeping.note(seat, owner, text)
-        await keeping.note(seat, owner, "\x1b\r\n# hold radio 7")
-        await keeping.close()
-        self.assertEqual((await self.keeping(folder)).complaints, [])
+    async def test_any_note(self) -> None:
+        """It comes back as it was, however long, and none is taken for a line that the broker writes itself."""
+        folder, owner = self.folder(), Owner()
+        keeping = await self.keeping(folder, BAY + "[limits]\nnote = 5000\n")
+        session = await keeping.hold(Wish(("scope",), station="radio", by="ann", ticket=TICKET), owner)
+        texts = ["taken eve", "by board eve", "failed 5", "more", "", " ", "\x1b\r\n# hold radio 7", "\\n\\\\r\\", "\\" * 3001, "\n" * 1000, "\u00fc\U0001f600" * 700, "a" * 5000]
+        for count, text in enumerate(texts, 1):
+            await keeping.note(session, owner, text)
+            copy = self.copy(folder, self.text(folder))
+            os.unlink(f"{copy}/records.jsonl")
+            other = await self.keeping(copy)
+            self.assertEqual((how(other, "radio")["note"], how(other, "radio")["by"]), (text, "ann"))
+            self.assertEqual([it["text"] for it in other.history if it["what"] == "note"], texts[:count])
+            self.assertEqual([it["what"] for it in other.history], ["held", *["note"] * count, "opened", "gone"])
+            await other.close()
+
+    def text(self, folder: str) -> bytes:
+        with open(f"{folder}/bay.journal", "rb") as file:
+            return file.read()
 
 
-class Terms(unittest.IsolatedAsyncioTestCase):
-    """A session keeps the grace that its client was told, whatever the broker that goes on has."""
+class Terms(OnFolder):
+    """A session is never kept for a shorter time than its client was told, whatever the broker that goes on has."""
 
     async def begun(self, folder: str, gone: str, grace: float) -> Keeping:
-        keeping = Keeping(bay_of(f'gone = "{gone}"\n' + BAY), folder, grace)
-        await keeping.open()
-        self.addAsyncCleanup(keeping.close)
-        return keeping
+        return await self.keeping(folder, f'gone = "{gone}"\n' + BAY, grace)
 
-    async def test_it_stands_in_the_journal(self) -> None:
-        for told, now, grace in (("release", "release", 60.0), ("release", "keep", 60.0), ("keep", "release", math.inf)):
-            folder, owner = self.enterContext(tempfile.TemporaryDirectory()), Owner()
+    async def test_a_shorter_one(self) -> None:
+        for told, now, kept in (("release", "release", 60.0), ("release", "keep", math.inf), ("keep", "release", math.inf)):
+            folder, owner = self.folder(), Owner()
             keeping = await self.begun(folder, told, 60.0)
             await keeping.hold(Wish(("scope",), station="radio", ticket=TICKET), owner)
             await keeping.close()
+            for _ in range(2):  # (and however often it begins again)
+                keeping = await self.begun(folder, now, 0.02)
+                await asyncio.sleep(0.1)
+                self.assertEqual(how(keeping, "radio")["state"], "gone", "it isn't released after 0.02 s")
+                self.assertEqual((keeping.grace, len(keeping.complaints)), (kept, int(now == "release")))
+                await keeping.close()
             keeping = await self.begun(folder, now, 0.02)
-            await asyncio.sleep(0.1)
-            self.assertEqual(how(keeping, "radio")["state"], "gone", "it isn't released after 0.02 s")
-            await keeping.turn_page_over_sessions()
+            await keeping.let_go(await keeping.hold(Wish(ticket=TICKET, comes_back=True), owner), owner)
             await keeping.close()
             keeping = await self.begun(folder, now, 0.02)
-            self.assertEqual((await keeping.hold(Wish(ticket=TICKET, comes_back=True), owner)).grace, grace)
+            self.assertEqual((keeping.grace, keeping.complaints), (0.02 if now == "release" else math.inf, []), "nobody holds who was told otherwise")
             await keeping.close()
 
-
-class Records(OnBroker):
-    def test_killed_behind_the_journals_line(self) -> None:
-        """Its end is in the journal, and in no record yet. The next broker writes that."""
-        for ends, what, text in (
-            (lambda lab, held: held.release(), "let_go", "as the journal has it"),
-            (lambda lab, held: lab.release("board"), "taken", "by tester, as the journal has it"),
-        ):
-            with self.subTest(what):
-                folder = self.enterContext(tempfile.TemporaryDirectory())
-                broker = Broker(folder, BAY, ("--state", f"{folder}/state"), killed_at(what))
-                self.addCleanup(broker.ends)
-                board, other = broker.lab("board"), broker.lab()
-                held = board.hold("scope", "supply")
-                held.acquire()
-                thread = threading.Thread(target=quietly, args=(ends, other, held))
-                thread.start()
-                assert broker.process is not None
-                self.assertEqual(broker.process.wait(LIMIT), -signal.SIGKILL)
-                broker.command = COMMAND
-                broker.begin()
-                with broker.lab() as lab, lab.hold("scope", "supply", timeout=LIMIT):
-                    pass
-                thread.join(LIMIT)
-                for lab in (other, board):
-                    with contextlib.suppress(labrun.LabrunError):  # (its session was taken away)
-                        lab.close()
-                broker.end()
-                for _ in range(2):  # (once: not at each start)
-                    broker.begin()
-                    broker.end()
-                with open(f"{folder}/state/records-1.jsonl", encoding="utf-8") as file:
-                    records = [it for it in map(json.loads, file) if it["station"] == "board"]
-                self.assertEqual([it["what"] for it in records], ["asked", "held", what])
-                self.assertEqual((records[-1]["text"], records[-1]["session"], records[-1]["by"]), (text, records[1]["session"], "tester"))
-                self.assertEqual(records[-1]["instruments"], ["scope", "supply"])
-                self.assertLess(records[1]["t"] - 1, records[-1]["t"])
-
-    def test_who_may_read(self) -> None:
-        broker = self.broker(BAY, "--state", "FOLDER/state")
-        with self.lab(broker) as lab:
-            with lab.hold("scope"):
-                pass
-            lab.pages(turn=True)
-        for name in ("bay.journal", "bay.journal.1", "records-1.jsonl", "records-2.jsonl", "lock"):
-            self.assertEqual(os.stat(f"{broker.folder}/state/{name}").st_mode & 0o777, 0o640, name)
-
-
-def quietly(ends: Any, lab: labrun_broker.Lab, held: labrun_broker.Held) -> None:
-    with contextlib.suppress(labrun.LabrunError):
-        ends(lab, held)
-
-
-def killed_at(what: str) -> list[str]:
-    """The command of a broker that is killed as it is to note this."""
-    text = f"""
-import os, signal, sys
-from labrun_broker import command, keeping
-notes = keeping.Keeping._record
-def killed(self, what, *given, **more):
-    if what == {what!r}:
-        os.kill(os.getpid(), signal.SIGKILL)
-    notes(self, what, *given, **more)
-keeping.Keeping._record = killed
-sys.exit(command.main())"""
-    return [sys.executable, "-c", text]
-
-
-class OnDisk(unittest.IsolatedAsyncioTestCase):
-    async def test_a_note_is_there_before_it_is_answered(self) -> None:
-        """In the journal and in the records, on a quick disk and on a slow one."""
-        for slow in (False, True):
-            with self.subTest(slow):
-                folder, owner = self.enterContext(tempfile.TemporaryDirectory()), Owner()
-                on_disk: dict[str, bytes] = {}
-                real = os.fdatasync
-
-                def fdatasync(file: int) -> None:
-                    size = os.fstat(file).st_size
-                    if slow:
-                        time.sleep(0.05)
-                    real(file)
-                    name = os.path.basename(os.readlink(f"/proc/self/fd/{file}"))
-                    on_disk[name] = os.pread(file, size, 0)
-
-                with mock.patch("os.fdatasync", fdatasync):
-                    keeping = Keeping(bay_of(BAY), folder)
-                    await keeping.open()
-                    seat = await keeping.hold(Wish(("scope",), station="radio", ticket=TICKET), owner)
-                    if slow:
-                        keeping._disk._took.extend([1.0] * LAST)
-                    await keeping.note(seat, owner, "12.5 V")
-                    self.assertIn(b"# note radio 2: 12.5 V\n", on_disk["bay.journal"])
-                    self.assertIn(b'"text":"12.5 V"', on_disk["records-1.jsonl"])
-                    await keeping.close()
-
-
-class OverSessions(unittest.IsolatedAsyncioTestCase):
-    """A page that is turned while a session holds, and a broker that ends right before, right after, or in between."""
-
-    async def begun(self, folder: str) -> Keeping:
-        keeping = Keeping(bay_of(BAY), folder)
-        await keeping.open()
-        self.addAsyncCleanup(keeping.close)
-        return keeping
-
-    async def holds_and_turns(self, folder: str) -> Keeping:
-        keeping, owner = await self.begun(folder), Owner()
-        seat = await keeping.hold(Wish(("scope",), station="radio", by="ann", ticket=TICKET), owner)
-        await keeping.note(seat, owner, "5 V")
-        await keeping.turn_page_over_sessions()
-        return keeping
-
-    async def is_held_still(self, folder: str, page: int) -> None:
-        """By its client alone, who comes back for it."""
-        keeping, owner = await self.begun(folder), Owner()
-        self.assertEqual(keeping.page, page)
-        self.assertEqual((how(keeping, "radio")["state"], how(keeping, "radio")["by"], how(keeping, "radio")["note"]), ("gone", "ann", "5 V"))
-        with self.assertRaises(labrun.TimeoutError):
-            await keeping.hold(Wish(("scope",), station="board", timeout=0.05), Owner())
-        back = await keeping.hold(Wish(ticket=TICKET, comes_back=True), owner)
-        await keeping.let_go(back, owner)
-        await keeping.let_go(await keeping.hold(Wish(("scope",), station="board"), owner), owner)
+    async def test_a_longer_one(self) -> None:
+        """It counts at once."""
+        folder, owner = self.folder(), Owner()
+        keeping = await self.begun(folder, "release", 0.02)
+        await keeping.hold(Wish(("scope",), station="radio", ticket=TICKET), owner)
         await keeping.close()
-
-    async def test_right_after(self) -> None:
-        folder = self.enterContext(tempfile.TemporaryDirectory())
-        keeping = await self.holds_and_turns(folder)
-        self.assertEqual(sorted(os.listdir(folder)), ["bay.journal", "bay.journal.1", "lock", "records-1.jsonl", "records-2.jsonl"])
-        self.assertEqual(list(sessions_given(f"{folder}/bay.journal").values())[0].ticket, list(sessions_given(f"{folder}/bay.journal.1").values())[0].ticket)
-        self.assertIn("\nradio 2 1/1 read = 0\n", keeping.report(1))
-        self.assertTrue(keeping.report(1).endswith("finished\n"))
-        await keeping.close()
-        await self.is_held_still(folder, 2)
-
-    async def test_closed_by_an_older_version(self) -> None:
-        """It retired whoever didn't hold."""
-        folder = self.enterContext(tempfile.TemporaryDirectory())
-        keeping = await self.holds_and_turns(folder)
-        with mock.patch("labrun._holding.goes_on", return_value=False):
-            await keeping.close()
-        with open(f"{folder}/bay.journal", encoding="utf-8") as file:
-            self.assertIn("\nretire board\n", file.read())
-        await self.is_held_still(folder, 3)
-
-    async def test_in_between(self) -> None:
-        """The journal of the new page is there, and that of the old one has both names, but the new one hasn't taken its place."""
-        folder, copy = (self.enterContext(tempfile.TemporaryDirectory()) for _ in range(2))
-        real = labrun.Bench.rename_journal
-
-        def killed(bench: labrun.Bench, path: str) -> None:
-            subprocess.run(["cp", "-a", "--preserve=links", f"{folder}/.", copy], check=True)
-            real(bench, path)
-
-        with mock.patch.object(labrun.Bench, "rename_journal", killed):
-            await (await self.holds_and_turns(folder)).close()
-        self.assertEqual(sorted(it for it in os.listdir(copy) if "journal" in it), ["bay.journal", "bay.journal.1", "bay.journal.next"])
-        await self.is_held_still(copy, 1)
-        self.assertEqual(sorted(it for it in os.listdir(copy) if "journal" in it), ["bay.journal"])
-        await self.is_over(copy)
-
-    async def is_over(self, folder: str) -> None:
-        keeping = await self.begun(folder)
-        self.assertEqual({it["state"] for it in keeping.status()["stations"]}, {"idle"})
-
-    async def test_it_fails(self) -> None:
-        """Nothing of the new page is left, and the old one goes on, as often as it is tried."""
-        folder, owner = self.enterContext(tempfile.TemporaryDirectory()), Owner()
-        keeping = await self.begun(folder)
-        seat = await keeping.hold(Wish(("scope",), station="radio", ticket=TICKET), owner)
-        for what in ("os.link", "os.replace", "os.fsync"):
-            with self.subTest(what), mock.patch(what, side_effect=OSError(28, "No space left on device")):
-                with self.assertRaisesRegex((OSError, labrun.JournalError), "No space left on device"):
-                    await keeping.turn_page_over_sessions()
-            self.assertEqual(sorted(it for it in os.listdir(folder) if "journal" in it), ["bay.journal"])
-            self.assertEqual((keeping.page, how(keeping, "scope")["holder"]), (1, "radio"))
-        await keeping.let_go(seat, owner)
-        self.assertEqual(await keeping.turn_page(1), 2)
-
-    async def test_pages_are_turned_behind_it(self) -> None:
-        folder, owner = self.enterContext(tempfile.TemporaryDirectory()), Owner()
-        keeping = await self.holds_and_turns(folder)
-        self.assertEqual(await keeping.turn_page_over_sessions(), 3)
-        await keeping.let_go(await keeping.hold(Wish(ticket=TICKET), owner), owner)
-        self.assertEqual(await keeping.turn_page(1), 4)
-        self.assertEqual([it["page"] for it in keeping.pages()], [1, 2, 3, 4])
-        for page in (1, 2, 3):
-            self.assertIn("\nradio 2 1/1 read = 0\n", keeping.report(page))
-        await keeping.close()
-        await self.is_over(folder)
-
-
-class FullDisk(unittest.IsolatedAsyncioTestCase):
-    """A disk that is full, from the first note on or as long as the test says. What the broker owes it does once there is room."""
-
-    async def asyncSetUp(self) -> None:
-        self.is_full = self.is_full_at_a_note = False
-        self.failed = 0
-        self.owner = Owner()
-        real = _journal._pwrite
-
-        def pwrite(file: int, text: bytes, place: int) -> int:
-            self.is_full = self.is_full or (self.is_full_at_a_note and b"# gives" in text)
-            if self.is_full:
-                self.failed += 1
-                raise OSError(28, "No space left on device")
-            return real(file, text, place)
-
-        def posix_fallocate(file: int, at: int, length: int) -> None:
-            if self.is_full:
-                raise OSError(28, "No space left on device")
-
-        self.enterContext(mock.patch.object(_journal, "_pwrite", pwrite))
-        self.enterContext(mock.patch.object(os, "posix_fallocate", posix_fallocate))
-        self.enterContext(mock.patch.multiple(kept, AGAIN=0.005, LATEST=0.02))
-
-    async def keeping(self, bay: str = BAY, grace: float = 60.0) -> Keeping:
-        keeping = Keeping(bay_of(bay), self.enterContext(tempfile.TemporaryDirectory()), grace)
-        await keeping.open()
-        self.addAsyncCleanup(keeping.close)
-        return keeping
-
-    async def is_told_that_it_fails(self, keeping: Keeping) -> None:
-        """Its hold is written, and then neither its ticket nor its let-go."""
-        self.is_full_at_a_note = True
-        with self.assertRaisesRegex(labrun.JournalError, "No space left on device"):
-            await keeping.hold(Wish(("scope",), station="board", ticket=TICKET), self.owner)
-        self.assertEqual((how(keeping, "board")["state"], how(keeping, "scope")["holder"]), ("gone", "board"))
-
-    def there_is_room(self) -> None:
-        self.is_full = self.is_full_at_a_note = False
-
-    async def test_who_was_told_that_it_does_not_hold(self) -> None:
-        keeping = await self.keeping()
-        await self.is_told_that_it_fails(keeping)
-        failed = self.failed
+        keeping = await self.begun(folder, "release", 60.0)
         await asyncio.sleep(0.1)
-        self.assertEqual((how(keeping, "board")["state"], self.failed), ("gone", failed), "the journal isn't written to while the disk is full")
-        self.there_is_room()
-        held = await keeping.hold(Wish(("scope",), station="radio", timeout=LIMIT), self.owner)
-        self.assertEqual((held.name, whats(keeping, "board")), ("radio", ["asked", "gone", "failed"]))
-        self.assertEqual(how(keeping, "board")["state"], "idle")
-
-    async def test_who_comes_back_for_it(self) -> None:
-        keeping = await self.keeping()
-        await self.is_told_that_it_fails(keeping)
-        seat = await keeping.hold(Wish(ticket=TICKET, comes_back=True), self.owner)
-        self.there_is_room()
-        await asyncio.sleep(0.1)
-        self.assertEqual((seat.name, how(keeping, "board")["state"]), ("board", "holding"))
-        await keeping.let_go(seat, self.owner)
-        self.assertEqual(whats(keeping, "board"), ["asked", "gone", "back", "let_go"])
-
-    async def test_grace_that_ends_meanwhile(self) -> None:
-        """Who waits goes on to wait, and comes to hold once there is room."""
-        keeping = await self.keeping('gone = "release"\n' + BAY, 0.05)
-        seat = await keeping.hold(Wish(("scope",), station="board"), self.owner)
-        waits = asyncio.create_task(keeping.hold(Wish(("scope",), station="radio"), self.owner))
-        await asyncio.sleep(0.01)
-        self.is_full = True
-        keeping.gone(seat, self.owner)
-        await asyncio.sleep(0.2)
-        self.assertEqual((how(keeping, "board")["state"], waits.done(), self.failed), ("gone", False, 0))
-        self.there_is_room()
-        self.assertEqual((await asyncio.wait_for(waits, LIMIT)).name, "radio")
-        self.assertEqual(whats(keeping, "board"), ["asked", "held", "gone", "taken"])
+        self.assertEqual((how(keeping, "radio")["state"], keeping.grace, keeping.complaints), ("gone", 60.0, []))
 
 
 class WithoutState(OnBroker):

@@ -8,7 +8,7 @@ import pytest
 
 from . import seen
 from .desk import SocketDesk
-from .labs import MOST_WORKERS, BenchLab, BrokerLab, Lab, LabFault
+from .labs import BrokerLab, Lab, LabFault, OwnLab
 from .past import Past
 from .plugin import Runner, broker_of, timeout_of
 from .server import Server
@@ -17,15 +17,15 @@ from .server import Server
 _TIMES = "labrun/times"
 
 
-def _server(config: pytest.Config, workers: int, past: Past) -> Server:
+def _server(config: pytest.Config, past: Past) -> Server:
     address = broker_of(config)
 
     def make() -> Lab:
         if address is None:
-            return BenchLab()
+            return OwnLab()
         return BrokerLab(address)
 
-    return Server(make, workers, past)
+    return Server(make, past)
 
 
 def _started(server: Server) -> None:
@@ -46,15 +46,9 @@ class Controller:
     """Of a run by xdist."""
 
     def __init__(self, config: pytest.Config, bay: Optional[Sequence[str]]) -> None:
-        from xdist.workermanage import parse_spec_config  # type: ignore[import]
-
         self.config, self.bay = config, bay
         self.past = Past(_times_of(config))
-        workers = len(parse_spec_config(config))
-        if workers > MOST_WORKERS and broker_of(config) is None:
-            told = f"{workers} workers share instruments by a bench, which has room for {MOST_WORKERS}"
-            raise pytest.UsageError(f"{told}: -n {MOST_WORKERS} or fewer, or -p no:labrun")
-        self.server = _server(config, workers, self.past)
+        self.server = _server(config, self.past)
 
     @pytest.hookimpl(tryfirst=True)
     def pytest_sessionstart(self) -> None:
@@ -88,7 +82,7 @@ class Controller:
         cache = getattr(self.config, "cache", None)
         if cache is not None and self.past.times.known:
             cache.set(_TIMES, self.past.times.known)
-        seen.write(self.config, self.past, self.server.reports)
+        seen.write(self.config, self.past)
 
     def pytest_terminal_summary(self, terminalreporter: Any) -> None:
         seen.tell(terminalreporter, self.past)
@@ -102,7 +96,7 @@ class Alone(Runner):
 
     def __init__(self, config: pytest.Config, bay: Optional[Sequence[str]], timeout: Optional[float]) -> None:
         self.config, self.past = config, Past()
-        self.server = _server(config, 1, self.past)
+        self.server = _server(config, self.past)
         _started(self.server)
         assert isinstance(self.server.lab, BrokerLab)
         super().__init__(SocketDesk(self.server.path, "alone"), self.server.lab.instruments if bay is None else bay, timeout)
@@ -110,7 +104,7 @@ class Alone(Runner):
     @pytest.hookimpl(trylast=True)
     def pytest_sessionfinish(self) -> None:
         self.server.stop()
-        seen.write(self.config, self.past, self.server.reports)
+        seen.write(self.config, self.past)
 
     def pytest_terminal_summary(self, terminalreporter: Any) -> None:
         seen.tell(terminalreporter, self.past)

@@ -1,18 +1,18 @@
-"""What the tests' sessions are held at: a bench of the run's own, or a broker that others use, too."""
+"""What the tests' sessions are held at: a lab of the run's own, or a broker that others use, too."""
 
 from __future__ import annotations
 
-import asyncio
 import contextlib
 import importlib
 import math
+import re
 import threading
 import time
 from typing import Any, AsyncContextManager, AsyncIterator, Optional, Protocol, Sequence
 
 import labrun
 
-MOST_WORKERS, MOST_SHARED = 32, 28
+MOST_SHARED = 64
 _LAG = 0.5  # seconds, by which what the broker tells may be late
 
 Way = tuple[str, ...]
@@ -25,63 +25,67 @@ class LabFault(Exception):
 class Lab(Protocol):
     """What the server asks of it, on its loop."""
 
-    def open(self, instruments: Sequence[str], seats: int) -> None:
-        """For so many workers, of which each may use these."""
+    def open(self, instruments: Sequence[str]) -> None:
+        """For workers of which each may use these."""
 
-    async def makes_room(self, seat: int) -> None:
-        """Before each session."""
-
-    def hold(self, test: str, seat: int, ways: Sequence[Way], timeout: Optional[float]) -> AsyncContextManager[Any]:
+    def hold(self, test: str, ways: Sequence[Way], timeout: Optional[float]) -> AsyncContextManager[Any]:
         """Entered, it holds all instruments of one of the ways, which its `instruments` say. TimeoutError says who is at them."""
 
     async def note(self, session: Any, text: str) -> None:
         """A line from the test, where the lab keeps such."""
 
+    def who(self, text: str) -> str:
+        """A text of the lab with the tests' names, where it has none."""
+
     def in_use(self) -> dict[str, str]:
         """The instruments that others than this run hold, each with who. Any thread may ask."""
 
-    def close(self) -> list[str]:
-        """Its reports, if it makes some."""
+    def close(self) -> None:
+        """Nobody holds any more."""
 
 
 def _asked(ways: Sequence[Way]) -> tuple[Way, dict[str, Any]]:
     return (ways[0], {}) if len(ways) == 1 else ((), {"any_of": list(ways)})
 
 
-class BenchLab:
-    """A bench of labrun, with a job for each worker. It turns the page before there is no room for another session."""
+class OwnLab:
+    """A lab of the run's own, at which each worker is a guest."""
 
     def __init__(self) -> None:
-        self.bench: Optional[labrun.Bench] = None
-        self.reports: list[str] = []
-        self._sessions = 0
-        self._turning = asyncio.Lock()
+        self.lab: Optional[labrun.Lab] = None
+        # whose each session is, from its asking on
+        self._tests: dict[labrun.Held, str] = {}
 
-    def open(self, instruments: Sequence[str], seats: int) -> None:
+    def open(self, instruments: Sequence[str]) -> None:
         if len(instruments) > MOST_SHARED:
             raise LabFault(f"the tests use {len(instruments)} instruments; workers may share {MOST_SHARED}")
-        self.bench = labrun.Bench.new({f"seat-{seat}": instruments for seat in range(seats)})
+        self.lab = labrun.Lab(instruments)
 
-    async def makes_room(self, seat: int) -> None:
-        assert self.bench is not None
-        self._sessions += 1
-        async with self._turning:
-            if self._sessions % 20 == 0 and self.bench.room.is_low:
-                self.reports.append((await self.bench.turn_page_async()).report.text)
-
-    def hold(self, test: str, seat: int, ways: Sequence[Way], timeout: Optional[float]) -> AsyncContextManager[Any]:
-        assert self.bench is not None
+    @contextlib.asynccontextmanager
+    async def hold(self, test: str, ways: Sequence[Way], timeout: Optional[float]) -> AsyncIterator[Any]:
+        assert self.lab is not None
         names, more = _asked(ways)
-        return self.bench.jobs[seat].hold(*names, timeout=timeout, **more)
+        session = self.lab.hold(*names, timeout=timeout, **more)
+        self._tests[session] = test
+        try:
+            async with session:
+                yield session
+        finally:
+            del self._tests[session]
 
     async def note(self, session: Any, text: str) -> None:
         pass
 
+    def who(self, text: str) -> str:
+        tests = {session.number: test for session, test in self._tests.items()}
+        return re.sub(r"\bsession (\d+) of a guest\b", lambda it: tests.get(int(it[1]), "a worker"), text)
+
     def in_use(self) -> dict[str, str]:
         return {}
 
-    def close(self) -> list[str]:
-        return [*self.reports, self.bench.close().text] if self.bench is not None else []
+    def close(self) -> None:
+        if self.lab is not None:
+            self.lab.close()
 
 
 class BrokerLab:
@@ -102,14 +106,11 @@ class BrokerLab:
         self._is_closed = False
         threading.Thread(target=self._watch, name="labrun-watch", daemon=True).start()
 
-    def open(self, instruments: Sequence[str], seats: int) -> None:
-        pass
-
-    async def makes_room(self, seat: int) -> None:
+    def open(self, instruments: Sequence[str]) -> None:
         pass
 
     @contextlib.asynccontextmanager
-    async def hold(self, test: str, seat: int, ways: Sequence[Way], timeout: Optional[float]) -> AsyncIterator[Any]:
+    async def hold(self, test: str, ways: Sequence[Way], timeout: Optional[float]) -> AsyncIterator[Any]:
         names, more = _asked(ways)
         async with self.client.hold(*names, timeout=timeout, **more) as session:
             self._own[session.station] = math.inf
@@ -122,15 +123,17 @@ class BrokerLab:
     async def note(self, session: Any, text: str) -> None:
         await session.note_async(text)
 
+    def who(self, text: str) -> str:
+        return text
+
     def in_use(self) -> dict[str, str]:
         now = time.monotonic()
         return {name: station for name, station in self._holders.items() if self._own.get(station, 0.0) < now}
 
-    def close(self) -> list[str]:
+    def close(self) -> None:
         self._is_closed = True
         with contextlib.suppress(labrun.LabrunError, OSError):
             self.client.close()
-        return []
 
     def _watch(self) -> None:
         """Looks who holds what, as long as the broker tells it."""

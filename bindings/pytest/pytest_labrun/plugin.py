@@ -27,7 +27,7 @@ def pytest_addoption(parser: pytest.Parser) -> None:
     group.addoption("--lab-broker", metavar="ADDRESS", help="hold instruments at this labrun-broker, which others use, too")
     group.addoption("--lab-timeout", metavar="SECONDS", type=float, help="a test that waits longer for its instruments fails, and says who holds them")
     group.addoption("--lab-gantt", metavar="FILE", help="draw who held what, as SVG")
-    group.addoption("--lab-report", metavar="FILE", help="write who held what: as a table where FILE ends in .csv, else as labrun's report")
+    group.addoption("--lab-report", metavar="FILE.csv", help="write who held what, as a table (CSV)")
     parser.addini("lab_bay", "as --lab", default="")
     parser.addini("lab_broker", "as --lab-broker", default="")
     parser.addini("lab_timeout", "as --lab-timeout", default="")
@@ -45,7 +45,7 @@ def timeout_of(config: pytest.Config) -> Optional[float]:
     return given
 
 
-def check_files(config: pytest.Config, has_bench: bool) -> None:
+def check_files(config: pytest.Config) -> None:
     """Whether the files can be written that are asked for."""
     for option in ("lab_gantt", "lab_report"):
         name = config.getoption(option)
@@ -53,9 +53,8 @@ def check_files(config: pytest.Config, has_bench: bool) -> None:
         if name and (path.is_dir() or not os.access(path.parent, os.W_OK)):
             raise pytest.UsageError(f"--{option.replace('_', '-')} {name}: it can't be written there")
     report = config.getoption("lab_report")
-    if report and not report.endswith(".csv") and not has_bench:
-        why = "the broker has labrun's report" if broker_of(config) else "labrun's report is of a run with workers (-n 4)"
-        raise pytest.UsageError(f"--lab-report {report}: {why}; a name in .csv gives the table of sessions")
+    if report and not report.endswith(".csv"):
+        raise pytest.UsageError(f"--lab-report {report}: a name that ends in .csv is wanted")
 
 
 def broker_of(config: pytest.Config) -> Optional[str]:
@@ -88,7 +87,7 @@ def pytest_configure(config: pytest.Config) -> None:
         return
     bay = bay_of(config)
     has_workers = config.getoption("dist", "no") != "no" and not config.getoption("collectonly")
-    check_files(config, has_workers and not broker_of(config))
+    check_files(config)
     if has_workers:
         from .controller import Controller
 
@@ -170,7 +169,7 @@ class Single(Runner):
 
     @pytest.hookimpl(trylast=True)
     def pytest_sessionfinish(self) -> None:
-        seen.write(self.config, self.past, None)
+        seen.write(self.config, self.past)
 
 
 # ---- fixtures

@@ -1,10 +1,10 @@
-"""What is seen of a run: a table at its end, a picture, a table of all sessions, and the bench's own report."""
+"""What is seen of a run: a table at its end, a picture, and a table of all sessions."""
 
 from __future__ import annotations
 
 import csv
 from collections import Counter
-from typing import Any, Optional, Sequence
+from typing import Any, Sequence
 
 import pytest
 
@@ -62,20 +62,15 @@ def _in_all(sessions: Sequence[Held]) -> str:
     return f"waited {total:.1f} s in all, {len(waiters)} of {len(sessions)} sessions; the longest {longest.waited:.1f} s: {longest.test}, for {whom}"
 
 
-def write(config: pytest.Config, past: Past, reports: Optional[Sequence[str]]) -> None:
+def write(config: pytest.Config, past: Past) -> None:
     """The files that were asked for."""
     folder = config.invocation_params.dir
     picture, report = config.getoption("lab_gantt"), config.getoption("lab_report")
     if picture:
         (folder / picture).write_text(gantt(past.sessions), encoding="utf-8")
-    if report and report.endswith(".csv"):
+    if report:
         with open(folder / report, "w", encoding="utf-8", newline="") as file:
             csv.writer(file).writerows(rows(past.sessions))
-    elif report and reports:
-        *earlier, last = reports
-        (folder / report).write_text(last, encoding="ascii")
-        for number, text in enumerate(earlier, 1):
-            (folder / f"{report}.{number}").write_text(text, encoding="ascii")
 
 
 FIELDS = ("test", "worker", "instruments", "asked", "waited", "held", "end", "kept_by", "notes")

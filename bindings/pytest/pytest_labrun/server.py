@@ -9,7 +9,6 @@ import asyncio
 import contextlib
 import json
 import os
-import re
 import shutil
 import tempfile
 import threading
@@ -20,7 +19,6 @@ from .labs import Lab, LabFault, Way
 from .past import Held, Past
 
 _LONGEST_LINE = 1 << 28
-_SEAT_WITHIN = 60.0
 
 
 @dataclass(frozen=True)
@@ -44,19 +42,16 @@ class Dealt:
 class Server:
     """It runs a loop on a thread of its own. `stop` ends all sessions."""
 
-    def __init__(self, make_lab: Callable[[], Lab], seats: int, past: Past) -> None:
+    def __init__(self, make_lab: Callable[[], Lab], past: Past) -> None:
         self.past = past
-        self.seats = seats
         self.units: Optional[tuple[UnitTold, ...]] = None
         self.fault: Optional[str] = None
         self.dealt: dict[str, Dealt] = {}
         self.ticks: list[Callable[[], None]] = []
-        self.reports: list[str] = []
         self._make_lab = make_lab
         self._folder = tempfile.mkdtemp(prefix="labrun-")
         self.path = os.path.join(self._folder, "lab.sock")
         self._users: dict[str, Held] = {}
-        self._sitting: dict[int, Held] = {}
         self._tasks: set[asyncio.Task[None]] = set()
         self._is_up = threading.Event()
         self._failed: Optional[BaseException] = None
@@ -93,9 +88,6 @@ class Server:
         self._loop, self._ended = asyncio.get_running_loop(), asyncio.Event()
         try:
             self.lab = self._make_lab()
-            self._free: asyncio.Queue[int] = asyncio.Queue()
-            for seat in range(self.seats):
-                self._free.put_nowait(seat)
             before = os.umask(0o177)
             try:
                 server = await asyncio.start_unix_server(self._came, self.path, limit=_LONGEST_LINE)
@@ -115,7 +107,7 @@ class Server:
         for task in self._tasks:
             task.cancel()
         await asyncio.gather(*self._tasks, return_exceptions=True)
-        self.reports = self.lab.close()
+        self.lab.close()
 
     async def _came(self, reader: asyncio.StreamReader, writer: asyncio.StreamWriter) -> None:
         task = asyncio.current_task()
@@ -137,7 +129,7 @@ class Server:
         self.units = units
         try:
             if used:
-                self.lab.open(used, self.seats)
+                self.lab.open(used)
         except (LabFault, ValueError, OSError) as fault:
             self.fault = str(fault)
 
@@ -148,22 +140,13 @@ class Server:
             return {}
         return {name: users[name] for way in ways for name in way if name in users}
 
-    def who(self, text: str) -> str:
-        """A text of the bench with the tests' names in place of its jobs'."""
-
-        def name(seat: re.Match[str]) -> str:
-            held = self._sitting.get(int(seat[1]))
-            return f"{held.test} ({held.worker})" if held else "a worker"
-
-        return re.sub(r"\bseat-(\d+)\b", name, text)
-
 
 class _Worker:
     """The talk with one worker."""
 
     def __init__(self, server: Server, reader: asyncio.StreamReader, writer: asyncio.StreamWriter) -> None:
         self.server, self.reader, self.writer = server, reader, writer
-        self.name, self.seat = "?", -1
+        self.name = "?"
         self.session: Optional[asyncio.Task[None]] = None
         self.lets_go = asyncio.Event()
         self.held: Optional[Held] = None
@@ -181,12 +164,9 @@ class _Worker:
             if self.session is not None:
                 self.session.cancel()
                 await asyncio.gather(self.session, return_exceptions=True)
-            if self.seat >= 0:
-                self.server._free.put_nowait(self.seat)
 
     async def on_hello(self, name: str) -> None:
         self.name = name
-        self.seat = await asyncio.wait_for(self.server._free.get(), _SEAT_WITHIN)
         self.tell(ok=True)
 
     async def on_collected(self, units: list[Any]) -> None:
@@ -221,16 +201,15 @@ class _Worker:
             held.end = "late"
             keepers = "; ".join(str(keeper) for keeper in getattr(late, "keepers", ())) or str(late)
             names = " or ".join(", ".join(way) for way in ways[:4])
-            self.tell(late=server.who(f"waited {past.now() - held.asked:.1f} s for {names}: {keepers}"))
+            self.tell(late=server.lab.who(f"waited {past.now() - held.asked:.1f} s for {names}: {keepers}"))
         except asyncio.CancelledError:
             held.end = "gone"
             raise
         except Exception as fault:
             held.end = "late" if held.held is None else "taken"
-            self.tell(fault=server.who(f"{type(fault).__name__}: {fault}"))
+            self.tell(fault=server.lab.who(f"{type(fault).__name__}: {fault}"))
         finally:
             held.let_go = held.let_go or past.now()
-            server._sitting.pop(self.seat, None)
             for name in held.instruments:
                 if server._users.get(name) is held:
                     del server._users[name]
@@ -239,10 +218,8 @@ class _Worker:
 
     async def _holds(self, held: Held, ways: tuple[Way, ...], timeout: Optional[float]) -> None:
         server, past = self.server, self.server.past
-        server._sitting[self.seat] = held
-        await server.lab.makes_room(self.seat)
         left = None if timeout is None else max(0.0, timeout - (past.now() - held.asked))
-        async with server.lab.hold(f"{held.test} ({self.name})", self.seat, ways, left) as session:
+        async with server.lab.hold(f"{held.test} ({self.name})", ways, left) as session:
             held.held, self.at = past.now(), session
             taken = next(at for at, way in enumerate(ways) if set(way) == set(session.instruments))
             held.instruments = ways[taken]

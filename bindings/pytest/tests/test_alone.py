@@ -63,17 +63,11 @@ def test_nothing_waits_and_no_table_is_printed(pytester: pytest.Pytester, run: R
     assert "test_it (alone): scope supply" in (pytester.path / "it.svg").read_text()
 
 
-def test_a_report_of_labrun_needs_workers(pytester: pytest.Pytester, run: Run) -> None:
-    pytester.makepyfile("def test_it(): pass")
-    done = run("--lab-report", "it.txt")
-    assert done.ret == pytest.ExitCode.USAGE_ERROR
-    done.stderr.fnmatch_lines(["ERROR: --lab-report it.txt: labrun's report is of a run with workers (-n 4); a name in .csv gives the table of sessions"])
-
-
 @pytest.mark.parametrize(
     "words, told",
     [
         (["--lab-gantt", "none/it.svg"], "ERROR: --lab-gantt none/it.svg: it can't be written there"),
+        (["--lab-report", "it.txt"], "ERROR: --lab-report it.txt: a name that ends in .csv is wanted"),
         (["--lab-report", "."], "ERROR: --lab-report .: it can't be written there"),
         (["--lab-timeout", "-1"], "ERROR: lab_timeout: -1.0 is no number of seconds from 0 on"),
         (["--lab-timeout", "nan"], "ERROR: lab_timeout: nan is no number of seconds from 0 on"),

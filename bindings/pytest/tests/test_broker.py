@@ -97,8 +97,6 @@ def test_unknown_instruments_and_no_broker(pytester: pytest.Pytester, run: Run, 
     pytester.makepyfile("import pytest\n@pytest.mark.instruments('oven')\ndef test_it(): pass\n")
     run("--lab-broker", broker).stdout.fnmatch_lines([f"*:2: unknown instrument 'oven': there are {', '.join(NAMES)}"])
     run("--lab-broker", broker, "-n", "2").stdout.fnmatch_lines(["*:2: unknown instrument 'oven'*"])
-    done = run("--lab-broker", broker, "--lab-report", "it.txt")
-    done.stderr.fnmatch_lines(["ERROR: --lab-report it.txt: the broker has labrun's report; a name in .csv gives the table of sessions"])
     for words in ((), ("-n", "2")):
         done = run("--lab-broker", f"unix:{tmp_path}/none.sock", *words)
         assert done.ret == pytest.ExitCode.USAGE_ERROR

@@ -63,18 +63,9 @@ def test_tests_share_instruments(pytester: pytest.Pytester, run: Run, words: tup
     ElementTree.parse(pytester.path / "it.svg")
 
 
-def test_the_report_of_labrun(pytester: pytest.Pytester, run: Run) -> None:
-    pytester.makepyfile(SHARED)
-    run("-n", "3", "--lab-report", "it.txt", "-k", "test_any_load").assert_outcomes(passed=8)
-    text = (pytester.path / "it.txt").read_text()
-    # a read of the scope and one of a load in each of eight tests
-    assert text.startswith("lab 2\ninstrument load-1 ") and text.endswith("\nfinished\n")
-    assert len(re.findall(r"(?m)^seat-[0-3] \d+ 1/1 read = 0$", text)) == 16
-
-
 def test_no_marker_at_all(pytester: pytest.Pytester, run: Run) -> None:
     pytester.makepyfile("import pytest\n@pytest.mark.parametrize('it', range(20))\ndef test_it(it): pass\n")
-    done = run("-n", "2", "--lab-report", "it.txt")
+    done = run("-n", "2", "--lab-report", "it.csv")
     done.assert_outcomes(passed=20)
     done.stdout.fnmatch_lines(["no test held an instrument"])
     done.stdout.no_fnmatch_line("*= instruments =*")
@@ -394,14 +385,11 @@ def test_limits(pytester: pytest.Pytester, run: Run) -> None:
     pytester.makepyfile(
         """
         import pytest
-        @pytest.mark.parametrize("number", [pytest.param(it, marks=pytest.mark.instruments(f"dut-{it}")) for it in range(29)])
+        @pytest.mark.parametrize("number", [pytest.param(it, marks=pytest.mark.instruments(f"dut-{it}")) for it in range(65)])
         def test_it(number):
             pass
         """
     )
-    done = run("-n", "33")
-    assert done.ret == pytest.ExitCode.USAGE_ERROR
-    done.stderr.fnmatch_lines(["ERROR: 33 workers share instruments by a bench, which has room for 32: -n 32 or fewer, or -p no:labrun"])
     done = run("-n", "1")
     assert done.ret == pytest.ExitCode.USAGE_ERROR
-    done.stderr.fnmatch_lines(["ERROR: the tests use 29 instruments; workers may share 28"])
+    done.stderr.fnmatch_lines(["ERROR: the tests use 65 instruments; workers may share 64"])

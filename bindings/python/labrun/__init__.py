@@ -1,23 +1,34 @@
-"""Jobs that share instruments: labrun's bench for threads, proved, behind one short mutex.
+"""Instruments that a program shares: a lab, whose threads and tasks ask as they need something; or a bench, whose jobs have a script.
+
+    with labrun.Lab(["scope", "supply"]) as lab:
+        with lab.hold("scope", "supply", timeout=60) as held:   # blocks until it holds both
+            measure(held.instruments)                           # the real work
 
     with labrun.Bench.open("bay.lab") as bench:
         def station(job):
             for session in job.sessions():
                 with session:                     # blocks until all its instruments are held
-                    measure(session.instruments)  # the real work
+                    measure(session.instruments)
         bench.run(station)                        # a thread for each job
     print(bench.report.finished, bench.report.log("scope-1"))
 
-What is proved ends at the calls of the C library: that no two sessions hold an instrument at once, that each log is whole sessions, and
-that nobody waits for nothing: who waits, waits in the end for somebody who holds. This package, which calls it, is tested."""
+What is proved ends at the calls of the C library: that no two sessions hold an instrument at once, and that nobody waits for nothing; of a
+bench also that each log is whole sessions. This package, which calls it, is tested."""
 
-from ._bench import OVERTAKES, Bench, Command, Job, Jobs, JobState, Keeper, NotBack, Session
-from ._faults import Closed, Full, JournalError, LabrunError, MayNotUse, NotHeld, OtherProcess, Refused, Retired, StillHeld, Stopped, TakenAway
+from ._bench import OVERTAKES, Bench
+from ._connect import connect
+from ._faults import Closed, Full, JournalError, LabrunError, MayNotUse, NotHeld, OtherProcess, Refused, StillHeld, Stopped, TakenAway
 from ._faults import TimeoutError, TooLong, Withdrawn, WouldBlock
-from ._holding import Hold, Page, Room
+from ._held import Held
+from ._jobs import Job, Jobs, JobState
 from ._journal_texts import journal_script, journal_steps
+from ._keepers import Keeper
+from ._lab import Lab, Sitting, Station
 from ._library import library_path
+from ._plan import Command
 from ._report import Counts, Entry, JobReport, Report, check, replay, run, upgrade
+from ._run import NotBack
+from ._session import Session
 
 __all__ = [
     "OVERTAKES",
@@ -27,24 +38,24 @@ __all__ = [
     "Counts",
     "Entry",
     "Full",
-    "Hold",
+    "Held",
     "Job",
     "JobReport",
     "JobState",
     "Jobs",
     "JournalError",
     "Keeper",
+    "Lab",
     "LabrunError",
     "MayNotUse",
     "NotBack",
     "NotHeld",
     "OtherProcess",
-    "Page",
     "Refused",
     "Report",
-    "Retired",
-    "Room",
     "Session",
+    "Sitting",
+    "Station",
     "StillHeld",
     "Stopped",
     "TakenAway",
@@ -53,6 +64,7 @@ __all__ = [
     "Withdrawn",
     "WouldBlock",
     "check",
+    "connect",
     "journal_script",
     "journal_steps",
     "library_path",

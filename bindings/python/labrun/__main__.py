@@ -3,7 +3,8 @@
 usage: python3 -m labrun script JOURNAL    the script that the bench has become, with the sessions that came
        python3 -m labrun steps JOURNAL     the same with a line `steps` and each step that was done, for `labrun replay`
 
-The journal is only read, up to its last whole line. Status 1 if it is no journal, or one of its sums or steps is wrong; standard error says why."""
+The journal is only read, up to its last whole line. Status 1 if it is no journal, or one of its sums or steps is wrong; standard error says
+why."""
 
 import sys
 

@@ -3,10 +3,12 @@
 from __future__ import annotations
 
 import builtins
-from typing import TYPE_CHECKING, Optional
+from typing import TYPE_CHECKING, Optional, Union
 
 if TYPE_CHECKING:
-    from ._bench import Keeper, Session
+    from ._held import Held
+    from ._keepers import Keeper
+    from ._session import Session
 
 CAUSES = {
     0: "step is not legal",
@@ -48,18 +50,23 @@ class TooLong(LabrunError, ValueError):
 
 
 class TimeoutError(LabrunError, builtins.TimeoutError):  # noqa: A001 (a kind of the builtin, and caught as such)
-    """The time limit of an `acquire` passed. The session keeps its place in the line: acquire it again, or `give_up`; one of `Job.hold` is
-    given up. `keepers` says who kept it waiting, the text also for whom it waits in the end."""
+    """The time limit of an `acquire` passed. A session of a script keeps its place in the line: acquire it again, or `give_up`; one of a `Lab`
+    is given up. `keepers` says who kept it waiting, the text also for whom it waits in the end."""
 
-    def __init__(self, session: Session, keepers: tuple[Keeper, ...]) -> None:
-        is_over = session.state == "withdrawn"
-        super().__init__(f"{_called(session)} {'was given up when its time was over' if is_over else 'still waits'}{_because(keepers)}")
+    def __init__(self, session: Union[Session, Held], keepers: tuple[Keeper, ...], text: str = "") -> None:
+        super().__init__(text or f"{_called(session)} {_waits(session)}{_because(keepers)}")
         self.session = session
         self.keepers = keepers
 
 
-def _called(session: Session) -> str:
+def _waits(session: Union[Session, Held]) -> str:
+    return "was given up when its time was over" if session.state == "withdrawn" else "still waits"
+
+
+def _called(session: Union[Session, Held]) -> str:
     """One that was never added has no number."""
+    if not hasattr(session, "job"):
+        return session.called
     return f"session {session.number} of {session.job.name}" if session.number else f"a session of {session.job.name}"
 
 
@@ -73,8 +80,8 @@ def _because(keepers: tuple[Keeper, ...]) -> str:
 
 
 class Withdrawn(LabrunError):
-    """The session was given up: its patience ran out, or `withdraw` was called. It held nothing. `session.state` says what became of it: it is
-    `withdrawn`, and logs nothing, if the script gives it a patience; for others see `Session.give_up`."""
+    """The session was given up: its patience ran out, or `withdraw` was called. It held nothing. `session.state` says what became of it: it
+    is `withdrawn`, and logs nothing, if the script gives it a patience; for others see `Session.give_up`."""
 
     def __init__(self, session: Session, seconds: Optional[float] = None, keepers: tuple[Keeper, ...] = ()) -> None:
         how = "was withdrawn" if seconds is None else f"was given up after {seconds:g} s{_because(keepers)}"
@@ -87,20 +94,21 @@ class NotHeld(LabrunError):
 
 
 class TakenAway(NotHeld):
-    """The session was ended by `Bench.take_away`, or because others waited when its limit on holding had passed. Others may be at its
-    instruments by now, and its commands are in the logs."""
+    """The session was ended by `take_away`, or because others waited when its limit on holding had passed. Others may be at its instruments
+    by now. (The commands of a script's are in the logs.)"""
 
-    def __init__(self, session: Session) -> None:
-        super().__init__(f"session {session.number} of {session.job.name} was taken away: {', '.join(session.instruments)}")
+    def __init__(self, session: Union[Session, Held], text: str = "") -> None:
+        super().__init__(text or f"{_called(session)} was taken away: {', '.join(session.instruments)}")
         self.session = session
 
 
 class WouldBlock(LabrunError, RuntimeError):
     """`with session:` on a thread whose asyncio loop runs, where it would have to wait and keep every task from going on: use
-    `async with`. The session keeps its place in the line: acquire it again, or `give_up`; one of `Job.hold` is given up."""
+    `async with`. A session of a script keeps its place in the line: acquire it again, or `give_up`; one of a `Lab` is given up. It is also
+    raised where a station of a `Lab` would wait for a session that the same thread, or task, is in."""
 
-    def __init__(self, session: Session) -> None:
-        super().__init__(f"{_called(session)} has to wait, and a loop runs on this thread: use `async with`")
+    def __init__(self, session: Union[Session, Held], text: str = "") -> None:
+        super().__init__(text or f"{_called(session)} has to wait, and a loop runs on this thread: use `async with`")
         self.session = session
 
 
@@ -109,15 +117,16 @@ class StillHeld(LabrunError):
     stopped then, because nobody can tell whether somebody still works there. `sessions` are those sessions."""
 
     def __init__(self, sessions: tuple[Session, ...]) -> None:
-        super().__init__("; ".join(f"the station of {it.job.name} is over, and session {it.number} still holds {', '.join(it.instruments)}" for it in sessions))
+        each = (f"the station of {it.job.name} is over, and session {it.number} still holds {', '.join(it.instruments)}" for it in sessions)
+        super().__init__("; ".join(each))
         self.sessions = sessions
 
 
 class OtherProcess(LabrunError):
-    """This is the child of a fork, and what it has is a copy of its parent's bench: what it would hold, the parent may hold, too."""
+    """This is the child of a fork, and what it has is a copy of its parent's bench or lab: what it would hold, the parent may hold, too."""
 
-    def __init__(self, process: int) -> None:
-        super().__init__(f"this bench belongs to process {process}")
+    def __init__(self, process: int, what: str = "bench") -> None:
+        super().__init__(f"this {what} belongs to process {process}")
         self.process = process
 
     def __reduce__(self) -> tuple[type[OtherProcess], tuple[int]]:
@@ -126,8 +135,8 @@ class OtherProcess(LabrunError):
 
 class JournalError(LabrunError):
     """The journal can't be used: another process has it open; it is of another script, or a line of it is refused, as `line` says; or a
-    write failed, of which `__cause__` is the OSError. After a write that failed the bench is as the file has it: what raised this is not
-    done, and may be tried again."""
+    write failed, of which `__cause__` is the OSError. After a write that failed a bench is as the file has it: what raised this is not
+    done, and may be tried again. A `Lab` tries by itself, until there is room: `Held.release`, called again, waits for that."""
 
     def __init__(self, path: str, why: str, line: Optional[int] = None) -> None:
         super().__init__(f"{path}: {why}")
@@ -138,7 +147,7 @@ class JournalError(LabrunError):
 
 
 class MayNotUse(LabrunError, ValueError):
-    """A session can't be added, because the job may not use one of its instruments: the edges between jobs stay as they were opened."""
+    """A job, a station or a guest may not use an instrument: that was settled when the bench or the lab was opened."""
 
     def __init__(self, job: str, wrong: str, may: tuple[str, ...]) -> None:
         super().__init__(f"{job} may not use {wrong}: it may use {', '.join(may) or 'nothing'}")
@@ -148,31 +157,13 @@ class MayNotUse(LabrunError, ValueError):
         return MayNotUse, (self.job, self.wrong, self.may)
 
 
-class Retired(LabrunError):
-    """A session can't be added: the job is retired."""
-
-    def __init__(self, job: str) -> None:
-        super().__init__(f"{job} is retired, and gets no further session")
-        self.job = job
-
-    def __reduce__(self) -> tuple[type[Retired], tuple[str]]:
-        return Retired, (self.job,)
-
-
 class Full(LabrunError):
-    """A session can't be added: the job has 1000, or the bench has 100000 commands. `Bench.room` tells before, and `Bench.turn_page` helps."""
-
-    def __init__(self, job: str) -> None:
-        super().__init__(f"no room for another session of {job}: turn_page() begins a new page")
-        self.job = job
-
-    def __reduce__(self) -> tuple[type[Full], tuple[str]]:
-        return Full, (self.job,)
+    """There is no room in line for another session: a lab has room for 1048576 sets of instruments there."""
 
 
 class Closed(LabrunError):
-    """The bench is closed."""
+    """The lab or the bench is closed."""
 
 
 class Stopped(LabrunError):
-    """The bench was stopped: no further session is begun. Sessions that are held go on to their end."""
+    """The lab or the bench was stopped: no further session is begun. Sessions that are held go on to their end."""

@@ -2,12 +2,13 @@
 
 from __future__ import annotations
 
+import ctypes
 import os
-import tempfile
 
-from ._bench import Bench
 from ._faults import JournalError
-from ._journal import Path
+from ._journal import Path, resumed
+from ._library import Handle, freed, library
+from ._plan import Plans
 from ._report import replay
 
 
@@ -45,12 +46,24 @@ def _head(path: Path, text: bytes) -> bytes:
 
 
 def _script(path: Path, text: bytes, head: bytes) -> str:
-    """The script of the bench that comes back from a copy: all steps are done again, and every sum is looked at."""
-    with tempfile.TemporaryDirectory(prefix="labrun-") as room:
-        copy = os.path.join(room, "journal")
-        with open(copy, "wb") as file:
-            file.write(text)
-        try:
-            return Bench.from_text(head.decode("ascii"), journal=copy, sync="none").script
-        except JournalError as fault:
-            raise JournalError(os.fspath(path), fault.why, fault.line) from None
+    """The script of the bench that comes back: all steps are done again, and every sum is looked at."""
+    handle = Handle()
+    resumed(library(), path, text, handle)
+    try:
+        plans = Plans(library(), ctypes.byref(handle))
+    finally:
+        freed(library(), handle)
+    lines = [_first_line(head)]
+    for name, sessions in zip(plans.jobs, plans.sessions):
+        lines.append(f"job {name}")
+        for _, commands, patience in sessions:
+            lines.append("session" if patience is None else f"session patience {patience}")
+            lines += [f"{it.instrument} {it.verb}" + ("" if it.number is None else f" {it.number}") for it in commands]
+            lines.append("end")
+    return "\n".join(lines) + "\n"
+
+
+def _first_line(script: bytes) -> str:
+    """(The lines before it are empty, or comments.)"""
+    words = [line.split() for line in script.replace(b"\t", b" ").split(b"\n")]
+    return next((b" ".join(it).decode("ascii") for it in words if it and not it[0].startswith(b"#")), "")

@@ -4,15 +4,16 @@ from __future__ import annotations
 
 import ctypes
 import ctypes.util
+import importlib
 import os
-from typing import Any, Callable, Optional
+import sys
+from typing import Any, Callable, Optional, Protocol
 
 from ._faults import LabrunError
 
 REFUSED, NO_SUCH, WAITS, TOO_LONG, NO_MEMORY, NO_ROOM, NOT_OPEN, NOT_NOW, NO_SESSION, SESSIONS_LEFT, IN_USE = range(1, 12)
 JOURNAL_FULL = 12
 RETIRED = 14
-ACTED = 2
 
 
 class Told(ctypes.Structure):
@@ -137,7 +138,6 @@ _LONG: dict[str, list[Any]] = {
     "lab_replay": [_BYTES, _SIZE, _ROOM, _SIZE, _TOLD],
     "lab_check": [_BYTES, _SIZE, _ROOM, _SIZE, _TOLD],
     "lab_upgrade": [_BYTES, _SIZE, _ROOM, _SIZE, _TOLD],
-    "lab_bench_script": [_BYTES, _SIZE, _ROOM, _SIZE, _TOLD],
     "lab_bench_open": [_BYTES, _SIZE, _HANDLE, _TOLD],
     "lab_bench_open_kept": [_BYTES, _SIZE, _HANDLE, _TOLD],
     "lab_bench_resume": [_BYTES, _SIZE, _HANDLE, _TOLD],
@@ -155,23 +155,29 @@ _SHORT: dict[str, list[Any]] = {
     "lab_keepers": [_HANDLE, _WORD, _WORD, ctypes.POINTER(Keepers)],
     "lab_overtakes": [_HANDLE, _WORD],
     "lab_outside": [_HANDLE, _WORD, ctypes.POINTER(Outside)],
-    "lab_add": [_HANDLE, _WORD, _BYTES, _SIZE, _TOLD],
     "lab_turn": [_HANDLE, _WORD, _TURNED],
     "lab_settle": [_HANDLE, _WORD, ctypes.POINTER(Came)],
     "lab_command": [_HANDLE, _WORD, ctypes.POINTER(Entered)],
     "lab_end": [_HANDLE, _WORD, _TURNED],
     "lab_withdraw": [_HANDLE, _WORD],
     "lab_retire": [_HANDLE, _WORD, _WORD, _TURNED],
-    "lab_more": [_HANDLE, _WORD, _WORD, _ROOM, _SIZE, ctypes.POINTER(_SIZE)],
     "lab_journal": [_HANDLE, _ROOM, _SIZE, ctypes.POINTER(_SIZE)],
     "lab_bench_free": [_HANDLE],
 }
+
+
+class Calls(Protocol):
+    """Calls of the library, each by its name in C."""
+
+    def __getitem__(self, name: str) -> Callable[..., int]: ...
+    def quick(self, name: str) -> Callable[..., int]: ...
 
 
 class Library:
     """The calls of one loaded library, each by its name in C."""
 
     def __init__(self, path: str) -> None:
+        may_load()
         self.path = path
         self._long, self._short = ctypes.CDLL(path), ctypes.PyDLL(path)
         self._calls: dict[str, Callable[..., int]] = {}
@@ -209,18 +215,42 @@ def unexpected(call: str, status: int) -> Exception:
     return MemoryError() if status == NO_MEMORY else LabrunError(f"{call}: status {status}")
 
 
-def called(calls: Any, name: str, *given: Any) -> None:
+def done(name: str, call: Callable[..., int], *given: Any) -> None:
     """A call that is to be done; every status but 0 is an exception."""
-    status = calls[name](*given)
+    status = call(*given)
     if status:
         raise unexpected(name, status)
 
 
-def freed(calls: Any, handle: Handle) -> None:
+def called(calls: Calls, name: str, *given: Any) -> None:
+    """The same of a call by its name."""
+    done(name, calls[name], *given)
+
+
+def freed(calls: Calls, handle: Handle) -> None:
     """What the handle has is given back. (It may be empty.)"""
     status = calls["lab_bench_free"](ctypes.byref(handle))
     if status not in (0, NOT_OPEN):
         raise unexpected("lab_bench_free", status)
+
+
+def may_load() -> None:
+    """LabrunError where the calls would not be one at a time, or not of one process: the interpreter's lock is held during the short ones."""
+    has_lock = getattr(sys, "_is_gil_enabled", None)
+    if has_lock is not None and not has_lock():
+        raise LabrunError("labrun needs the interpreter's lock: it doesn't run in a free-threaded Python")
+    if _is_sub_interpreter():
+        raise LabrunError("labrun runs in the main interpreter alone, and not in a sub-interpreter")
+
+
+def _is_sub_interpreter() -> bool:
+    for name in ("_interpreters", "_xxsubinterpreters"):
+        try:
+            it = importlib.import_module(name)
+        except ImportError:
+            continue
+        return bool(it.get_current() != it.get_main())
+    return False
 
 
 def library_path() -> str:

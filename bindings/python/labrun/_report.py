@@ -107,21 +107,8 @@ class Report:
 
     def to_rows(self) -> list[dict[str, Any]]:
         """All logs as one table, a dictionary a row, for `pandas.DataFrame(report.to_rows())`. `entry` counts from 1 in each log."""
-        return [
-            {
-                "instrument": name,
-                "entry": number,
-                "job": entry.job,
-                "session": entry.session,
-                "place": entry.place,
-                "length": entry.length,
-                "verb": entry.verb,
-                "number": entry.number,
-                "value": entry.value,
-            }
-            for name, log in self.logs.items()
-            for number, entry in enumerate(log, 1)
-        ]
+        entries = ((name, number, entry) for name, log in self.logs.items() for number, entry in enumerate(log, 1))
+        return [{"instrument": name, "entry": number, **vars(entry)} for name, number, entry in entries]
 
     def __str__(self) -> str:
         return self.text

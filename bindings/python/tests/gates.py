@@ -10,9 +10,9 @@ import threading
 from types import FrameType
 from typing import Any, Callable, Optional
 
-from labrun import _bench, _holding
+from labrun import _bench, _core, _jobs, _keepers, _mending, _run, _seat, _session
 
-FILES = (_bench.__file__, _holding.__file__)
+FILES = tuple(it.__file__ for it in (_bench, _core, _jobs, _keepers, _mending, _run, _seat, _session))
 
 
 class Stuck(BaseException):
@@ -120,8 +120,8 @@ class Gates:
         return self._at_line
 
     def _has_a_lock(self, frame: FrameType, me: _Thread) -> bool:
-        bench = frame.f_locals.get("bench", frame.f_locals.get("self"))
-        return getattr(getattr(bench, "_mutex", None), "owner", None) is me
+        core = frame.f_locals.get("core", frame.f_locals.get("self"))
+        return getattr(getattr(core, "mutex", None), "owner", None) is me
 
     def _can_go_on(self) -> list[int]:
         return [it.number for it in self.threads if not it.is_done and (it.waits_for is None or not it.waits_for.is_locked)]

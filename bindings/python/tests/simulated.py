@@ -4,7 +4,6 @@ wakes it is tested on what the definitions say, one call at a time, without a bu
 from __future__ import annotations
 
 import ctypes
-import hashlib
 import os
 import re
 import sys
@@ -80,15 +79,6 @@ class Simulated:
             kept.clear()
         return status
 
-    def lab_more(self, handle: Any, job: int, session: int, room: Any, size: Any, written: Any) -> int:
-        plan = self.run(handle).plan
-        it = plan.sessions[job][session - 1]
-        commands = [(plan.instrument_names[instrument], verb, number) for instrument, verb, number in it.commands]
-        lines = [f"more {plan.job_names[job]}", "session" if it.patience is None else f"session patience {it.patience}"]
-        lines += [f"{name} {verb}" + (f" {number}" if verb != "read" else "") for name, verb, number in commands] + ["end"]
-        text = "".join(f"#{line}\n" for line in [lines[0], *("+" + line for line in lines[1:])]).encode()
-        return self.in_room(b"#steps\n%b#sum %b\n" % (text, hashlib.sha256(text).hexdigest()[:16].encode()), room, size, written)
-
     def in_room(self, text: bytes, room: Any, size: Any, written: Any) -> int:
         at(written).value = len(text)
         if len(text) > size.value:
@@ -100,17 +90,10 @@ class Simulated:
         whole = journal[: journal.rfind(b"\n") + 1]
         script, steps = whole.split(b"\nsteps\n", 1)
         status = self.lab_bench_open_kept(script + b"\n", len(script) + 1, handle, told)
-        since, more = b"", []
+        since = b""
         for number, line in enumerate(steps.split(b"\n")[:-1], script.count(b"\n") + 3):
             words = line.decode("ascii", "replace").split()
-            if line.startswith(b"#more ") or more and line.startswith(b"#+") and line != b"#+end":
-                more = [line[6:]] if line.startswith(b"#more ") else [*more, line[2:] + b"\n"]
-                continue
-            if more and line == b"#+end":
-                job, text = self.run(handle).plan.job_names.index(more[0].decode()), b"".join([*more[1:], b"end\n"])
-                is_good = self.lab_add(handle, job, text, ctypes.c_size_t(len(text)), told) == 0
-                more = []
-            elif words[:2] == ["#", "sum"]:
+            if words[:2] == ["#", "sum"]:
                 is_good, since = words[2:] == ["%08x" % zlib.crc32(since)], b""
             elif words and not words[0].startswith("#"):
                 is_good, since = self.is_done_again(handle, words), since + line + b"\n"
@@ -154,19 +137,27 @@ class Simulated:
         return self.runs[at(handle).at]
 
     def lab_bench_open(self, script: bytes, length: int, handle: Any, told: Any) -> int:
-        try:
-            self.runs.append(simulate.Run(simulate.read_script(script)))
-            # who is outside, in the order of asking, each as its job, its needs, and how often it was passed by
-            self.runs[-1].line, self.runs[-1].overtakes = [], 0
-        except simulate.Fault as fault:
-            line, cause = re.findall(r"\d+", str(fault))[:2]
-            at(told).line, at(told).cause = int(line), int(cause)
+        plan = self.plan_of(script, told)
+        if plan is None:
             return 1
+        self.runs.append(simulate.Run(plan))
+        # who is outside, in the order of asking, each as its job, its needs, and how often it was passed by
+        self.runs[-1].line, self.runs[-1].overtakes = [], 0
         at(handle).at, at(handle).live = len(self.runs) - 1, 1
         return 0
 
+    def plan_of(self, script: bytes, told: Any) -> Any:
+        """None if the script is refused, which is told."""
+        try:
+            return simulate.read_script(script)
+        except simulate.Fault as fault:
+            at(told).line, at(told).cause = map(int, re.findall(r"\d+", str(fault))[:2])
+            return None
+
     def lab_check(self, script: bytes, length: int, report: Any, room: int, told: Any) -> int:
-        plan = simulate.read_script(script)
+        plan = self.plan_of(script, told)
+        if plan is None:
+            return 1
         counts = len(plan.job_names), len(plan.instrument_names), len(plan.edges), sum(map(len, plan.sessions))
         commands = sum(len(one.commands) for sessions in plan.sessions for one in sessions)
         text = b"ok jobs %d instruments %d edges %d sessions %d commands %d\n" % (*counts, commands)
@@ -355,36 +346,6 @@ class Simulated:
     def lab_turn(self, handle: Any, job: int, turned: Any) -> int:
         run = self.run(handle)
         return self.told(turned, run.whole_turn(run.jobs[job])[0])
-
-    def lab_add(self, handle: Any, job: int, session: bytes, length: Any, told: Any) -> int:
-        """A refusal has its line, from 1; cause 0 if an instrument isn't the job's own."""
-        run = self.run(handle)
-        one, plan = run.jobs[job], run.plan
-        if one.is_retired():
-            return 14
-        its_own = {instrument for planned in plan.sessions[job] for instrument, _, _ in planned.commands}
-        at(told).line = at(told).cause = 0
-        try:
-            more = simulate.read_script(b"lab %d\njob x\n%b" % (plan.version, session))
-            numbers = [plan.instrument_names.index(name) for name in more.instrument_names]
-            if not its_own.issuperset(numbers):
-                raise ValueError
-        except simulate.Fault as fault:
-            line, at(told).cause = map(int, re.findall(r"\d+", str(fault))[:2])
-            at(told).line = line - 2
-            return 1
-        except ValueError:
-            return 1
-        commands = sum(len(planned.commands) for sessions in [*plan.sessions, *more.sessions] for planned in sessions)
-        if len(plan.sessions[job]) + len(more.sessions[0]) > 1000 or commands > 100000:
-            at(told).line, at(told).cause = 1, 10
-            return 1
-        for planned in more.sessions[0]:
-            commands = [(numbers[instrument], verb, number) for instrument, verb, number in planned.commands]
-            plan.sessions[job].append(simulate.Session(planned.patience, commands))
-            run.needs[job].append(plan.needs(job, len(plan.sessions[job])))
-            one.total += 1
-        return 0
 
     def lab_command(self, handle: Any, job: int, entry: Any) -> int:
         run, it = self.run(handle), at(entry)

@@ -146,12 +146,21 @@ class Alone(unittest.TestCase):
             with labrun.Bench.from_text(script) as bench:
                 what = SessionOf()
                 for job in bench.jobs:
-                    self.assertEqual(len(job._plan), job.state.sessions)
-                    for number, (instruments, commands, patience) in enumerate(job._plan, 1):
-                        bench._call("lab_session_of", job.index, number, ctypes.byref(what))
+                    self.assertEqual(len(job._seat.plan), job.state.sessions)
+                    for number, (instruments, commands, patience) in enumerate(job._seat.plan, 1):
+                        bench._core.call("lab_session_of", job.index, number, ctypes.byref(what))
                         names = tuple(name for at, name in enumerate(bench.instruments) if what.needs >> at & 1)
                         self.assertEqual((instruments, len(commands)), (names, what.commands))
                         self.assertEqual(patience, what.patience if what.has_patience else None)
+
+    def test_text_for_a_bench(self) -> None:
+        """It says what each job may use, for sessions that come while a bench is open: here none do. Its journal isn't begun."""
+        with tempfile.TemporaryDirectory() as folder:
+            for journal in (None, os.path.join(folder, "bay.journal")):
+                with self.assertRaises(labrun.Refused) as caught:
+                    labrun.Bench.from_text("# bay\nbench 1\njob a\nuses scope\n", journal=journal)
+                self.assertEqual((caught.exception.line, caught.exception.cause), (2, 1))
+            self.assertEqual(os.listdir(folder), [])
 
     def test_some_commands_are_left(self) -> None:
         script = "lab 1\njob a\nsession\nscale set 3\nscale add 2\nend\n"
@@ -712,7 +721,7 @@ class Ends(unittest.TestCase):
         first, second = bench.jobs[0].next_session(), bench.jobs[1].next_session()
         assert first and second
         first.acquire()
-        bench._mutex.acquire()
+        bench._core.mutex.acquire()
         child = os.fork()
         if child == 0:
             refused = 0
@@ -736,7 +745,7 @@ class Ends(unittest.TestCase):
                     own.jobs[0].next_session().acquire()  # type: ignore[union-attr]
             finally:
                 os._exit(refused)
-        bench._mutex.release()
+        bench._core.mutex.release()
         self.assertEqual(os.waitstatus_to_exitcode(os.waitpid(child, 0)[1]), 11)
         first.release()
         second.acquire(timeout=LIMIT)
@@ -826,7 +835,7 @@ try:
                         states[job.name] = session
                         if job.name == "a" and session.number == 1:
                             print("ready", flush=True)
-                            while not bench._stands:
+                            while not bench._core.stands:
                                 time.sleep(0.01)
             bench.run(station)
 except KeyboardInterrupt:

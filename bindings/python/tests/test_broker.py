@@ -82,9 +82,8 @@ def block_after(page: str, line: str) -> str:
 
 class Pages(unittest.TestCase):
     def test_readme(self) -> None:
-        done = ran(["-c", block_after("README.md", "## A broker in Python")])
-        self.assertEqual(done.stderr, "")
-        self.assertEqual(sorted(done.stdout.splitlines()), ["True 2", "a holds scale", "b holds scale"])
+        done = ran(["-c", block_after("README.md", "## In your program")])
+        self.assertEqual((done.stdout, done.stderr), ("holds scope supply\n", ""))
 
     def test_guide(self) -> None:
         program, told = block_after("docs/GUIDE.md", "Write `broker.py`:").split("$ python3 broker.py\n")

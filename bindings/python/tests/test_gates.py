@@ -8,7 +8,7 @@ from typing import Callable, Optional
 from unittest import mock
 
 import labrun
-from labrun import _bench, _journal
+from labrun import _bench, _core, _journal, _seat
 from tests.gates import Gates, Stuck
 from tests.load import Counting, load_script
 from tests.test_bench import LIMIT, PATIENT, TWO
@@ -71,13 +71,13 @@ class WakeUps(Gated):
 
     def test_sees_one_that_is_lost(self) -> None:
         """With one wake-up left out the test doesn't pass."""
-        rouse = _bench.Bench._rouse
+        rouse = _core.Core.rouse
 
-        def forgets(bench: labrun.Bench, job: labrun.Job) -> None:
-            if job.name != "b":
-                rouse(bench, job)
+        def forgets(core: _core.Core, seat: _seat.Seat) -> None:
+            if seat.name != "b":
+                rouse(core, seat)
 
-        with mock.patch.object(_bench.Bench, "_rouse", forgets), self.assertRaises(Stuck):
+        with mock.patch.object(_core.Core, "rouse", forgets), self.assertRaises(Stuck):
             for at in range(200):
                 self.gated(Gates(once(at)), ALL_ONE)
 
@@ -244,7 +244,7 @@ class Interrupts(Gated):
 
         gates = Gates(pick, at)
         bench = self.gated(gates, script, station)
-        self.assertFalse(bench._torn)
+        self.assertFalse(bench._core.torn)
         report = bench.close()
         self.assertEqual([job.done for job in report.jobs[1:]], [2] * (len(report.jobs) - 1), at)
         return gates
@@ -288,8 +288,9 @@ class Interrupts(Gated):
             while came:
                 with self.subTest(state, at=at):
                     came, bench, session = self.given_up(script, at)
+                    core = bench._core
                     self.assertEqual((session.state, bench.jobs[1].state.holds, bench.jobs[1].state.withdrawn), (state, False, int(state == "withdrawn")))
-                    self.assertEqual((bench._torn, bench._waiting, bench._left, bench._withdrawing, bench.lapsed), (False, 0, 0, None, ()))
+                    self.assertEqual((core.torn, core.waiting, core.left, core.withdrawing, bench.lapsed), (False, 0, 0, None, ()))
                     self.assertEqual([it.job for it in bench.close().log("scale")], ["a"])
                 at += 1
             self.assertGreater(at, 20)

@@ -49,8 +49,8 @@ class Journals(unittest.TestCase):
 
     def dropped(self, bench: labrun.Bench) -> None:
         """As if its process had died: the file stays as it is, and another may open it."""
-        assert bench._journal is not None
-        bench._journal.close()
+        assert bench._core.journal is not None
+        bench._core.journal.close()
 
     def text(self) -> bytes:
         with open(self.path, "rb") as file:
@@ -73,8 +73,8 @@ class Journals(unittest.TestCase):
         return bench.close()
 
     def states(self, bench: labrun.Bench) -> list[Any]:
-        with bench._mutex:
-            return [(it.dining, it.drinking, it.session, it.position, it.sessions_done, it.meals) for it in map(bench._state_of, range(len(bench.jobs)))]
+        with bench._core.mutex:
+            return [(it.dining, it.drinking, it.session, it.position, it.sessions_done, it.meals) for it in map(bench._core.state_of, bench._core.seats)]
 
 
 class Files(Journals):

@@ -10,7 +10,8 @@ import unittest
 import labrun
 from labrun.__main__ import main
 
-# what the bay is after one session of the board and one of the guest
+# a journal of a bench to which one session of the board came, and one of the guest; and what its script became by that
+JOURNAL = pathlib.Path(__file__).with_name("came.journal").read_bytes()
 BECAME = """lab 2
 job board
 session patience 0
@@ -36,12 +37,7 @@ class Texts(unittest.TestCase):
         room = tempfile.TemporaryDirectory()
         self.addCleanup(room.cleanup)
         self.path = os.path.join(room.name, "bay.journal")
-        with labrun.Bench.new({"board": ["scope", "supply"], "guest": ["scope"]}, journal=self.path, sync="none") as bench:
-            with bench.job("board").hold("scope", "supply"):
-                pass
-            with bench.job("guest").hold("scope", commands=[("scope", "set", 5)]):
-                pass
-        self.report = bench.report
+        pathlib.Path(self.path).write_bytes(JOURNAL)
 
     def test_script(self) -> None:
         self.assertEqual(labrun.journal_script(self.path), BECAME)
@@ -52,8 +48,8 @@ class Texts(unittest.TestCase):
         steps = labrun.journal_steps(self.path)
         self.assertTrue(steps.startswith(BECAME + "steps\n"))
         replayed = labrun.replay(steps)
-        self.assertEqual([(it.job, it.verb, it.value) for it in replayed.log("scope")], [("board", "read", 0), ("guest", "set", 5)])
-        self.assertEqual(replayed.log("scope"), self.report.log("scope"))
+        self.assertEqual([str(it) for it in replayed.log("scope")], ["board 2 1/1 read = 0", "guest 2 1/1 set 5 = 5"])
+        self.assertEqual([str(it) for it in replayed.log("supply")], ["board 2 1/1 read = 0"])
         self.assertEqual(pathlib.Path(self.path).read_bytes(), before)
 
     def test_every_beginning(self) -> None:

@@ -6,7 +6,7 @@ from unittest import mock
 
 import labrun
 from labrun import _library
-from tests import test_bench, test_holding, test_journal, test_thirst
+from tests import test_bench, test_journal, test_thirst
 from tests.load import Counting, load_script
 from tests.simulated import Simulated
 
@@ -41,8 +41,8 @@ class Loads(OnDefinitions):
         made: list[str] = []
         with labrun.Bench.from_text(load_script(3, 4, 3, 1)) as bench:
             for name in ("lab_settle", "lab_end"):
-                call = getattr(bench, f"_{name}")
-                setattr(bench, f"_{name}", lambda *given, name=name, call=call: made.append(name) or call(*given))
+                call = getattr(bench._core, name)
+                setattr(bench._core, name, lambda *given, name=name, call=call: made.append(name) or call(*given))
             with mock.patch.object(Simulated, "__getitem__", lambda library, name: made.append(name)):
                 for job in bench.jobs:
                     for _ in range(4):
@@ -77,28 +77,6 @@ class Limits(OnDefinitions, test_thirst.Limits):
 
 class GivenUp(OnDefinitions, test_thirst.GivenUp):
     """Sessions that are given up."""
-
-
-class Coming(OnDefinitions, test_holding.Coming):
-    """Sessions that come."""
-
-
-class AnyOf(OnDefinitions, test_holding.AnyOf):
-    """One of several."""
-
-
-class New(OnDefinitions, test_holding.New):
-    """A bench without a script."""
-
-
-class Pages(OnDefinitions, test_holding.Pages):
-    """Pages that are turned."""
-
-
-class Holding(OnDefinitions, test_holding.Loads):
-    """Threads that add and hold at random."""
-
-    test_threads = test_guide = None  # type: ignore[assignment]  # (these are for the built library)
 
 
 class Files(OnDefinitions, test_journal.Files):

@@ -17,7 +17,8 @@ from tests.test_thirst import asked, in_vain
 
 # 7 not open, 12 the journal is full, 13 another call is under way; and "not now", where that can't be
 ANYWHERE, NOT_NOW = (7, 12, 13), 8
-BAY = {"a": ["x"], "b": ["x"]}
+# nobody has a session
+IDLE = "lab 1\njob a\njob b\n"
 
 
 class Wrong(Simulated):
@@ -77,18 +78,19 @@ class Statuses(unittest.TestCase):
         return second
 
     def test_open(self) -> None:
-        for name in ("lab_bench_open", "lab_overtakes", "lab_bench_size", "lab_job_name", "lab_instrument_name"):
+        of_all = ("lab_check", "lab_bench_open", "lab_overtakes", "lab_bench_size", "lab_job_name", "lab_instrument_name")
+        for name in (*of_all, "lab_state", "lab_session_of", "lab_planned"):
             self.each(name, lambda: lambda: labrun.Bench.from_text(TWO), NOT_NOW)
-        for name in ("lab_state", "lab_turn", "lab_withdraw"):
-            self.each(name, lambda: lambda: labrun.Bench.new(BAY), NOT_NOW)
-        for name in ("lab_bench_open_kept", "lab_journal"):
-            self.each(name, lambda: lambda: labrun.Bench.new(BAY, journal=self.journal()), NOT_NOW)
+        self.each("lab_bench_open_kept", lambda: lambda: labrun.Bench.from_text(TWO, journal=self.journal()), NOT_NOW)
+        path = self.journal()
+        labrun.Bench.from_text(TWO, journal=path).close()
+        for name in ("lab_bench_resume", "lab_journal", "lab_outside", "lab_state"):
+            self.each(name, lambda: lambda: labrun.Bench.from_text(TWO, journal=path), NOT_NOW)
 
     def test_asks(self) -> None:
         self.each("lab_settle", lambda: asked(labrun.Bench.from_text(TWO), "a").acquire, NOT_NOW)
-        self.each("lab_add", lambda: labrun.Bench.new(BAY).jobs["a"].hold("x").acquire, NOT_NOW)
-        for name in ("lab_settle", "lab_add", "lab_more"):
-            self.each(name, lambda: labrun.Bench.new(BAY, journal=self.journal()).jobs["a"].hold("x").acquire, NOT_NOW)
+        for name in ("lab_settle", "lab_journal"):
+            self.each(name, lambda: asked(labrun.Bench.from_text(TWO, journal=self.journal()), "a").acquire, NOT_NOW)
 
     def test_tells(self) -> None:
         for name in ("lab_state", "lab_outside"):
@@ -149,19 +151,12 @@ class Statuses(unittest.TestCase):
 
     def test_ends(self) -> None:
         for name in ("lab_retire", "lab_bench_close"):
-            self.each(name, lambda: labrun.Bench.new(BAY).close)
-        bench = labrun.Bench.new(BAY)
+            self.each(name, lambda: labrun.Bench.from_text(IDLE).close)
+        self.each("lab_retire", lambda: labrun.Bench.from_text(IDLE).jobs["a"].next_session)
+        bench = labrun.Bench.from_text(IDLE)
         # (7: it is empty already)
         with self.refused("lab_bench_free", 13):
             bench.close()
-
-        def turns() -> Callable[[], object]:
-            bench = labrun.Bench.new(BAY)
-            bench.jobs["a"].retire()
-            return bench.turn_page
-
-        for name in ("lab_retire", "lab_turn", "lab_withdraw", "lab_bench_close", "lab_overtakes"):
-            self.each(name, turns)
 
 
 if __name__ == "__main__":

@@ -450,7 +450,7 @@ class Limits(unittest.TestCase):
         thread = waiting(second, [])
         first.release()
         back(thread)
-        self.assertEqual((bench.taken, bench._limited), ((), 0))
+        self.assertEqual((bench.taken, bench._core.limited), ((), 0))
 
     def test_limit_of_one_that_came_back(self) -> None:
         """Held when its process died, and offered first: the limit counts from then."""
@@ -624,13 +624,14 @@ class GivenUp(unittest.TestCase):
 
     def test_no_meals(self) -> None:
         """Who asks in vain and gives up makes no neighbour give way for it."""
-        with labrun.Bench.new({"a": ["x"], "b": ["x"]}) as bench:
-            with bench.jobs["a"].hold("x"):
-                for _ in range(20):
+        with labrun.Bench.from_text("lab 2\njob a\nsession\nx read\nend\njob b\n" + "session patience 999999\nx read\nend\n" * 20) as bench:
+            with asked(bench, "a"):
+                for session in bench.jobs["b"].sessions(timeout=0):
                     with self.assertRaises(labrun.TimeoutError):
-                        with bench.jobs["b"].hold("x", timeout=0):
+                        with session:
                             pass
-            self.assertEqual((bench.jobs["b"].state.meals, bench.jobs["b"].state.withdrawn), (0, 21))
+                    session.give_up()
+            self.assertEqual((bench.jobs["b"].state.meals, bench.jobs["b"].state.withdrawn), (0, 20))
         self.assertEqual((bench.report.job("b").meals, bench.report.job("b").done, bench.report.finished), (0, 0, True))
 
     def test_its_turn_came_before(self) -> None:
@@ -677,7 +678,7 @@ class GivenUp(unittest.TestCase):
                     raise KeyboardInterrupt
                 return False
 
-        with mock.patch.object(second.job, "_sleep", Interrupted()), self.assertRaises(KeyboardInterrupt):
+        with mock.patch.object(second._seat, "sleep", Interrupted()), self.assertRaises(KeyboardInterrupt):
             with second:
                 self.fail("it is entered")
         self.let_go(bench, second)
@@ -685,7 +686,8 @@ class GivenUp(unittest.TestCase):
     def let_go(self, bench: labrun.Bench, session: labrun.Session) -> None:
         job, number = session.job, session.number
         self.assertEqual((session.state, job.state.holds, job.state.waits, bench.lapsed), ("lapsed", False, False, ((job.name, number),)))
-        self.assertEqual((bench._left, bench._waiting, bench._limited, bench._torn), (0, 0, 0, False))
+        core = bench._core
+        self.assertEqual((core.left, core.waiting, core.limited, core.torn), (0, 0, 0, False))
 
     def test_interrupted_just_as_it_holds(self) -> None:
         for script in self.SCRIPTS.values():
@@ -697,31 +699,24 @@ class GivenUp(unittest.TestCase):
                     with asked(bench, "c"):
                         pass
                 self.assertTrue(bench.report.finished)
-        for overtakes in (0, 9):
-            with self.subTest(overtakes=overtakes), labrun.Bench.new({"a": ["x"], "b": ["x"]}, overtakes=overtakes) as bench:
-                first = bench.jobs["a"].hold("x")
-                first.acquire()
-                self.just_as_it_holds(bench, first, bench.jobs["b"].hold("x", limit=9))
-                with bench.jobs["b"].hold("x"):
-                    pass
-            self.assertEqual((bench.report.finished, bench.report.job("b").done), (True, 2))
 
     def test_interrupted_once_it_holds(self) -> None:
         """It is told that it holds, and the exception comes before the call is back. One that held before goes on to hold."""
         for kind in (KeyboardInterrupt, SystemExit):
-            with labrun.Bench.new({"a": ["x"], "b": ["x"]}) as bench:
-                asked_ = bench._ask
+            with labrun.Bench.from_text("lab 1\njob a\n" + "session\nx read\nend\n" * 2) as bench:
+                asked_ = bench._core.ask
 
                 def interrupted(*given: Any) -> bool:
                     self.assertTrue(asked_(*given))
                     raise kind
 
-                first, second = bench.jobs["a"].hold("x"), bench.jobs["a"].hold("x")
-                with mock.patch.object(bench, "_ask", interrupted), self.assertRaises(kind):
+                first = asked(bench, "a")
+                with mock.patch.object(bench._core, "ask", interrupted), self.assertRaises(kind):
                     first.acquire()
                 self.let_go(bench, first)
+                second = asked(bench, "a")
                 second.acquire()
-                with mock.patch.object(bench, "_ask", interrupted), self.assertRaises(kind):
+                with mock.patch.object(bench._core, "ask", interrupted), self.assertRaises(kind):
                     second.acquire()
                 self.assertTrue(second.held)
                 second.release()
@@ -752,19 +747,14 @@ class GivenUp(unittest.TestCase):
                     with asked(bench, "c"):
                         pass
                 self.assertTrue(bench.report.finished)
-            with self.subTest(overtakes=overtakes), labrun.Bench.new({"a": ["x"], "b": ["x"]}, overtakes=overtakes) as bench:
-                asyncio.run(cancelled(bench, bench.jobs["a"].hold("x"), bench.jobs["b"].hold("x", limit=9)))
-                with bench.jobs["b"].hold("x"):
-                    pass
-            self.assertTrue(bench.report.finished)
 
     def test_another_comes_just_as_it_holds(self) -> None:
         """Its thread is told that it holds, and isn't awake yet. Who gives it up comes too late; if it is taken away, its thread is told that."""
 
         async def main(ends: Callable[[labrun.Session], object], is_taken: bool) -> None:
-            for bench in (labrun.Bench.from_text(self.SCRIPTS["withdrawn"]), labrun.Bench.new({"a": ["scale"], "b": ["scale"]})):
-                with bench:
-                    first, second = (bench.jobs[name].hold("scale") if bench._is_endless else asked(bench, name) for name in "ab")
+            for script in self.SCRIPTS.values():
+                with labrun.Bench.from_text(script) as bench:
+                    first, second = (asked(bench, name) for name in "ab")
                     first.acquire()
                     task = asyncio.create_task(second.acquire_async())
                     while second.state != "waiting":
@@ -781,7 +771,7 @@ class GivenUp(unittest.TestCase):
                         second.release()
 
         def withdraws(session: labrun.Session) -> None:
-            with self.assertRaisesRegex(labrun.NotHeld, "session [12] of b is held: it can't be withdrawn"):
+            with self.assertRaisesRegex(labrun.NotHeld, "session 1 of b is held: it can't be withdrawn"):
                 session.withdraw()
 
         asyncio.run(main(labrun.Session.give_up, False))
@@ -792,8 +782,8 @@ class GivenUp(unittest.TestCase):
         """Its thread was told that it holds, and isn't awake yet: it doesn't go to work."""
 
         async def main() -> None:
-            with labrun.Bench.new({"a": ["x"], "b": ["x"]}) as bench:
-                first, second = bench.jobs["a"].hold("x"), bench.jobs["b"].hold("x")
+            with labrun.Bench.from_text(TWO) as bench:
+                first, second = (asked(bench, name) for name in "ab")
                 first.acquire()
                 task = asyncio.create_task(second.acquire_async())
                 while second.state != "waiting":
@@ -803,11 +793,11 @@ class GivenUp(unittest.TestCase):
                 def interrupted(*given: Any) -> None:
                     raise KeyboardInterrupt
 
-                with mock.patch.object(bench, "_comes_to", interrupted), self.assertRaises(KeyboardInterrupt):
+                with mock.patch.object(bench._core, "comes_to", interrupted), self.assertRaises(KeyboardInterrupt):
                     bench.take_away("b")
                 with self.assertRaises(labrun.TakenAway):
                     await task
-                self.assertEqual((second.state, bench.taken, bench.jobs["b"].state.holds), ("taken", (("b", 2),), False))
+                self.assertEqual((second.state, bench.taken, bench.jobs["b"].state.holds), ("taken", (("b", 1),), False))
 
         asyncio.run(main())
 

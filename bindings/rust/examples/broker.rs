@@ -1,9 +1,9 @@
 //! The broker of examples/broker in Rust: stations share instruments that refuse a second client while one talks to them.
 //!
 //! usage: cargo run --release --example broker -- FOLDER        FOLDER is examples/broker; python3 runs its instruments
-//!        ... broker -- FOLDER --threads N --sessions M         M short sessions, or a few more, by N stations (1 to 32)
-//!        ... --overtakes N                                     by how many sessions a station may be passed before it stands in line; 64
-use labrun::{Bench, Desk, Options, Report, Session};
+//!        ... broker -- FOLDER --threads N --sessions M         M short sessions by N guests
+//!        ... --overtakes N                                     by how many that came later a session may be passed; 64
+use labrun::{Lab, LabOptions};
 use std::collections::HashMap;
 use std::error::Error;
 use std::io::{BufRead, BufReader, Write};
@@ -20,8 +20,8 @@ struct Bay {
 }
 
 impl Bay {
-    fn start(folder: &str, names: &[String]) -> Result<Bay, Box<dyn Error>> {
-        let words = [format!("{folder}/instruments.py")].into_iter().chain(names.iter().cloned());
+    fn start(folder: &str, names: &[&str]) -> Result<Bay, Box<dyn Error>> {
+        let words = [format!("{folder}/instruments.py")].into_iter().chain(names.iter().map(|it| it.to_string()));
         let mut process = Command::new("python3").args(words).stdin(Stdio::piped()).stdout(Stdio::piped()).spawn()?;
         let mut ports = HashMap::new();
         let mut out = BufReader::with_capacity(1, process.stdout.take().unwrap());
@@ -66,11 +66,11 @@ impl Talk {
 }
 
 /// The real work of a session: talks to all its instruments, for some time. No if one refused.
-fn work<'n>(bay: &Bay, names: impl Iterator<Item = &'n str>, time: Duration) -> std::io::Result<bool> {
+fn work(bay: &Bay, names: &[&str], time: Duration) -> std::io::Result<bool> {
     let mut talks = Vec::new();
     for name in names {
-        let Some(mut talk) = Talk::begin(bay.ports[name])? else { return Ok(false) };
-        assert_eq!(talk.ask("*IDN?")?, name);
+        let Some(mut talk) = Talk::begin(bay.ports[*name])? else { return Ok(false) };
+        assert_eq!(talk.ask("*IDN?")?, *name);
         talks.push(talk);
     }
     thread::sleep(time);
@@ -78,83 +78,73 @@ fn work<'n>(bay: &Bay, names: impl Iterator<Item = &'n str>, time: Duration) -> 
     Ok(true)
 }
 
-/// Calls `station` with each session that its thread holds, and counts those of which it says no.
-fn run(opened: (Bench, Vec<Desk>), station: impl Fn(&Session) -> bool + Sync) -> Result<(Report, u32), labrun::Error> {
-    let (bench, desks) = opened;
+/// Four stations, and which instruments each of their sessions needs, in an order of its own.
+const STATIONS: [(&str, [&[&str]; 3]); 4] = [
+    ("board", [&["scope", "supply-1", "meter"], &["supply-1", "meter"], &["scope", "supply-1", "meter"]]),
+    ("radio", [&["generator", "analyser", "scope"], &["meter", "generator"], &["analyser", "scope", "generator"]]),
+    ("drive", [&["meter", "supply-2", "scope"], &["supply-2", "supply-1"], &["scope", "meter", "supply-2"]]),
+    ("burn-in", [&["supply-2", "meter", "supply-1"], &["analyser", "supply-2"], &["meter", "supply-1", "supply-2"]]),
+];
+const INSTRUMENTS: [&str; 6] = ["scope", "supply-1", "supply-2", "meter", "generator", "analyser"];
+
+/// Each session of each station once, with time for its work; how many were refused.
+fn each_once(lab: &Lab, bay: &Bay) -> u32 {
     let refused = AtomicU32::new(0);
     thread::scope(|threads| {
-        for mut desk in desks {
-            let (station, refused) = (&station, &refused);
+        for (name, sessions) in STATIONS {
+            let (station, refused) = (lab.station(name).unwrap(), &refused);
             threads.spawn(move || {
-                while let Some(session) = desk.begin().unwrap() {
-                    refused.fetch_add(u32::from(!station(&session)), SeqCst);
+                for (number, needs) in (1..).zip(sessions) {
+                    let mut held = station.hold(needs).begin().unwrap();
+                    println!("{name} session {number} holds {}", held.instruments().join(", "));
+                    let time = Duration::from_millis(10 + number * 60);
+                    refused.fetch_add(u32::from(!work(bay, &held.instruments(), time).unwrap()), SeqCst);
+                    held.finish().unwrap();
                 }
             });
         }
     });
-    Ok((bench.close()?, refused.into_inner()))
+    refused.into_inner()
 }
 
-/// Stations with this many sessions, each of one to three of the instruments.
-fn load_script(names: &[String], stations: u32, sessions: u32, seed: u64) -> String {
-    let mut state = seed * 2 + 1;
-    let mut below = |limit: usize| {
-        state = state.wrapping_mul(6364136223846793005).wrapping_add(1442695040888963407);
-        (state >> 33) as usize % limit
-    };
-    let mut text = String::from("lab 1\n");
-    for station in 1..=stations {
-        text += &format!("job station-{station}\n");
-        for _ in 0..sessions {
-            let (first, step) = (below(names.len()), 1 + below(2));
-            text += "session\n";
-            for at in 0..=below(3) {
-                text += &format!("{} add 1\n", names[(first + at * step) % names.len()]);
-            }
-            text += "end\n";
+/// Guests do this many short sessions, each of one to three instruments; how many were refused.
+fn load(lab: &Lab, bay: &Bay, guests: u64, wanted: u32) -> u32 {
+    let (begun, done, refused) = (Instant::now(), AtomicU32::new(0), AtomicU32::new(0));
+    thread::scope(|threads| {
+        for mut state in 0..guests {
+            let (done, refused) = (&done, &refused);
+            let mut below = move |limit: usize| {
+                state = state.wrapping_mul(6364136223846793005).wrapping_add(1442695040888963407);
+                (state >> 33) as usize % limit
+            };
+            threads.spawn(move || {
+                while done.fetch_add(1, SeqCst) < wanted {
+                    let needs: Vec<&str> = (0..=below(3)).map(|_| INSTRUMENTS[below(6)]).collect();
+                    let held = lab.hold(&needs).begin().unwrap();
+                    refused.fetch_add(u32::from(!work(bay, &held.instruments(), Duration::ZERO).unwrap()), SeqCst);
+                }
+            });
         }
-    }
-    text
-}
-
-/// Bench after bench, each of as many sessions as a script may have, until this many are done.
-fn load(options: &Options, bay: &Bay, names: &[String], stations: u32, wanted: u32) -> Result<(bool, u32), labrun::Error> {
-    let (begun, mut done, mut finished, mut refused) = (Instant::now(), 0, true, 0);
-    for seed in 0.. {
-        if done >= wanted {
-            break;
-        }
-        let each = ((wanted - done - 1) / stations + 1).min(1000);
-        let script = load_script(names, stations, each, seed);
-        let (report, no) = run(options.from_text(script.as_bytes())?, |session| work(bay, session.instruments(), Duration::ZERO).unwrap())?;
-        (done, finished, refused) = (done + stations * each, finished && report.finished, refused + no);
-    }
-    println!("{done} sessions by {stations} threads in {:.1} s", begun.elapsed().as_secs_f64());
-    Ok((finished, refused))
-}
-
-/// Each session of the script once, with time for its work.
-fn each_once(bay: &Bay, opened: (Bench, Vec<Desk>)) -> Result<(bool, u32), labrun::Error> {
-    let (report, refused) = run(opened, |session| {
-        println!("{} session {} holds {}", session.job(), session.number(), session.instruments().collect::<Vec<_>>().join(", "));
-        work(bay, session.instruments(), Duration::from_millis(10 + u64::from(session.number()) * 60)).unwrap()
-    })?;
-    Ok((report.finished, refused))
+    });
+    println!("{wanted} sessions by {guests} threads in {:.1} s", begun.elapsed().as_secs_f64());
+    refused.into_inner()
 }
 
 fn main() -> Result<ExitCode, Box<dyn Error>> {
     let words: Vec<String> = std::env::args().skip(1).collect();
     let number_after = |word: &str| words.iter().position(|it| it == word).and_then(|at| words.get(at + 1)?.parse().ok());
     let folder = words.first().ok_or("usage: broker FOLDER [--threads N --sessions M]")?;
-    let options = Options::new().overtakes(number_after("--overtakes").unwrap_or(Options::OVERTAKES));
-    let opened = options.open(format!("{folder}/bay.lab"))?;
-    let names = opened.0.instruments().to_vec();
-    let bay = Bay::start(folder, &names)?;
-    let (finished, refused) = match (number_after("--threads"), number_after("--sessions")) {
-        (Some(stations @ 1..=32), Some(sessions)) => load(&options, &bay, &names, stations, sessions)?,
-        _ => each_once(&bay, opened)?,
+    let mut options = LabOptions::new(INSTRUMENTS).overtakes(number_after("--overtakes").unwrap_or(LabOptions::OVERTAKES));
+    for (name, sessions) in STATIONS {
+        options = options.station(name, sessions.concat());
+    }
+    let (lab, bay) = (options.open()?, Bay::start(folder, &INSTRUMENTS)?);
+    let refused = match (number_after("--threads"), number_after("--sessions")) {
+        (Some(guests), Some(sessions)) => load(&lab, &bay, guests.into(), sessions),
+        _ => each_once(&lab, &bay),
     };
+    lab.close()?;
     print!("{}", bay.stop()?);
-    println!("finished {finished}, {refused} sessions refused");
-    Ok(ExitCode::from(u8::from(!finished || refused != 0)))
+    println!("{refused} sessions refused");
+    Ok(ExitCode::from(u8::from(refused != 0)))
 }

@@ -1,38 +1,57 @@
-//! Tests within the crate: each call may answer something else, and a patience that others' turns use up is short.
+//! Tests within the crate: each call may answer something else.
 #[path = "../tests/alone/mod.rs"]
 mod alone;
 
-use crate::holding::FOREVER;
-use crate::{check, replay, run, upgrade, Bench, Desk, Error, Job, Options, SyncTo};
+use crate::script::{check, replay, run, upgrade, Bench, Desk};
+use crate::{Error, SyncTo};
+mod of_a_lab;
+
 use alone::{alone, limit};
 use std::cell::Cell;
 use std::path::{Path, PathBuf};
-use std::thread;
-use std::time::{Duration, Instant};
+use std::sync::atomic::{AtomicU32, Ordering::SeqCst};
+use std::time::Duration;
 
-const LONG: Duration = Duration::from_secs(300);
 /// Longer than anybody waits in what follows, unless something strange keeps others from letting go.
 const ENOUGH: Duration = Duration::from_secs(1);
 const SHORT: Duration = Duration::from_millis(1);
 
-thread_local! {
-    /// How many calls this thread made, and the one that answers something strange.
-    static CALLS: Cell<(u32, u32)> = const { Cell::new((0, 0)) };
-}
+/// How many calls were made, the one that answers something strange, and what it answers.
+static MADE: AtomicU32 = AtomicU32::new(0);
+static STRANGE: AtomicU32 = AtomicU32::new(0);
+static ANSWER: AtomicU32 = AtomicU32::new(99);
 
-/// What no call answers.
-const STRANGE: u32 = 99;
+thread_local! {
+    /// So many calls of this thread are made, and then it panics.
+    static PANICS: Cell<u32> = const { Cell::new(u32::MAX) };
+}
 
 pub(crate) fn instead(call: &str) -> Option<u32> {
     // (who drops a bench couldn't be told)
-    if call == "lab_bench_free" {
+    if call.ends_with("_free") {
         return None;
     }
-    CALLS.with(|it| {
-        let (made, strange) = it.get();
-        it.set((made + 1, strange));
-        (made + 1 == strange).then_some(STRANGE)
-    })
+    let left = PANICS.with(Cell::get);
+    if left != u32::MAX {
+        PANICS.with(|it| it.set(left.wrapping_sub(1)));
+        assert!(left != 0, "a call that panics");
+    }
+    (MADE.fetch_add(1, SeqCst) + 1 == STRANGE.load(SeqCst)).then(|| ANSWER.load(SeqCst))
+}
+
+/// From now on this call answers that, counted from 1; 0: none does.
+fn answers(strange: u32, answer: u32) {
+    MADE.store(0, SeqCst);
+    ANSWER.store(answer, SeqCst);
+    STRANGE.store(strange, SeqCst);
+}
+
+/// The calls until then aren't counted, and none of them answers something strange.
+fn uncounted<T>(does: impl FnOnce() -> T) -> T {
+    let strange = STRANGE.swap(0, SeqCst);
+    let done = does();
+    answers(strange, ANSWER.load(SeqCst));
+    done
 }
 
 fn file(name: &str) -> PathBuf {
@@ -66,34 +85,31 @@ fn runs() -> Result<(), Error> {
     upgrade(SCRIPT).map(drop)
 }
 
-/// Sessions of a script, in line and outside: held, late, given up, taken away.
-fn of_a_script(overtakes: u32) -> Result<(), Error> {
-    let (bench, mut a, mut b) = two(Options::new().overtakes(overtakes).from_text(SCRIPT)?);
+/// Sessions of a script: held, late, given up, taken away.
+fn of_a_script(opened: Result<(Bench, Vec<Desk>), Error>) -> Result<(), Error> {
+    let (bench, mut a, mut b) = two(opened?);
     let mut held = a.begin_within(ENOUGH)?.unwrap();
     held.command()?;
+    held.note("4.998 V")?;
     is_late(b.begin_within(SHORT))?;
     assert!(!bench.waits_for("b")?.is_empty());
-    b.set_patience(Some(SHORT));
-    match b.begin_within(ENOUGH) {
-        Err(Error::Withdrawn) => {}
-        came => return came.map(|_| panic!("it holds")),
-    }
-    b.set_patience(None);
-    is_late(b.begin_within(SHORT))?;
     b.give_up();
     is_late(b.begin_within(SHORT))?;
     held.finish()?;
     b.begin_within(ENOUGH)?.unwrap().finish()?;
     let held = a.begin_within(ENOUGH)?.unwrap();
     assert!(bench.take_away("a")? && b.begin_within(ENOUGH)?.is_none());
-    assert_eq!(held.finish(), Err(Error::TakenAway));
+    match held.finish() {
+        Err(Error::TakenAway) => {}
+        came => return came.map(|()| panic!("it held")),
+    }
     assert!(bench.close()?.finished);
     Ok(())
 }
 
-/// One in line that can't be withdrawn: it lapses.
+/// One that can't be withdrawn: it lapses.
 fn that_lapses() -> Result<(), Error> {
-    let (bench, mut a, mut b) = two(Options::new().overtakes(0).from_text(SCRIPT)?);
+    let (bench, mut a, mut b) = two(Bench::from_text(SCRIPT)?);
     let held = b.begin_within(ENOUGH)?.unwrap();
     is_late(a.begin_within(SHORT))?;
     a.give_up();
@@ -106,88 +122,36 @@ fn that_lapses() -> Result<(), Error> {
     Ok(())
 }
 
-/// Sessions that come, a page that is turned, and another.
-fn that_come(options: &Options) -> Result<(), Error> {
-    let bench = options.for_jobs([("a", vec!["x", "y"]), ("b", vec!["x"]), ("c", vec!["y"])])?;
-    let job = |name: &str| bench.job(name).unwrap();
-    let (a, b, c): (Job, Job, Job) = (job("a"), job("b"), job("c"));
-    let held = a.hold(&["x"]).begin()?;
-    is_late(b.hold(&["x"]).timeout(Duration::ZERO).begin())?;
-    match b.hold(&["x"]).patience(Duration::ZERO).begin() {
-        Err(Error::Withdrawn) => {}
-        came => return came.map(|_| panic!("it holds")),
-    }
-    held.finish()?;
-    let held = a.hold(&["x"]).limit(SHORT).begin()?;
-    c.hold(&["y"]).timeout(ENOUGH).begin()?.finish()?;
-    b.hold(&["x"]).timeout(ENOUGH).begin()?.finish()?;
-    assert_eq!(held.finish(), Err(Error::TakenAway));
-    let held = c.hold(&["y"]).begin()?;
-    a.any_of(&[&["y"], &["x"]]).timeout(ENOUGH).begin()?.finish()?;
-    let other = b.hold(&["x"]).begin()?;
-    is_late(a.any_of(&[&["y"], &["x"]]).timeout(SHORT).begin())?;
-    other.finish()?;
-    match bench.turn_page_within(Duration::ZERO) {
-        Err(Error::NotBack(_)) => {}
-        turned => return turned.map(|_| panic!("it is turned")),
-    }
-    held.finish()?;
-    a.add(&["y"])?;
-    a.begin()?.unwrap().finish()?;
-    c.retire()?;
-    bench.turn_page()?;
-    a.hold(&["x", "y"]).begin()?.finish()?;
-    bench.room()?;
-    bench.script()?;
-    assert!(bench.close()?.finished);
-    Ok(())
-}
-
-fn of_a_text() -> Result<(), Error> {
-    let (bench, _desks) = Bench::from_text(b"bench 1\njob a\nuses x\n")?;
-    bench.job("a")?.hold(&["x"]).begin()?.finish()?;
-    bench.close().map(drop)
-}
-
 /// With a journal: a write that fails, and another process.
 fn with_a_journal(file: &Path) -> Result<(), Error> {
-    for it in ["journal", "journal.1", "more", "more.1"] {
-        let _ = std::fs::remove_file(file.with_extension(it));
-    }
-    let opened = || Options::new().journal(file, SyncTo::Memory).for_jobs([("a", vec!["x", "y"]), ("b", vec!["x"])]);
-    let bench = opened()?;
-    let (a, b) = (bench.job("a")?, bench.job("b")?);
-    let mut held = a.hold(&["x"]).begin()?;
+    let _ = std::fs::remove_file(file);
+    let opened = || Bench::from_text_with_journal(SCRIPT, file, SyncTo::Memory);
+    let (bench, mut a, _b) = two(opened()?);
+    let mut held = a.begin_within(ENOUGH)?.unwrap();
     held.note("4.998 V")?;
     limit(std::fs::metadata(file).unwrap().len() as usize + 5);
-    let came = held.note("5.002 V");
+    let came = held.command();
     limit(1 << 40);
-    assert!(matches!(came, Err(Error::Journal { .. })));
+    if !matches!(came, Err(Error::Journal { .. })) {
+        return came.map(|it| panic!("{it:?}"));
+    }
     // (a bench that can't go back is closed, which whoever comes next is told)
     held.command()?;
-    is_late(b.hold(&["x"]).timeout(SHORT).begin())?;
-    b.add(&["x"])?;
     bench.close()?;
-    drop((bench_of(opened()?, &["a"])?, held));
-    that_come(&Options::new().journal(file.with_extension("more"), SyncTo::Memory))
-}
-
-/// What was held lets go, and what was added is done.
-fn bench_of(bench: Bench, held: &[&str]) -> Result<(), Error> {
-    for name in held {
-        bench.job(name)?.resumed()?.unwrap().finish()?;
-    }
-    bench.job("b")?.begin()?.unwrap().finish()?;
-    assert!(bench.close()?.finished);
-    Ok(())
+    drop(held);
+    let (bench, mut a, _b) = two(opened()?);
+    let held = a.begin_within(ENOUGH)?.unwrap();
+    assert!(held.resumed());
+    held.finish()?;
+    bench.close().map(drop)
 }
 
 /// Any one of the calls that these make answers what it never should: somebody is told.
 fn each_is_told(name: &str, calls: &dyn Fn() -> Result<(), Error>) {
     for strange in 1.. {
-        CALLS.with(|it| it.set((0, strange)));
+        answers(strange, 99);
         let told = calls();
-        let made = CALLS.with(Cell::get).0;
+        let made = MADE.load(SeqCst);
         if made < strange {
             assert_eq!(told, Ok(()));
             assert!(strange > 4, "{name}");
@@ -202,51 +166,14 @@ fn statuses() {
     alone("tests::statuses", || {
         let file = file("statuses.journal");
         each_is_told("runs", &runs);
-        each_is_told("in line", &|| of_a_script(0));
-        each_is_told("outside", &|| of_a_script(64));
+        each_is_told("of a script", &|| of_a_script(Bench::from_text(SCRIPT)));
         each_is_told("that lapses", &that_lapses);
-        each_is_told("that come", &|| that_come(&Options::new()));
-        each_is_told("of a text", &of_a_text);
         each_is_told("with a journal", &|| with_a_journal(&file));
-        for it in ["journal", "more", "more.1"] {
-            let _ = std::fs::remove_file(file.with_extension(it));
-        }
-    });
-}
-
-/// However many turns others have meanwhile: a session of `hold` waits for as long as its owner does, in line and outside.
-#[test]
-fn no_count_of_turns_ends_a_hold() {
-    for (overtakes, journal) in [(0, false), (64, false), (0, true)] {
-        let file = file("turns.journal");
-        let mut options = Options::new().overtakes(overtakes);
-        if journal {
-            options = options.journal(&file, SyncTo::Memory);
-        }
-        let bench = options.for_jobs([("a", ["x"]), ("b", ["x"]), ("c", ["y"])]).unwrap();
-        let job = |name: &str| bench.job(name).unwrap();
-        let held = job("a").hold(&["x"]).begin().unwrap();
-        thread::scope(|threads| {
-            let waits = threads.spawn(|| {
-                let session = job("b").hold(&["x"]).begin()?;
-                assert!(session.is_held());
-                Ok::<u32, Error>(session.number())
-            });
-            let begun = Instant::now();
-            while bench.waits_for("b").unwrap().is_empty() {
-                assert!(begun.elapsed() < LONG);
-                thread::sleep(SHORT);
-            }
-            for _ in 0..3 * FOREVER {
-                job("c").hold(&["y"]).begin().unwrap().finish().unwrap();
-            }
-            held.finish().unwrap();
-            let number = waits.join().unwrap();
-            assert!(matches!(number, Ok(it) if if overtakes == 0 { it > 2 } else { it == 2 }), "{number:?}");
-        });
-        job("b").hold(&["x"]).begin().unwrap().finish().unwrap();
-        let report = bench.close().unwrap();
-        assert_eq!((report.finished, report.log("x").len(), report.lapsed.len()), (true, 3, 0));
+        let kept = || {
+            let _ = std::fs::remove_file(&file);
+            Bench::from_text_with_journal(SCRIPT, &file, SyncTo::Memory)
+        };
+        each_is_told("of a script, with a journal", &|| of_a_script(kept()));
         let _ = std::fs::remove_file(&file);
-    }
+    });
 }

@@ -1,8 +1,9 @@
-//! The child of a fork opens a bench of its own, whatever another thread of its parent was in the midst of.
+//! The child of a fork opens a lab and a bench of its own, whatever another thread of its parent was in the midst of.
 mod alone;
 
 use alone::often_alone;
-use labrun::Bench;
+use labrun::script::Bench;
+use labrun::Lab;
 use std::sync::atomic::{AtomicU32, Ordering::SeqCst};
 use std::thread;
 
@@ -15,7 +16,7 @@ extern "C" {
     fn _exit(status: i32) -> !;
 }
 
-/// Each time in a new process, because only the first bench of a process asks to be told of forks.
+/// Each time in a new process, because only the first of a process asks to be told of forks.
 #[test]
 fn while_a_thread_opens_the_first() {
     often_alone(50, "while_a_thread_opens_the_first", both_open);
@@ -28,7 +29,7 @@ fn both_open() {
             std::hint::spin_loop();
         }
     };
-    let opens = || Bench::from_text(TWO).is_ok();
+    let opens = || Lab::new(["scale"]).is_ok_and(|it| it.hold(&["scale"]).begin().is_ok()) && Bench::from_text(TWO).is_ok();
     thread::scope(|threads| {
         let other = threads.spawn(|| {
             is_there.store(1, SeqCst);

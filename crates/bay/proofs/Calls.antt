@@ -1,5 +1,5 @@
 -- What the calls leave of others.
-use Rattle.std.proofs.Common.{◌≡◌, ◌≢◌, ℕ, zero, suc, true, false, not, nat_eq, List, length, Some, sym, ap, ◌∙◌, subst, inl, inr, arith}
+use Rattle.std.proofs.Common.{◌≡◌, ◌≢◌, ℕ, zero, suc, Bool, true, false, not, nat_eq, if◌then◌else◌, List, length, None, Some, sym, ap, ◌∙◌, subst, inl, inr, arith}
 use Rattle.std.specs.Int.{bit_at}
 use Rattle.std.specs.Int.Bits.{bit_and}
 use Rattle.std.proofs.lemmas.Bool.{false≢true, cases_eq, ne_eqb}
@@ -7,11 +7,10 @@ use Rattle.std.proofs.lemmas.Nat.Bits.{bit_at_and, bit_at-zero}
 use Rattle.bay_book.specs.declared.ask.Ask.{Ask}
 use Rattle.bay_book.specs.declared.ask.End.{End}
 use Rattle.bay_book.specs.declared.ask.End.TheVariants.{Lapsed, NotWritten, Limit, Grace}
-use Rattle.bay_book.specs.declared.ask.Heard.{Heard}
 use Rattle.bay_book.specs.declared.ask.Stage.{Stage}
-use Rattle.bay_book.specs.declared.ask.Stage.TheVariants.{Waits, Holds}
+use Rattle.bay_book.specs.declared.ask.Stage.TheVariants.{Waits}
 use Rattle.bay_book.specs.Asks.{ask_at, no_ask, is_holding}
-use Rattle.bay_book.specs.Moments.{common, is_past, until_at, after, if_holds}
+use Rattle.bay_book.specs.Moments.{common, is_past, until_at, later, after, if_holds}
 use Rattle.bay_book.specs.Books.{BookView}
 use Rattle.bay.specs.declared.classes.Class.{Class}
 use Rattle.bay.specs.declared.terms.Terms.{Terms}
@@ -22,40 +21,40 @@ use Rattle.bay.specs.Standings.{MarksGone}
 use Rattle.bay.specs.Stopping.{StopsOne, StopsTo}
 use Rattle.bay.specs.Views.{RoomView, core_of, GoesOn}
 use Rattle.bay.specs.Rooms.{IsKept}
-use Rattle.bay.specs.Laws.{HoldsOn, WaitsOn, IsCallOfOthers, IsCallInService, IsInTime, IsWellHeld}
+use Rattle.bay.specs.Laws.{HoldsOn, WaitsOn, IsCallOfOthers, IsCallInService, IsInTime, WrittenIsInTime, IsWellHeld}
 use Rattle.bay.proofs.Members.{append_first, place_of, one_number}
 use Rattle.bay.proofs.HoldsOn.{kept_set, steps_on, steps_waits_on, holds_not_waits}
 
 -- ---- in the book still, before all follows
 
-ended_other : (x : Core) (place : ℕ) (how : End) (a : Ask) → (ask_at x.book.asks place).number ≢ a.number → Has x.book.asks a
-    → Has (ended x place how).book.asks a
-ended_other x place how a ne h = kept_set x.book.asks place _ a h (λ is. ne (ap (λ (b : Ask). b.number) is))
+ended_other : (x : Core) (place : ℕ) (how : End) (now : ℕ) (a : Ask) → (ask_at x.book.asks place).number ≢ a.number → Has x.book.asks a
+    → Has (ended x place how now).book.asks a
+ended_other x place how now a ne h = kept_set x.book.asks place _ a h (λ is. ne (ap (λ (b : Ask). b.number) is))
 
 marked_other : (number moment : ℕ) (old new : BookView) (a : Ask) → number ≢ a.number → MarksGone number moment old new → Has old.asks a → Has new.asks a
 marked_other number moment old new a ne (inl m) h =
     subst (λ (b : BookView). Has b.asks a) (sym m.2) (kept_set old.asks m.0 _ a h (λ is. ne (sym m.1.found.1 ∙ ap (λ (b : Ask). b.number) is)))
 marked_other number moment old new a ne (inr m) h = subst (λ (b : BookView). Has b.asks a) (sym m.1) h
 
-stop_one : (place : ℕ) (old new : Core) (a : Ask) → is_holding a.stage ≡ true → StopsOne place old new → Has old.book.asks a → Has new.book.asks a
-stop_one place old new a holds (inl s) h =
+stop_one : (now place : ℕ) (old new : Core) (a : Ask) → is_holding a.stage ≡ true → StopsOne now place old new → Has old.book.asks a → Has new.book.asks a
+stop_one now place old new a holds (inl s) h =
     subst (λ (x : Core). Has x.book.asks a) (sym s.1)
     (kept_set old.book.asks place _ a h (λ is. holds_not_waits a.stage holds (ap (λ (b : Ask). b.stage) (sym is) ∙ s.0)))
-stop_one place old new a holds (inr s) h = subst (λ (x : Core). Has x.book.asks a) (sym s.1) h
+stop_one now place old new a holds (inr s) h = subst (λ (x : Core). Has x.book.asks a) (sym s.1) h
 
-stop_all : (n : ℕ) (old new : Core) (a : Ask) → is_holding a.stage ≡ true → StopsTo n old new → Has old.book.asks a → Has new.book.asks a
-stop_all zero old new a holds s h = subst (λ (x : Core). Has x.book.asks a) (sym s) h
-stop_all (suc n) old new a holds s h = stop_one n s.0 new a holds s.2 (stop_all n old s.0 a holds s.1 h)
+stop_all : (now n : ℕ) (old new : Core) (a : Ask) → is_holding a.stage ≡ true → StopsTo now n old new → Has old.book.asks a → Has new.book.asks a
+stop_all now zero old new a holds s h = subst (λ (x : Core). Has x.book.asks a) (sym s) h
+stop_all now (suc n) old new a holds s h = stop_one now n s.0 new a holds s.2 (stop_all now n old s.0 a holds s.1 h)
 
 -- ---- and then
 
 goes_on_holds : (now : ℕ) (mid : Core) (old new : RoomView) (a : Ask) → GoesOn now mid old new → is_holding a.stage ≡ true → Has mid.book.asks a
-    → HoldsOn old.classes old.terms new.moment new.book.asks a
+    → HoldsOn old.classes old.terms new.moment new.book a
 goes_on_holds now mid old new a g holds h =
     steps_on old.classes old.terms new.moment g.follows.many mid (core_of new) a g.follows.steps holds (inl h)
 
 goes_on_waits : (now : ℕ) (mid : Core) (old new : RoomView) (a : Ask) → GoesOn now mid old new → a.stage ≡ Waits → Has mid.book.asks a
-    → WaitsOn old.classes old.terms new.moment new.book.asks a
+    → WaitsOn old.classes old.terms new.moment new.book a
 goes_on_waits now mid old new a g waits h =
     steps_waits_on old.classes old.terms new.moment g.follows.many mid (core_of new) a g.follows.steps waits (inl h)
 
@@ -70,12 +69,12 @@ in_service old new now a h (inl (sets, r, c)) = record { mid = _; goes = c.goes_
 in_service old new now a h (inr (inl (how, other, ne, c))) = record {
   mid = _;
   goes = c.goes_on;
-  has = ended_other (core_of old) c.place how a (λ e. ne (sym c.stands.its ∙ e)) h;
+  has = ended_other (core_of old) c.place how _ a (λ e. ne (sym c.stands.its ∙ e)) h;
 }
 in_service old new now a h (inr (inr (inl (other, ne, inl c)))) = record {
   mid = _;
   goes = c.2;
-  has = ended_other (core_of old) c.0 _ a (λ e. ne (sym c.1.its ∙ e)) h;
+  has = ended_other (core_of old) c.0 _ _ a (λ e. ne (sym c.1.its ∙ e)) h;
 }
 in_service old new now a h (inr (inr (inl (other, ne, inr c)))) = record { mid = _; goes = c.1; has = h }
 in_service old new now a h (inr (inr (inr (inl (other, ne, c))))) = record { mid = _; goes = c.2; has = marked_other other _ old.book c.0 a ne c.1 h }
@@ -88,7 +87,7 @@ in_service old new now a h (inr (inr (inr (inr (inl (other, owner, needs, ne, c)
 in_service old new now a h (inr (inr (inr (inr (inr c))))) = record { mid = _; goes = c; has = h }
 
 pub who_holds : (old new : RoomView) (now : ℕ) (a : Ask) → HoldsIn old.book a → IsCallOfOthers a.number now old new
-    → HoldsOn old.classes old.terms new.moment new.book.asks a
+    → HoldsOn old.classes old.terms new.moment new.book a
 who_holds old new now a h (inl c) = let l = in_service old new now a h.0 (inl c) in goes_on_holds now l.mid old new a l.goes h.1 l.has
 who_holds old new now a h (inr (inl c)) = let l = in_service old new now a h.0 (inr (inl c)) in goes_on_holds now l.mid old new a l.goes h.1 l.has
 who_holds old new now a h (inr (inr (inl c))) = let l = in_service old new now a h.0 (inr (inr (inl c))) in goes_on_holds now l.mid old new a l.goes h.1 l.has
@@ -99,10 +98,10 @@ who_holds old new now a h (inr (inr (inr (inr (inl c))))) =
 who_holds old new now a h (inr (inr (inr (inr (inr (inl c)))))) =
     let l = in_service old new now a h.0 (inr (inr (inr (inr (inr c))))) in goes_on_holds now l.mid old new a l.goes h.1 l.has
 who_holds old new now a h (inr (inr (inr (inr (inr (inr c)))))) =
-    goes_on_holds now c.0 _ new a c.2 h.1 (stop_all (length old.book.asks) (core_of old) c.0 a h.1 c.1 h.0)
+    goes_on_holds now c.0 _ new a c.2 h.1 (stop_all _ (length old.book.asks) (core_of old) c.0 a h.1 c.1 h.0)
 
 pub who_waits : (old new : RoomView) (now : ℕ) (a : Ask) → Has old.book.asks a → a.stage ≡ Waits → IsCallInService a.number now old new
-    → WaitsOn old.classes old.terms new.moment new.book.asks a
+    → WaitsOn old.classes old.terms new.moment new.book a
 who_waits old new now a h waits c = let l = in_service old new now a h c in goes_on_waits now l.mid old new a l.goes waits l.has
 
 -- ---- in time
@@ -114,21 +113,26 @@ not_due classes terms now x a how none h due =
 
 pub in_time : (old new : RoomView) (now : ℕ) (mid : Core) → GoesOn now mid old new → IsInTime old.classes old.terms new.moment (core_of new)
 in_time old new now mid g =
-    let none = g.follows.nobody_due in let x = core_of new in let t = new.moment in let terms = old.terms in
+    let none = g.follows.nobody_due in let x = core_of new in let t = new.moment in let terms = old.terms in let d = new.book.durable in
     record {
       waits = λ a h w past.
-          not_due old.classes terms t x a Lapsed none h (w, subst (λ (s : Stage). is_past t (until_at terms.disk a s a.heard) ≡ true) (sym w) past);
-      untold = λ a h w n past.
+          not_due old.classes terms t x a Lapsed none h (w, subst (λ (s : Stage). is_past t (until_at d terms.disk a s) ≡ true) (sym w) past);
+      unwritten = λ a h w n past.
           not_due old.classes terms t x a NotWritten none h (
             w,
-            subst (λ (s : Stage). is_past t (until_at terms.disk a s a.heard) ≡ true) (sym w)
-                (subst (λ (u : Heard). is_past t (until_at terms.disk a Holds u) ≡ true) (sym n) past),
+            subst (λ (s : Stage). is_past t (until_at d terms.disk a s) ≡ true) (sym w)
+                (subst (λ (b : Bool). is_past t (if b then None else later a.deadline (after (Some a.since) terms.disk)) ≡ true) (sym n) past),
           );
       limits = λ a h w want past.
           not_due old.classes terms t x a Limit none h (want, subst (λ (s : Stage). is_past t (if_holds s (after (Some a.since) a.limit)) ≡ true) (sym w) past);
       gone = λ a h w past.
           not_due old.classes terms t x a Grace none h (subst (λ (s : Stage). is_past t (if_holds s (after a.gone terms.grace)) ≡ true) (sym w) past);
     }
+
+pub written_in_time : WrittenIsInTime
+written_in_time classes terms now x a written due =
+    let past = subst (λ (s : Stage). is_past now (until_at x.book.durable terms.disk a s) ≡ true) due.0 due.1 in
+    false≢true (subst (λ (b : Bool). is_past now (if b then None else later a.deadline (after (Some a.since) terms.disk)) ≡ true) written past)
 
 -- ---- who holds
 

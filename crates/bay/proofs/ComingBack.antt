@@ -29,7 +29,7 @@ of_more head [] rest h = absurd h
 of_more head (Head bay base next ∷ front) rest h = h
 of_more head (HoldLine ask entry ∷ front) rest h = absurd h
 of_more head (Back from to ∷ front) rest h = absurd h
-of_more head (EndLine ask how ∷ front) rest h = absurd h
+of_more head (EndLine ask how at ∷ front) rest h = absurd h
 of_more head (Note ask text ∷ front) rest h = absurd h
 
 base_same : (head : List ℕ) (front rest : List line.Line) → IsOf head front → base_of (front ++ rest) ≡ base_of front
@@ -37,7 +37,7 @@ base_same head [] rest h = absurd h
 base_same head (Head bay base next ∷ front) rest h = refl
 base_same head (HoldLine ask entry ∷ front) rest h = absurd h
 base_same head (Back from to ∷ front) rest h = absurd h
-base_same head (EndLine ask how ∷ front) rest h = absurd h
+base_same head (EndLine ask how at ∷ front) rest h = absurd h
 base_same head (Note ask text ∷ front) rest h = absurd h
 
 -- ---- by safe lines everybody may hold

@@ -99,8 +99,8 @@ over_limit_is classes now x wanted full None are_wanted are_full h = λ place in
 
 -- ---- deadlines
 
-pub late_so : (classes : List Class) (terms : Terms) (now : ℕ) (x : Core) (a : Ask) (s : Stage) → a.stage ≡ s → is_late now terms.disk a ≡ true
-    → is_past now (until_at terms.disk a s a.heard) ≡ true → IsDue classes terms now x a (late_end s)
+pub late_so : (classes : List Class) (terms : Terms) (now : ℕ) (x : Core) (a : Ask) (s : Stage) → a.stage ≡ s → is_late now x.book.durable terms.disk a ≡ true
+    → is_past now (until_at x.book.durable terms.disk a s) ≡ true → IsDue classes terms now x a (late_end s)
 late_so classes terms now x a Waits e late h = (e, late)
 late_so classes terms now x a Holds e late h = (e, late)
 late_so classes terms now x a (Over how) e late h = absurd (false≢true h)

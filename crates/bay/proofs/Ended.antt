@@ -67,8 +67,8 @@ end_not_at NoLine p e = cc
 end_not_at Due p e = cc
 end_not_at (At q) p e = cc
 
-after_over : (lines : List Line) (durable : ℕ) (a : Ask) (how : End) → is_over a.stage ≡ false → IsEndedAsk lines durable a → IsEndedAsk lines durable (over how a)
-after_over lines durable a how goes e = record {
+after_over : (lines : List Line) (durable : ℕ) (a : Ask) (how : End) (now : ℕ) → is_over a.stage ≡ false → IsEndedAsk lines durable a → IsEndedAsk lines durable (over how now a)
+after_over lines durable a how now goes e = record {
   unused = λ h. e.unused (sym (kept_given a.hold_line) ∙ h);
   waits = λ h. let no : ⊥ = cc in absurd no;
   goes_on = λ h. absurd (false≢true (sym h));
@@ -174,8 +174,8 @@ ended_kept keeps lines = record {
   adds = λ x number class owner deadline limit now fits t. after_add x lines number class owner deadline limit now fits t;
   holds = λ x place needs now inside w t.
       ended_set x lines place _ (after_holding lines x.durable (ask_at x.asks place) needs now keeps w (its x lines place inside t)) t;
-  ends = λ x place how inside goes t.
-      ended_set x lines place _ (after_over lines x.durable (ask_at x.asks place) how goes (its x lines place inside t)) t;
+  ends = λ x place how now inside goes t.
+      ended_set x lines place _ (after_over lines x.durable (ask_at x.asks place) how now goes (its x lines place inside t)) t;
   goes = λ x place moment inside t. ended_set x lines place _ (after_gone lines x.durable (ask_at x.asks place) moment (its x lines place inside t)) t;
   comes = λ x place inside t. ended_set x lines place _ (after_back lines x.durable (ask_at x.asks place) (its x lines place inside t)) t;
   hears = λ x place what inside due t.
@@ -220,10 +220,10 @@ ended_more x lines l begun none t = record {
 
 -- ---- lines are given
 
-pub end_due : (n : ℕ) (s : Stage) (m : Mark) (l : Line) → end_line_at n s m ≡ Some l → (is_over s ≡ true) × (m ≡ Due) × (how : How) × (EndLine n how ≡ l)
-end_due n Waits m l h = let no : ⊥ = cc in absurd no
-end_due n Holds m l h = let no : ⊥ = cc in absurd no
-end_due n (Over how) m l h = let d = due_is m (EndLine n (how_of how)) l h in (refl, d.0, how_of how, d.1)
+pub end_due : (n since : ℕ) (s : Stage) (m : Mark) (l : Line) → end_line_at n since s m ≡ Some l → (is_over s ≡ true) × (m ≡ Due) × (how : How) × (EndLine n how since ≡ l)
+end_due n since Waits m l h = let no : ⊥ = cc in absurd no
+end_due n since Holds m l h = let no : ⊥ = cc in absurd no
+end_due n since (Over how) m l h = let d = due_is m (EndLine n (how_of how) since) l h in (refl, d.0, how_of how, d.1)
 
 no_mark : (m : Mark) → m ≡ NoLine → (p at : ℕ) → given_mark at m ≡ At p → ⊥
 no_mark NoLine e p at h = cc
@@ -234,7 +234,7 @@ pub ended_end : (x : BookView) (log : LogView) (place : ℕ) (l : Line) → is_n
     → owed_end (ask_at x.asks place) ≡ Some l → IsEnded x log.lines → IsEnded (give_one x place (end_of (adding log l))) (adding log l).lines
 ended_end x log place l begun inside owed t =
     let a = ask_at x.asks place in let at = end_of (adding log l) in let e = its x log.lines place inside t in
-    let o = end_due a.number a.stage a.end_line l owed in
+    let o = end_due a.number a.since a.stage a.end_line l owed in
     let none : (n : ℕ) → begins n l ≡ false = λ n. ap (begins n) (sym o.3) in
     let more = ended_more x log.lines l begun none t in
     let k = ask_more log.lines x.durable a l begun (none a.number) e in
@@ -335,7 +335,7 @@ begins_not : (line : Line) (n next : ℕ) → Fits line → after_line line ≤ 
 begins_not (Head bay base after) n next f le above ne = refl
 begins_not (HoldLine ask entry) n next f le above ne = ne_eqb n ask (λ same. let less : ask < 18446744073709551616 = f.0 in omega (arith, less, le, above, ne, same))
 begins_not (Back from to) n next f le above ne = ne_eqb n to (λ same. let less : to < 18446744073709551616 = f.1 in omega (arith, less, le, above, ne, same))
-begins_not (EndLine ask how) n next f le above ne = refl
+begins_not (EndLine ask how at) n next f le above ne = refl
 begins_not (Note ask text) n next f le above ne = refl
 
 none_begin : (first : Bool) (lines : List Line) (n next : ℕ) → AreLinesFrom first lines → All (λ line. after_line line ≤ next) lines → next ≤ n

@@ -20,8 +20,8 @@ none_yet mark x = record { gives = no_lines x; long = refl; none = λ j inside l
 -- ---- ends
 
 owes_end : (d : ℕ) (a : Ask) (s : Stage) (m : Mark) → IsSoundAt d a s → a.end_line ≡ m
-    → ((end_line_at a.number s m ≡ None) × (is_owed m ≡ false))
-    ⊎ ((end_line_at a.number s m ≡ Some (EndLine a.number (how_over s))) × (is_owed m ≡ true))
+    → ((end_line_at a.number a.since s m ≡ None) × (is_owed m ≡ false))
+    ⊎ ((end_line_at a.number a.since s m ≡ Some (EndLine a.number (how_over s) a.since)) × (is_owed m ≡ true))
 owes_end d a Waits m h e = inl (refl, ap is_owed (sym e ∙ h.3))
 owes_end d a Holds m h e = inl (refl, ap is_owed (sym e ∙ h.2))
 owes_end d a (Over how) NoLine h e = inl (refl, refl)

@@ -49,14 +49,14 @@ all_set asks place v inside number heard b h = elim (set_cases asks place v b h)
 all_core : (asks : List Ask) (x y : Core) → x ≡ y → AllHeard asks y.book.asks → AllHeard asks x.book.asks
 all_core asks x y e h = subst (λ (z : Core). AllHeard asks z.book.asks) (sym e) h
 
-all_ended : (x : Core) (place : ℕ) (how : End) → place < length x.book.asks → AllHeard x.book.asks (ended x place how).book.asks
-all_ended x place how inside = all_set x.book.asks place (over how (ask_at x.book.asks place)) inside refl refl
+all_ended : (x : Core) (place : ℕ) (how : End) (now : ℕ) → place < length x.book.asks → AllHeard x.book.asks (ended x place how now).book.asks
+all_ended x place how now inside = all_set x.book.asks place (over how now (ask_at x.book.asks place)) inside refl refl
 
 all_step : (classes : List Class) (terms : Terms) (now : ℕ) (old new : Core) → Step classes terms now old new → AllHeard old.book.asks new.book.asks
 all_step classes terms now old new (inl l) =
     subst (λ (b : BookView). AllHeard old.book.asks b.asks) (sym l.book)
     (all_set old.book.asks l.place (holding l.it.needs now terms.keeps (ask_at old.book.asks l.place)) l.inside refl refl)
-all_step classes terms now old new (inr e) = all_core old.book.asks new (ended old e.place e.how) e.then (all_ended old e.place e.how e.inside)
+all_step classes terms now old new (inr e) = all_core old.book.asks new (ended old e.place e.how now) e.then (all_ended old e.place e.how now e.inside)
 
 all_steps : (classes : List Class) (terms : Terms) (now n : ℕ) (old new : Core) → Steps classes terms now n old new → AllHeard old.book.asks new.book.asks
 all_steps classes terms now zero old new s = all_core old.book.asks new old s (all_same old.book.asks)
@@ -108,29 +108,29 @@ set_same_past (a ∷ asks) (suc n) v b (inr h) = elim (set_same_past asks n v b 
   | inr was ↦ inr (inr was)
 ]
 
-all_ended_at : (x : Core) (place : ℕ) (how : End) → AllHeard x.book.asks (ended x place how).book.asks
-all_ended_at x place how b h =
+all_ended_at : (x : Core) (place : ℕ) (how : End) (now : ℕ) → AllHeard x.book.asks (ended x place how now).book.asks
+all_ended_at x place how now b h =
     let a = ask_at x.book.asks place in
-    elim (set_same_past x.book.asks place (over how a) b h) [
+    elim (set_same_past x.book.asks place (over how now a) b h) [
       | inl is ↦ (a, has_at x.book.asks place no_ask is.0, ap (λ (c : Ask). c.number) is.1, ap (λ (c : Ask). c.heard) is.1)
       | inr was ↦ (b, was, refl, refl)
     ]
 
-all_stop : (place : ℕ) (old new : Core) → StopsOne place old new → AllHeard old.book.asks new.book.asks
-all_stop place old new (inl s) = all_core old.book.asks new (ended old place Stopped) s.1 (all_ended_at old place Stopped)
-all_stop place old new (inr s) = all_core old.book.asks new old s.1 (all_same old.book.asks)
+all_stop : (now place : ℕ) (old new : Core) → StopsOne now place old new → AllHeard old.book.asks new.book.asks
+all_stop now place old new (inl s) = all_core old.book.asks new (ended old place Stopped now) s.1 (all_ended_at old place Stopped now)
+all_stop now place old new (inr s) = all_core old.book.asks new old s.1 (all_same old.book.asks)
 
-all_stops : (n : ℕ) (old new : Core) → StopsTo n old new → AllHeard old.book.asks new.book.asks
-all_stops zero old new s = all_core old.book.asks new old s (all_same old.book.asks)
-all_stops (suc n) old new s = all_then old.book.asks s.0.book.asks new.book.asks (all_stops n old s.0 s.1) (all_stop n s.0 new s.2)
+all_stops : (now n : ℕ) (old new : Core) → StopsTo now n old new → AllHeard old.book.asks new.book.asks
+all_stops now zero old new s = all_core old.book.asks new old s (all_same old.book.asks)
+all_stops now (suc n) old new s = all_then old.book.asks s.0.book.asks new.book.asks (all_stops now n old s.0 s.1) (all_stop now n s.0 new s.2)
 
 calls_heard : (old new : RoomView) (now : ℕ) → IsCall now old new ⊎ Stops now old new → HeardAsBefore old new
 calls_heard old new now (inl (inl (sets, r, c))) =
     let n = numbers_rise.asks old new sets r now c in
     asked_before old new (asker r.number r.class r.owner r.deadline r.limit (max old.moment now)) n.0 refl (all_goes now _ old new c.goes_on)
 calls_heard old new now (inl (inr (inl (how, number, c)))) =
-    mid_before old new _ (all_ended_at (core_of old) c.place how) (all_goes now _ old new c.goes_on)
-calls_heard old new now (inl (inr (inr (inl (number, inl c))))) = mid_before old new _ (all_ended_at (core_of old) c.0 _) (all_goes now _ old new c.2)
+    mid_before old new _ (all_ended_at (core_of old) c.place how _) (all_goes now _ old new c.goes_on)
+calls_heard old new now (inl (inr (inr (inl (number, inl c))))) = mid_before old new _ (all_ended_at (core_of old) c.0 _ _) (all_goes now _ old new c.2)
 calls_heard old new now (inl (inr (inr (inl (number, inr c))))) = as_before old new (all_goes now _ old new c.1)
 calls_heard old new now (inl (inr (inr (inr (inl (number, c)))))) =
     mid_before old new _ (all_marks number (max old.moment now) old.book c.0 c.1) (all_goes now _ old new c.2)
@@ -142,7 +142,7 @@ calls_heard old new now (inl (inr (inr (inr (inr (inl (number, owner, needs, c))
     (all_goes now _ old new c.2)
 calls_heard old new now (inl (inr (inr (inr (inr (inr c)))))) = as_before old new (all_goes now _ old new c)
 calls_heard old new now (inr c) =
-    mid_before old new _ (all_stops (length old.book.asks) (core_of old) c.0 c.1) (all_goes now _ _ new c.2)
+    mid_before old new _ (all_stops _ (length old.book.asks) (core_of old) c.0 c.1) (all_goes now _ _ new c.2)
 
 -- ---- one is told
 

@@ -18,6 +18,7 @@ pub mod Next
 pub mod Restored
 pub mod Waited
 pub mod Heard
+pub mod Keepers
 pub mod LogLines
 pub mod GivingLines
 pub mod Written

@@ -55,7 +55,7 @@ untouched held (Hold ask entry) n h = if_no (n == ask) (Some entry) (held n) h
 untouched held (Back from to) n h =
     if_no (n == to) (held from) (if n == from then None else held n) (right_no (n == from) (n == to) h)
     ∙ if_no (n == from) None (held n) (left_no (n == from) (n == to) h)
-untouched held (End ask how) n h = if_no (n == ask) None (held n) h
+untouched held (End ask how at) n h = if_no (n == ask) None (held n) h
 untouched held (Note ask text) n h = refl
 
 pub all_untouched : (held : ℕ → Option Entry) (lines : List Line) (n : ℕ) → list_any (touches n) lines ≡ false → alive_from held lines n ≡ held n
@@ -102,7 +102,7 @@ base_more [] b h = absurd (false≢true (sym h))
 base_more (Head bay base next ∷ a) b h = refl
 base_more (Hold ask entry ∷ a) b h = refl
 base_more (Back from to ∷ a) b h = refl
-base_more (End ask how ∷ a) b h = refl
+base_more (End ask how at ∷ a) b h = refl
 base_more (Note ask text ∷ a) b h = refl
 
 pub stands_alive : (lines : List Line) (at n : ℕ) (e : Entry) → Stands lines at n e → alive lines n ≡ Some e
@@ -143,7 +143,7 @@ begun_below : (line : Line) (n next : ℕ) → bound_of line ≤ next → next �
 begun_below (Head bay base next') n next le above = refl
 begun_below (Hold ask entry) n next le above = ne_eqb n ask (omega (arith, le, above))
 begun_below (Back from to) n next le above = ne_eqb n to (omega (arith, le, above))
-begun_below (End ask how) n next le above = refl
+begun_below (End ask how at) n next le above = refl
 begun_below (Note ask text) n next le above = refl
 
 count_first : (p : Line → Bool) (a : Line) (lines : List Line) → count_by p (a ∷ lines) ≡ one_of p a + count_by p lines

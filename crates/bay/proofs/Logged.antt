@@ -35,7 +35,7 @@ base_push [] line h = absurd (false≢true (sym h))
 base_push (Head bay base next ∷ lines) line h = refl
 base_push (HoldLine ask entry ∷ lines) line h = refl
 base_push (Back from to ∷ lines) line h = refl
-base_push (EndLine ask how ∷ lines) line h = refl
+base_push (EndLine ask how at ∷ lines) line h = refl
 base_push (Note ask text ∷ lines) line h = refl
 
 -- the line says nothing of this ask
@@ -64,8 +64,8 @@ pub if_then : {X : Type 0} (b : Bool) (x y : X) → b ≡ true → (if b then x 
 if_then true x y h = refl
 if_then false x y h = absurd (false≢true h)
 
-end_says : (n m : ℕ) (how : How) → n ≢ m → SaysNothing n (EndLine m how)
-end_says n m how ne = record { begins_not = refl; leaves = λ held. if_else (nat_eq n m) None (held n) (ne_eqb n m ne) }
+end_says : (n m : ℕ) (how : How) (at : ℕ) → n ≢ m → SaysNothing n (EndLine m how at)
+end_says n m how at ne = record { begins_not = refl; leaves = λ held. if_else (nat_eq n m) None (held n) (ne_eqb n m ne) }
 
 hold_says : (n m : ℕ) (e : Entry) → n ≢ m → SaysNothing n (HoldLine m e)
 hold_says n m e ne = record { begins_not = ne_eqb n m ne; leaves = λ held. if_else (nat_eq n m) (Some e) (held n) (ne_eqb n m ne) }
@@ -77,21 +77,21 @@ due_is NoLine line l h = let no : ⊥ = cc in absurd no
 due_is Due line l h = (refl, cc)
 due_is (At position) line l h = let no : ⊥ = cc in absurd no
 
-end_is : (n : ℕ) (s : Stage) (m : Mark) (l : Line) → end_line_at n s m ≡ Some l → (is_holding s ≡ false) × (how : How) × (EndLine n how ≡ l)
-end_is n Waits m l h = let no : ⊥ = cc in absurd no
-end_is n Holds m l h = let no : ⊥ = cc in absurd no
-end_is n (Over how) m l h = (refl, how_of how, (due_is m (EndLine n (how_of how)) l h).1)
+end_is : (n since : ℕ) (s : Stage) (m : Mark) (l : Line) → end_line_at n since s m ≡ Some l → (is_holding s ≡ false) × (how : How) × (EndLine n how since ≡ l)
+end_is n since Waits m l h = let no : ⊥ = cc in absurd no
+end_is n since Holds m l h = let no : ⊥ = cc in absurd no
+end_is n since (Over how) m l h = (refl, how_of how, (due_is m (EndLine n (how_of how) since) l h).1)
 
 -- ---- one writes
 
 pub logged_end : (book : BookView) (log : LogView) (place at : ℕ) (l : Line) → IsSound book → IsStanding log → place < length book.asks
     → owed_end (ask_at book.asks place) ≡ Some l → IsLogged book log → IsLogged (give_one book place at) (adding log l)
 logged_end book log place at l s standing inside owed t b p h holds mark =
-    let a = ask_at book.asks place in let e = end_is a.number a.stage a.end_line l owed in
+    let a = ask_at book.asks place in let e = end_is a.number a.since a.stage a.end_line l owed in
     elim (other_asks book place (given at a) b s inside h) [
       | inl is ↦ absurd (false≢true (sym e.0 ∙ (ap (λ (c : Ask). is_holding c.stage) is ∙ holds)))
       | inr was ↦
-          in_log_more log b p l standing.begun (subst (SaysNothing b.number) e.2 (end_says b.number a.number e.1 was.1)) (t b p was.0 holds mark)
+          in_log_more log b p l standing.begun (subst (SaysNothing b.number) e.2 (end_says b.number a.number e.1 a.since was.1)) (t b p was.0 holds mark)
     ]
 
 pub logged_hold : (book : BookView) (log : LogView) (place : ℕ) (l : Line) → IsSound book → IsStanding log → place < length book.asks

@@ -81,14 +81,14 @@ logged_in classes now keeps old new log l t =
     subst (λ (b : BookView). IsLogged b log) (sym l.book)
     (logged_set old.book log l.place (holding l.it.needs now keeps (ask_at old.book.asks l.place)) (λ p h mark. in_mark keeps p mark) t)
 
-logged_ended : (x : Core) (place : ℕ) (how : End) (log : LogView) → IsLogged x.book log → IsLogged (ended x place how).book log
-logged_ended x place how log t = logged_set x.book log place (over how (ask_at x.book.asks place)) (λ p h mark. false≢true h) t
+logged_ended : (x : Core) (place : ℕ) (how : End) (now : ℕ) (log : LogView) → IsLogged x.book log → IsLogged (ended x place how now).book log
+logged_ended x place how now log t = logged_set x.book log place (over how now (ask_at x.book.asks place)) (λ p h mark. false≢true h) t
 
 logged_step : (classes : List Class) (terms : Terms) (now : ℕ) (old new : Core) (log : LogView) → Step classes terms now old new → IsLogged old.book log
     → IsLogged new.book log
 logged_step classes terms now old new log (inl l) t = logged_in classes now terms.keeps old new log l t
 logged_step classes terms now old new log (inr e) t =
-    subst (λ (x : Core). IsLogged x.book log) (sym e.then) (logged_ended old e.place e.how log t)
+    subst (λ (x : Core). IsLogged x.book log) (sym e.then) (logged_ended old e.place e.how now log t)
 
 logged_steps : (classes : List Class) (terms : Terms) (now n : ℕ) (old new : Core) (log : LogView) → Steps classes terms now n old new → IsLogged old.book log
     → IsLogged new.book log
@@ -119,10 +119,10 @@ after_asks sets r now old new log c t = goes_on now _ old new log c.goes_on (log
 
 pub after_ends : (how : End) (number now : ℕ) (old new : RoomView) (log : LogView) → Ends how number now old new → IsLogged old.book log
     → IsLogged new.book log
-after_ends how number now old new log c t = goes_on now _ old new log c.goes_on (logged_ended (core_of old) c.place how log t)
+after_ends how number now old new log c t = goes_on now _ old new log c.goes_on (logged_ended (core_of old) c.place how _ log t)
 
 pub after_leaves : (number now : ℕ) (old new : RoomView) (log : LogView) → Leaves number now old new → IsLogged old.book log → IsLogged new.book log
-after_leaves number now old new log (inl c) t = goes_on now _ old new log c.2 (logged_ended (core_of old) c.0 _ log t)
+after_leaves number now old new log (inl c) t = goes_on now _ old new log c.2 (logged_ended (core_of old) c.0 _ _ log t)
 after_leaves number now old new log (inr c) t = goes_on now _ old new log c.1 t
 
 pub after_passes : (now : ℕ) (old new : RoomView) (log : LogView) → Passes now old new → IsLogged old.book log → IsLogged new.book log
@@ -147,16 +147,16 @@ after_comes_back number owner now old new (Some needs) log c t =
     (subst (λ (b : BookView). IsLogged b log) (sym m.6) (logged_like old.book log m.0 (back_again (ask_at old.book.asks m.0)) m.2.inside like t))
 after_comes_back number owner now old new None log c t = subst (λ (x : RoomView). IsLogged x.book log) (sym c.1) t
 
-logged_stop : (place : ℕ) (old new : Core) (log : LogView) → StopsOne place old new → IsLogged old.book log → IsLogged new.book log
-logged_stop place old new log (inl s) t = subst (λ (x : Core). IsLogged x.book log) (sym s.1) (logged_ended old place Stopped log t)
-logged_stop place old new log (inr s) t = subst (λ (x : Core). IsLogged x.book log) (sym s.1) t
+logged_stop : (now place : ℕ) (old new : Core) (log : LogView) → StopsOne now place old new → IsLogged old.book log → IsLogged new.book log
+logged_stop now place old new log (inl s) t = subst (λ (x : Core). IsLogged x.book log) (sym s.1) (logged_ended old place Stopped now log t)
+logged_stop now place old new log (inr s) t = subst (λ (x : Core). IsLogged x.book log) (sym s.1) t
 
-logged_stops : (n : ℕ) (old new : Core) (log : LogView) → StopsTo n old new → IsLogged old.book log → IsLogged new.book log
-logged_stops zero old new log s t = subst (λ (x : Core). IsLogged x.book log) (sym s) t
-logged_stops (suc n) old new log s t = logged_stop n s.0 new log s.2 (logged_stops n old s.0 log s.1 t)
+logged_stops : (now n : ℕ) (old new : Core) (log : LogView) → StopsTo now n old new → IsLogged old.book log → IsLogged new.book log
+logged_stops now zero old new log s t = subst (λ (x : Core). IsLogged x.book log) (sym s) t
+logged_stops now (suc n) old new log s t = logged_stop now n s.0 new log s.2 (logged_stops now n old s.0 log s.1 t)
 
 pub after_stops : (now : ℕ) (old new : RoomView) (log : LogView) → Stops now old new → IsLogged old.book log → IsLogged new.book log
-after_stops now old new log c t = goes_on now _ _ new log c.2 (logged_stops (length old.book.asks) (core_of old) c.0 log c.1 t)
+after_stops now old new log c t = goes_on now _ _ new log c.2 (logged_stops _ (length old.book.asks) (core_of old) c.0 log c.1 t)
 
 logged_tells : (serial s : ℕ) (old new : BookView) (r : Option Told) (log : LogView) → TellsNext serial old (r, s) new → IsLogged old log → IsLogged new log
 logged_tells serial s old new (Some told) log c t =

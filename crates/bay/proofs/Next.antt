@@ -51,26 +51,26 @@ wanted_by t true o e h = past_by t o h
 wanted_by t false o e h = absurd (false≢true e)
 
 due_by : (classes : List Class) (terms : Terms) (x : Core) (wanted full : ℕ) (one two : Option ℕ) (t place : ℕ) (how : End) → AreWanted x.line.wishes wanted
-    → AreFull classes x full → IsLeast (due_at terms.grace terms.disk) x.book.asks one → IsLeast (limit_due_at wanted full) x.book.asks two
+    → AreFull classes x full → IsLeast (due_at terms.grace x.book.durable terms.disk) x.book.asks one → IsLeast (limit_due_at wanted full) x.book.asks two
     → place < length x.book.asks → IsDue classes terms t x (ask_at x.book.asks place) how → IsBy t (sooner one two)
 due_by classes terms x wanted full one two t place LetGo w f a b inside due = absurd due
 due_by classes terms x wanted full one two t place Left w f a b inside due = absurd due
 due_by classes terms x wanted full one two t place Lapsed w f a b inside due =
     let k = ask_at x.book.asks place in
-    sooner_first t one two (least_by (due_at terms.grace terms.disk) x.book.asks place t one a inside
-    (sooner_first t (until terms.disk k) (kept_until terms.grace k) (past_by t (until terms.disk k) due.1)))
+    sooner_first t one two (least_by (due_at terms.grace x.book.durable terms.disk) x.book.asks place t one a inside
+    (sooner_first t (until x.book.durable terms.disk k) (kept_until terms.grace k) (past_by t (until x.book.durable terms.disk k) due.1)))
 due_by classes terms x wanted full one two t place NotWritten w f a b inside due =
     let k = ask_at x.book.asks place in
-    sooner_first t one two (least_by (due_at terms.grace terms.disk) x.book.asks place t one a inside
-    (sooner_first t (until terms.disk k) (kept_until terms.grace k) (past_by t (until terms.disk k) due.1)))
+    sooner_first t one two (least_by (due_at terms.grace x.book.durable terms.disk) x.book.asks place t one a inside
+    (sooner_first t (until x.book.durable terms.disk k) (kept_until terms.grace k) (past_by t (until x.book.durable terms.disk k) due.1)))
 due_by classes terms x wanted full one two t place Limit w f a b inside due =
     let k = ask_at x.book.asks place in
     sooner_second t one two (least_by (limit_due_at wanted full) x.book.asks place t two b inside
     (wanted_by t (is_wanted wanted full k) (limit_end k) (is_wanted_so classes x wanted full k w f due.0) due.1))
 due_by classes terms x wanted full one two t place Grace w f a b inside due =
     let k = ask_at x.book.asks place in
-    sooner_first t one two (least_by (due_at terms.grace terms.disk) x.book.asks place t one a inside
-    (sooner_second t (until terms.disk k) (kept_until terms.grace k) (past_by t (kept_until terms.grace k) due)))
+    sooner_first t one two (least_by (due_at terms.grace x.book.durable terms.disk) x.book.asks place t one a inside
+    (sooner_second t (until x.book.durable terms.disk k) (kept_until terms.grace k) (past_by t (kept_until terms.grace k) due)))
 due_by classes terms x wanted full one two t place TakenAway w f a b inside due = absurd due
 due_by classes terms x wanted full one two t place Replaced w f a b inside due = absurd due
 due_by classes terms x wanted full one two t place Stopped w f a b inside due = absurd due
@@ -105,12 +105,12 @@ past_at m o e = ap (is_past m) e ∙ le_self m
 abbrev pub SomebodyIsDue : List Class → Terms → ℕ → Core → Type 0
 SomebodyIsDue classes terms next x = (place : ℕ) × (how : End) × (place < length x.book.asks) × IsDue classes terms next x (ask_at x.book.asks place) how
 
-due_then : (classes : List Class) (terms : Terms) (x : Core) (m : ℕ) → IsLeast (due_at terms.grace terms.disk) x.book.asks (Some m)
+due_then : (classes : List Class) (terms : Terms) (x : Core) (m : ℕ) → IsLeast (due_at terms.grace x.book.durable terms.disk) x.book.asks (Some m)
     → SomebodyIsDue classes terms m x
 due_then classes terms x m least =
     let j = least.0.0 in let a = ask_at x.book.asks j in
-    elim (sooner_from m (until terms.disk a) (kept_until terms.grace a) least.0.2) [
-      | inl e ↦ let late = past_at m (until terms.disk a) e in (j, late_end a.stage, least.0.1, late_so classes terms m x a a.stage refl late late)
+    elim (sooner_from m (until x.book.durable terms.disk a) (kept_until terms.grace a) least.0.2) [
+      | inl e ↦ let late = past_at m (until x.book.durable terms.disk a) e in (j, late_end a.stage, least.0.1, late_so classes terms m x a a.stage refl late late)
       | inr e ↦ (j, Grace, least.0.1, past_at m (kept_until terms.grace a) e)
     ]
 
@@ -128,15 +128,15 @@ limit_then classes terms x wanted full m w f least =
     (j, Limit, least.0.1, (wanted_is classes x wanted full a w f both.0, past_at m (limit_end a) both.1))
 
 somebody : (classes : List Class) (terms : Terms) (x : Core) (wanted full m : ℕ) (one two : Option ℕ) → AreWanted x.line.wishes wanted
-    → AreFull classes x full → IsLeast (due_at terms.grace terms.disk) x.book.asks one → IsLeast (limit_due_at wanted full) x.book.asks two
+    → AreFull classes x full → IsLeast (due_at terms.grace x.book.durable terms.disk) x.book.asks one → IsLeast (limit_due_at wanted full) x.book.asks two
     → sooner one two ≡ Some m → SomebodyIsDue classes terms m x
 somebody classes terms x wanted full m one two w f a b is = elim (sooner_from m one two is) [
-  | inl e ↦ due_then classes terms x m (subst (IsLeast (due_at terms.grace terms.disk) x.book.asks) e a)
+  | inl e ↦ due_then classes terms x m (subst (IsLeast (due_at terms.grace x.book.durable terms.disk) x.book.asks) e a)
   | inr e ↦ limit_then classes terms x wanted full m w f (subst (IsLeast (limit_due_at wanted full) x.book.asks) e b)
 ]
 
 pub next_is : (classes : List Class) (terms : Terms) (x : Core) (wanted full : ℕ) (one two r : Option ℕ) → AreWanted x.line.wishes wanted
-    → AreFull classes x full → IsLeast (due_at terms.grace terms.disk) x.book.asks one → IsLeast (limit_due_at wanted full) x.book.asks two
+    → AreFull classes x full → IsLeast (due_at terms.grace x.book.durable terms.disk) x.book.asks one → IsLeast (limit_due_at wanted full) x.book.asks two
     → sooner one two ≡ r → IsNextMoment classes terms x r
 next_is classes terms x wanted full one two (Some next) w f a b is = (
   λ t less place how inside due. not_by t next (sooner one two) is less (due_by classes terms x wanted full one two t place how w f a b inside due),

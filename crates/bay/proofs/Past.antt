@@ -93,8 +93,8 @@ past_kept keeps lines number = record {
       };
   holds = λ x place needs now inside w t.
       past_set x lines number place (holding needs now keeps (ask_at x.asks place)) inside refl (λ o. absurd (false≢true (ap is_over (sym w) ∙ o.0))) t;
-  ends = λ x place how inside goes t.
-      past_set x lines number place (over how (ask_at x.asks place)) inside refl (λ o. absurd (false≢true (sym goes ∙ o.0))) t;
+  ends = λ x place how now inside goes t.
+      past_set x lines number place (over how now (ask_at x.asks place)) inside refl (λ o. absurd (false≢true (sym goes ∙ o.0))) t;
   goes = λ x place moment inside t. past_set x lines number place (gone_since moment (ask_at x.asks place)) inside refl (λ o. o) t;
   comes = λ x place inside t. past_set x lines number place (back_again (ask_at x.asks place)) inside refl (λ o. o) t;
   hears = λ x place what inside due t. past_set x lines number place (hearing what (ask_at x.asks place)) inside refl (λ o. o) t;
@@ -131,7 +131,7 @@ abbrev SaysWhatIsOwed : (Ask → Option Line) → Type 0
 SaysWhatIsOwed owed = (n : ℕ) (a : Ask) (l : Line) → owed a ≡ Some l → (n ≡ a.number → is_owed a.hold_line ≡ false) → begins n l ≡ false
 
 says_end : SaysWhatIsOwed owed_end
-says_end n a l is none = ap (begins n) (sym (end_due a.number a.stage a.end_line l is).3)
+says_end n a l is none = ap (begins n) (sym (end_due a.number a.since a.stage a.end_line l is).3)
 
 says_hold : SaysWhatIsOwed owed_hold
 says_hold n a l is none =
@@ -240,7 +240,7 @@ none_line : (held : ℕ → Option Entry) (line : Line) (n : ℕ) → held n ≡
 none_line held (Head bay base next) n h g = h
 none_line held (HoldLine ask entry) n h g = if_else (nat_eq n ask) (Some entry) (held n) g ∙ h
 none_line held (Back from to) n h g = if_else (nat_eq n to) (held from) _ g ∙ both (nat_eq n from) (held n) h
-none_line held (EndLine ask how) n h g = both (nat_eq n ask) (held n) h
+none_line held (EndLine ask how at) n h g = both (nat_eq n ask) (held n) h
 none_line held (Note ask text) n h g = h
 
 none_from : (held : ℕ → Option Entry) (lines : List Line) (n : ℕ) → held n ≡ None → list_any (begins n) lines ≡ false → alive_from held lines n ≡ None

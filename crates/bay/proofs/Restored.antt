@@ -48,10 +48,10 @@ holds_isnt_waits : (s : Stage) → s ≡ Holds → s ≡ Waits → ⊥
 holds_isnt_waits s a b = cc
 
 pub restored_alone : (classes : List Class) (book : BookView) (h : Holder) (moment : ℕ) → MayHold classes book.asks h → AreAlone classes book
-    → AreAlone classes (restore book h.ask h.entry.class h.entry.owner h.entry.limit h.entry.needs h.entry.since moment)
+    → AreAlone classes (restore book h.ask h.entry.class h.entry.owner h.entry.limit h.entry.needs h.entry.asked h.entry.since moment)
 restored_alone classes book h moment may alone line none =
     let t = alone line none in let asks = book.asks in
-    let v : Ask = restored h.ask h.entry.class h.entry.owner h.entry.limit h.entry.needs h.entry.since moment book.durable in
+    let v : Ask = restored h.ask h.entry.class h.entry.owner h.entry.limit h.entry.needs h.entry.asked h.entry.since moment book.durable in
     let cases : (a : Ask) → Has (asks ++ v ∷ []) a → (v ≡ a) ⊎ Has asks a = λ a g. elim (append_cases asks (v ∷ []) a g) [
       | inl was ↦ inr was
       | inr now ↦ inl (one_of v a now)
@@ -141,8 +141,8 @@ pub so_far_more : (classes : List Class) (lines : List Line) (moment position : 
     → AreAlone classes book' → AreRestored lines moment position book → AreDoneBelow lines book → SoFar classes lines moment position book'
 so_far_more classes lines moment position holders book book' place are next r alone each done =
     let h = holder_at holders place in let asks = book.asks in
-    let v : Ask = restored h.ask h.entry.class h.entry.owner h.entry.limit h.entry.needs h.entry.since moment book.durable in
-    let new : BookView = restore book h.ask h.entry.class h.entry.owner h.entry.limit h.entry.needs h.entry.since moment in
+    let v : Ask = restored h.ask h.entry.class h.entry.owner h.entry.limit h.entry.needs h.entry.asked h.entry.since moment book.durable in
+    let new : BookView = restore book h.ask h.entry.class h.entry.owner h.entry.limit h.entry.needs h.entry.asked h.entry.since moment in
     let by_log : alive lines h.ask ≡ Some h.entry = sym (are.each h.ask) ∙ holder_entry holders place are.apart next.0 in
     let each' : AreRestored lines moment position new = (
       each.0,

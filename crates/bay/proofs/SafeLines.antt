@@ -287,7 +287,7 @@ safe_steps classes line (suc n) x y g b t safe =
 once_step : (x y : Kept) → GivesEnd x y ⊎ GivesHold x y → Both x → BeginOnce x.log.lines → BeginOnce y.log.lines
 once_step x y (inl g) b once =
     let a0 = ask_at x.book.asks g.place in
-    subst (λ (z : Kept). BeginOnce z.log.lines) (sym g.then) (once_end x.log.lines a0.number (how_over a0.stage) once)
+    subst (λ (z : Kept). BeginOnce z.log.lines) (sym g.then) (once_end x.log.lines a0.number (how_over a0.stage) a0.since once)
 once_step x y (inr g) b once =
     subst (λ (z : Kept). BeginOnce z.log.lines) (sym g.then) (once_hold x.log.lines x.book g.place g.inside g.due b.written once)
 

@@ -32,7 +32,7 @@ after_a_call : (lines : List Line) (x : BookView) (call : Call) → IsSound x �
     → IsWritten lines (after_call x call)
 after_a_call lines x (Add number class owner deadline limit now) s ok none w = written_add lines x number class owner deadline limit now ok w
 after_a_call lines x (Hold place needs now keeps) s ok none w = written_hold lines x place needs now keeps s ok.0 ok.1 none w
-after_a_call lines x (Finish place how) s ok none w = written_over lines x place how s ok.0 ok.1 w
+after_a_call lines x (Finish place how now) s ok none w = written_over lines x place how now s ok.0 ok.1 w
 after_a_call lines x (SetGone place moment) s ok none w = written_gone lines x place moment s ok w
 after_a_call lines x (IsBack place) s ok none w = written_back lines x place s ok w
 after_a_call lines x (Give at) s ok none w = absurd none
@@ -69,7 +69,7 @@ both_end x y g b =
     (record {
       begun = begun_more x.log.lines line;
       sound = sound_given_line x g.place line b.sound g.inside;
-      written = written_end x.log.lines x.book g.place (end_of (adding x.log line)) (how_over a0.stage) b.begun b.sound g.inside g.due b.written;
+      written = written_end x.log.lines x.book g.place (end_of (adding x.log line)) (how_over a0.stage) a0.since b.begun b.sound g.inside g.due b.written;
     })
 
 pub both_hold : (x y : Kept) → GivesHold x y → Both x → Both y

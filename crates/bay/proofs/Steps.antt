@@ -40,10 +40,10 @@ pub all_in_open : (classes : List Class) (now : ℕ) (keeps : Bool) (n : ℕ) (o
 all_in_open classes now keeps zero old new h = ap (λ (x : Core). count_by is_open x.book.asks) h
 all_in_open classes now keeps (suc n) old new h = in_open classes now keeps h.0 new h.2 ∙ all_in_open classes now keeps n old h.0 h.1
 
-pub ended_open : (x : Core) (place : ℕ) (how : End) → place < length x.book.asks → is_over (ask_at x.book.asks place).stage ≡ false
-    → count_by is_open (ended x place how).book.asks < count_by is_open x.book.asks
-ended_open x place how inside still =
-    let e = count_set is_open x.book.asks place (over how (ask_at x.book.asks place)) inside in
+pub ended_open : (x : Core) (place : ℕ) (how : End) (now : ℕ) → place < length x.book.asks → is_over (ask_at x.book.asks place).stage ≡ false
+    → count_by is_open (ended x place how now).book.asks < count_by is_open x.book.asks
+ended_open x place how now inside still =
+    let e = count_set is_open x.book.asks place (over how now (ask_at x.book.asks place)) inside in
     let one = if_true (is_open (ask_at x.book.asks place)) (ap not still) in
     omega (arith, e, one)
 

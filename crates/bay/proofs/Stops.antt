@@ -6,7 +6,7 @@ use Rattle.bay.specs.Cores.{Core}
 use Rattle.bay.specs.Stopping.{StopsOne}
 
 -- there are as many asks as before
-pub as_many : (place : ℕ) (old new : Core) → StopsOne place old new → length new.book.asks ≡ length old.book.asks
-as_many place old new (inl h) =
-    ap (λ (x : Core). length x.book.asks) h.1 ∙ length-set old.book.asks place (over Stopped (ask_at old.book.asks place))
-as_many place old new (inr h) = ap (λ (x : Core). length x.book.asks) h.1
+pub as_many : (now place : ℕ) (old new : Core) → StopsOne now place old new → length new.book.asks ≡ length old.book.asks
+as_many now place old new (inl h) =
+    ap (λ (x : Core). length x.book.asks) h.1 ∙ length-set old.book.asks place (over Stopped now (ask_at old.book.asks place))
+as_many now place old new (inr h) = ap (λ (x : Core). length x.book.asks) h.1

@@ -30,7 +30,8 @@ pub record IsKeptByChanges (keeps : Bool) (P : BookView → Type 0) : Type 0 whe
       → P (add x number class owner deadline limit now)
   pub holds :
       (x : BookView) (place needs now : ℕ) → place < length x.asks → (ask_at x.asks place).stage ≡ Waits → P x → P (hold x place needs now keeps)
-  pub ends : (x : BookView) (place : ℕ) (how : End) → place < length x.asks → is_over (ask_at x.asks place).stage ≡ false → P x → P (end x place how)
+  pub ends :
+      (x : BookView) (place : ℕ) (how : End) (now : ℕ) → place < length x.asks → is_over (ask_at x.asks place).stage ≡ false → P x → P (end x place how now)
   pub goes : (x : BookView) (place moment : ℕ) → place < length x.asks → P x → P (set_gone x place moment)
   pub comes : (x : BookView) (place : ℕ) → place < length x.asks → P x → P (is_back x place)
   pub hears :
@@ -44,7 +45,7 @@ through_step : (P : BookView → Type 0) → (terms : Terms) → IsKeptByChanges
 through_step P terms k classes now old new (inl l) t = subst P (sym l.book) (k.holds old.book l.place l.it.needs now l.inside l.waits t)
 through_step P terms k classes now old new (inr e) t =
     subst (λ (x : Core). P x.book) (sym e.then)
-    (k.ends old.book e.place e.how e.inside (due_open classes terms now old (ask_at old.book.asks e.place) e.how e.due) t)
+    (k.ends old.book e.place e.how now e.inside (due_open classes terms now old (ask_at old.book.asks e.place) e.how e.due) t)
 
 through_steps : (P : BookView → Type 0) → (terms : Terms) → IsKeptByChanges terms.keeps P → (classes : List Class) (now n : ℕ) (old new : Core)
     → Steps classes terms now n old new → P old.book → P new.book
@@ -71,10 +72,10 @@ through_asks P old k sets r now new c t =
 pub through_ends : (P : BookView → Type 0) → (old : RoomView) → IsKeptByChanges old.terms.keeps P → (how : End) (number now : ℕ) (new : RoomView) → Ends how number now old new
     → P old.book → P new.book
 through_ends P old k how number now new c t =
-    goes_on P old k now _ new c.goes_on (k.ends old.book c.place how c.stands.inside (ap is_over c.stands.is) t)
+    goes_on P old k now _ new c.goes_on (k.ends old.book c.place how (max old.moment now) c.stands.inside (ap is_over c.stands.is) t)
 
 pub through_leaves : (P : BookView → Type 0) → (old : RoomView) → IsKeptByChanges old.terms.keeps P → (number now : ℕ) (new : RoomView) → Leaves number now old new → P old.book → P new.book
-through_leaves P old k number now new (inl c) t = goes_on P old k now _ new c.2 (k.ends old.book c.0 Left c.1.inside c.1.is_open t)
+through_leaves P old k number now new (inl c) t = goes_on P old k now _ new c.2 (k.ends old.book c.0 Left (max old.moment now) c.1.inside c.1.is_open t)
 through_leaves P old k number now new (inr c) t = goes_on P old k now _ new c.1 t
 
 pub through_passes : (P : BookView → Type 0) → (old : RoomView) → IsKeptByChanges old.terms.keeps P → (now : ℕ) (new : RoomView) → Passes now old new → P old.book → P new.book
@@ -98,27 +99,27 @@ record IsKeptByStops (P : BookView → Type 0) (old new : Core) : Type 0 where
   many : length new.book.asks ≡ length old.book.asks
   kept : P new.book
 
-through_stop : (P : BookView → Type 0) → (keeps : Bool) → IsKeptByChanges keeps P → (place : ℕ) (old new : Core) → StopsOne place old new → place < length old.book.asks → P old.book
+through_stop : (P : BookView → Type 0) → (keeps : Bool) → IsKeptByChanges keeps P → (now place : ℕ) (old new : Core) → StopsOne now place old new → place < length old.book.asks → P old.book
     → IsKeptByStops P old new
-through_stop P keeps k place old new (inl s) inside t =
+through_stop P keeps k now place old new (inl s) inside t =
     subst (IsKeptByStops P old) (sym s.1) (record {
-      many = length-set old.book.asks place (over EndStopped (ask_at old.book.asks place));
-      kept = k.ends old.book place EndStopped inside (ap is_over s.0) t;
+      many = length-set old.book.asks place (over EndStopped now (ask_at old.book.asks place));
+      kept = k.ends old.book place EndStopped now inside (ap is_over s.0) t;
     })
-through_stop P keeps k place old new (inr s) inside t = subst (IsKeptByStops P old) (sym s.1) (record { many = refl; kept = t })
+through_stop P keeps k now place old new (inr s) inside t = subst (IsKeptByStops P old) (sym s.1) (record { many = refl; kept = t })
 
-through_stops_to : (P : BookView → Type 0) → (keeps : Bool) → IsKeptByChanges keeps P → (n : ℕ) (old new : Core) → StopsTo n old new → n ≤ length old.book.asks → P old.book
+through_stops_to : (P : BookView → Type 0) → (keeps : Bool) → IsKeptByChanges keeps P → (now n : ℕ) (old new : Core) → StopsTo now n old new → n ≤ length old.book.asks → P old.book
     → IsKeptByStops P old new
-through_stops_to P keeps k zero old new s inside t = subst (IsKeptByStops P old) (sym s) (record { many = refl; kept = t })
-through_stops_to P keeps k (suc n) old new s inside t =
-    let first = through_stops_to P keeps k n old s.0 s.1 (omega (arith, inside)) t in
+through_stops_to P keeps k now zero old new s inside t = subst (IsKeptByStops P old) (sym s) (record { many = refl; kept = t })
+through_stops_to P keeps k now (suc n) old new s inside t =
+    let first = through_stops_to P keeps k now n old s.0 s.1 (omega (arith, inside)) t in
     let same = first.many in
-    let one = through_stop P keeps k n s.0 new s.2 (omega (arith, inside, same)) first.kept in
+    let one = through_stop P keeps k now n s.0 new s.2 (omega (arith, inside, same)) first.kept in
     record { many = one.many ∙ first.many; kept = one.kept }
 
 pub through_stops : (P : BookView → Type 0) → (old : RoomView) → IsKeptByChanges old.terms.keeps P → (now : ℕ) (new : RoomView) → Stops now old new → P old.book → P new.book
 through_stops P old k now new c t =
-    goes_on P (stopping old) k now _ new c.2 (through_stops_to P old.terms.keeps k (length old.book.asks) (core_of old) c.0 c.1 (omega arith) t).kept
+    goes_on P (stopping old) k now _ new c.2 (through_stops_to P old.terms.keeps k (max old.moment now) (length old.book.asks) (core_of old) c.0 c.1 (omega arith) t).kept
 
 through_tells_next : (P : BookView → Type 0) → (keeps : Bool) → IsKeptByChanges keeps P → (serial s : ℕ) (old new : BookView) (r : Option Told) → TellsNext serial old (r, s) new
     → P old → P new

@@ -54,10 +54,10 @@ no_more m n false e = omega (arith, e)
 
 -- ---- one ends
 
-pub ended_tied : (classes : List Class) (x : Core) (place : ℕ) (how : End) → IsSound x.book → place < length x.book.asks → IsTied classes x
-    → IsTied classes (ended x place how)
-ended_tied classes x place how s inside t =
-    let asks = x.book.asks in let a0 = ask_at asks place in let v : Ask = over how a0 in
+pub ended_tied : (classes : List Class) (x : Core) (place : ℕ) (how : End) (now : ℕ) → IsSound x.book → place < length x.book.asks → IsTied classes x
+    → IsTied classes (ended x place how now)
+ended_tied classes x place how now s inside t =
+    let asks = x.book.asks in let a0 = ask_at asks place in let v : Ask = over how now a0 in
     record {
       in_line = λ a h waits. elim (other_asks x.book place v a s inside h) [
         | inl is ↦ let no : ⊥ = (let e : v.stage ≡ Waits = ap (λ (b : Ask). b.stage) is ∙ waits in cc) in absurd no

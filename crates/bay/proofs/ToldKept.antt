@@ -78,7 +78,7 @@ began_line held (Back from to) n e h = elim (if_some (n == to) e (held from) (if
   | inl so ↦ inr so
   | inr was ↦ inl (if_none (n == from) e (held n) was)
 ]
-began_line held (End ask how) n e h = inl (if_none (n == ask) e (held n) h)
+began_line held (End ask how at) n e h = inl (if_none (n == ask) e (held n) h)
 began_line held (Note ask text) n e h = inl h
 
 began_from : (held : ℕ → Option Entry) (lines : List Line) (n : ℕ) (e : Entry) → alive_from held lines n ≡ Some e

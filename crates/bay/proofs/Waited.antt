@@ -78,10 +78,10 @@ waits_first : (ask n : ℕ) (old mid new : LineView) → WaitsOnce ask old mid �
 waits_first ask zero old mid new o w = (suc zero, (old, refl, subst (WaitsOnce ask old) (sym w) o))
 waits_first ask (suc n) old mid new o w = let r = waits_first ask n old mid w.0 o w.1 in (suc r.0, (w.0, r.1, w.2))
 
-ended_waits : (now ask : ℕ) (how : End) (place : ℕ) (old new : RoomView) → NextIsLetIn → GoesOn now (ended (core_of old) place how) old new
+ended_waits : (now ask : ℕ) (how : End) (place : ℕ) (old new : RoomView) → NextIsLetIn → GoesOn now (ended (core_of old) place how (max old.moment now)) old new
     → HasWish new.line.wishes ask → (n : ℕ) × Waits ask n old.line new.line
 ended_waits now ask how place old new is g h =
-    let t = goes_times now ask (ended (core_of old) place how) old new is g h in
+    let t = goes_times now ask (ended (core_of old) place how (max old.moment now)) old new is g h in
     let n = (ask_at old.book.asks place).number in
     let b = left_before n ask old.line.wishes t.before in
     waits_first ask t.many old.line (leaving old.line n) new.line (inr (inr (n, b.1, refl))) t.waits

@@ -58,11 +58,11 @@ whole_kept lines durable = record {
         written = written_hold lines x place needs now true t.sound inside w refl t.written;
         same = t.same;
       };
-  ends = λ x place how inside goes t.
+  ends = λ x place how now inside goes t.
       let a = ask_at x.asks place in
       record {
-        sound = sound_set x place (over how a) inside refl (sound_over x.durable how a) t.sound;
-        written = written_over lines x place how t.sound inside goes t.written;
+        sound = sound_set x place (over how now a) inside refl (sound_over x.durable how now a) t.sound;
+        written = written_over lines x place how now t.sound inside goes t.written;
         same = t.same;
       };
   goes = λ x place moment inside t.
@@ -210,7 +210,7 @@ bound_by : (line : Line) (next : ℕ) → after_line line ≤ next → bound_of 
 bound_by (Head bay base after) next le fits = le
 bound_by (HoldLine ask entry) next le fits = omega (arith, le, fits)
 bound_by (Back from to) next le fits = omega (arith, le, fits)
-bound_by (EndLine ask how) next le fits = omega (arith, le, fits)
+bound_by (EndLine ask how at) next le fits = omega (arith, le, fits)
 bound_by (Note ask text) next le fits = omega (arith, le, fits)
 
 whole_back : (limit most now : ℕ) (x : BayView) → IsKept x → IsBack x.log.lines limit most now (end_of x.log) x.room

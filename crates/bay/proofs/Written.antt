@@ -206,13 +206,13 @@ written_hold lines x place needs now true s inside waits k w =
     }) w
 
 -- it is over, and owes a line of that if one was given that it holds
-pub written_over : (lines : List Line) (x : BookView) (place : ℕ) (how : HowOver) → IsSound x → place < length x.asks
-    → is_over (ask_at x.asks place).stage ≡ false → IsWritten lines x → IsWritten lines (with_ask x place (over how (ask_at x.asks place)))
-written_over lines x place how s inside open_yet w =
+pub written_over : (lines : List Line) (x : BookView) (place : ℕ) (how : HowOver) (now : ℕ) → IsSound x → place < length x.asks
+    → is_over (ask_at x.asks place).stage ≡ false → IsWritten lines x → IsWritten lines (with_ask x place (over how now (ask_at x.asks place)))
+written_over lines x place how now s inside open_yet w =
     let a0 = ask_at x.asks place in
     let sound : IsSoundAsk x.durable a0 = s.each place no_ask inside in
     let none : a0.end_line ≡ NoLine = end_none x.durable a0 sound open_yet in
-    written_set lines x place (over how a0) s inside
+    written_set lines x place (over how now a0) s inside
     (record {
       number = refl;
       hold = λ at h. kept_at a0.hold_line at h;

@@ -68,13 +68,13 @@ if_no false x y h = refl
 
 -- ---- it is over
 
-pub written_end : (lines : List Line) (x : BookView) (place at : ℕ) (how : How) → is_none lines ≡ false → IsSound x → place < length x.asks
+pub written_end : (lines : List Line) (x : BookView) (place at : ℕ) (how : How) (since : ℕ) → is_none lines ≡ false → IsSound x → place < length x.asks
     → (ask_at x.asks place).end_line ≡ Due → IsWritten lines x
-    → IsWritten (lines ++ End (ask_at x.asks place).number how ∷ []) (give_one x place at)
-written_end lines x place at how begun s inside due w =
+    → IsWritten (lines ++ End (ask_at x.asks place).number how since ∷ []) (give_one x place at)
+written_end lines x place at how since begun s inside due w =
     let a0 = ask_at x.asks place in
     let v : Ask = given at a0 in
-    let line : Line = End a0.number how in
+    let line : Line = End a0.number how since in
     let sound : IsSoundAsk x.durable a0 = s.each place no_ask inside in
     let is_over_ : is_over a0.stage ≡ true = due_end_at x.durable a0 a0.stage sound due in
     let ended : v.end_line ≡ At at = given_due a0.end_line at due in
@@ -184,8 +184,8 @@ written_hold_line lines x place at begun s inside due is_at w =
     }
 
 -- each begins once
-pub once_end : (lines : List Line) (n : ℕ) (how : How) → BeginOnce lines → BeginOnce (lines ++ End n how ∷ [])
-once_end lines n how once m = subst (λ k. k ≤ 1) (sym (count_no (begins m) lines (End n how) refl)) (once m)
+pub once_end : (lines : List Line) (n : ℕ) (how : How) (at : ℕ) → BeginOnce lines → BeginOnce (lines ++ End n how at ∷ [])
+once_end lines n how at once m = subst (λ k. k ≤ 1) (sym (count_no (begins m) lines (End n how at) refl)) (once m)
 
 pub once_hold : (lines : List Line) (x : BookView) (place : ℕ) → place < length x.asks → (ask_at x.asks place).hold_line ≡ Due → IsWritten lines x
     → BeginOnce lines → BeginOnce (lines ++ hold_line (ask_at x.asks place) ∷ [])

@@ -95,6 +95,6 @@ pub record NobodyWaits (classes : List Class) (x : Core) : Type 0 where
 
 -- ---- one ends
 
--- the ask at this place is over, and has no wish in line
-abbrev pub ended : Core → ℕ → End → Core
-ended x place how = record { line = leaving x.line (ask_at x.book.asks place).number; book = end x.book place how }
+-- the ask at this place is over, from this moment on, and has no wish in line
+abbrev pub ended : Core → ℕ → End → ℕ → Core
+ended x place how now = record { line = leaving x.line (ask_at x.book.asks place).number; book = end x.book place how now }

@@ -52,12 +52,12 @@ abbrev pub IsWanted : List Class → Core → Ask → Type 0
 IsWanted classes x a = ((w : Wish) × Has x.line.wishes w × (common a.needs w.needs ≡ true)) ⊎ IsFull classes x a.class
 
 -- The time of the ask is over, so that it ends like this: its client is gone for too long; or it holds for as long as it may while somebody waits for what it
--- has; or it waited until its deadline; or what says that it holds isn't on the disk in time
+-- has; or it waited until its deadline; or it holds, and what says so isn't on the disk in time
 abbrev pub IsDue : List Class → Terms → ℕ → Core → Ask → End → Type 0
 IsDue classes terms now x a LetGo = ⊥
 IsDue classes terms now x a Left = ⊥
-IsDue classes terms now x a Lapsed = (a.stage ≡ Waits) × (is_late now terms.disk a ≡ true)
-IsDue classes terms now x a NotWritten = (a.stage ≡ StageHolds) × (is_late now terms.disk a ≡ true)
+IsDue classes terms now x a Lapsed = (a.stage ≡ Waits) × (is_late now x.book.durable terms.disk a ≡ true)
+IsDue classes terms now x a NotWritten = (a.stage ≡ StageHolds) × (is_late now x.book.durable terms.disk a ≡ true)
 IsDue classes terms now x a Limit = IsWanted classes x a × (is_past now (limit_end a) ≡ true)
 IsDue classes terms now x a Grace = is_gone_too_long now terms.grace a ≡ true
 IsDue classes terms now x a TakenAway = ⊥
@@ -97,7 +97,7 @@ pub record EndsInTime (classes : List Class) (terms : Terms) (now : ℕ) (old ne
   pub how : End
   pub inside : place < length old.book.asks
   pub due : IsDue classes terms now old (ask_at old.book.asks place) how
-  pub then : new ≡ ended old place how
+  pub then : new ≡ ended old place how now
 
 -- ---- all that follows
 

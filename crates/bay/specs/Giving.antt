@@ -27,7 +27,7 @@ how_over Holds = hows.Stopped
 how_over (Over how) = how_of how
 
 abbrev pub end_line : Ask → Line
-end_line a = EndLine a.number (how_over a.stage)
+end_line a = EndLine a.number (how_over a.stage) a.since
 
 abbrev pub hold_line : Ask → Line
 hold_line a = Hold a.number (entry_of a)

@@ -33,7 +33,7 @@ starting next durable = record { asks = []; next = next; durable = durable }
 abbrev pub GivesNone : Call → Type 0
 GivesNone (Add number class owner deadline limit now) = Unit {0}
 GivesNone (Hold place needs now keeps) = keeps ≡ true
-GivesNone (Finish place how) = Unit {0}
+GivesNone (Finish place how now) = Unit {0}
 GivesNone (SetGone place moment) = Unit {0}
 GivesNone (IsBack place) = Unit {0}
 GivesNone (Give at) = ⊥

@@ -1,14 +1,14 @@
 -- For readers: what holds of every room.
-use Rattle.std.specs.Prelude.{◌≡◌, ◌≢◌, ◌⊎◌, ℕ, ◌≤◌, true, List, Some}
+use Rattle.std.specs.Prelude.{◌≡◌, ◌≢◌, ◌⊎◌, ℕ, ◌≤◌, true, false, List, Some}
 use Rattle.std.specs.List.{count_by}
 use Rattle.std.specs.Int.{bit_at}
 use Rattle.bay_book.specs.declared.ask.Ask.{Ask}
 use Rattle.bay_book.specs.declared.ask.End.{End}
-use Rattle.bay_book.specs.declared.ask.End.TheVariants.{Lapsed}
-use Rattle.bay_book.specs.declared.ask.Heard.TheVariants.{Nothing}
+use Rattle.bay_book.specs.declared.ask.End.TheVariants.{Lapsed, NotWritten}
 use Rattle.bay_book.specs.declared.ask.Stage.TheVariants.{Waits, Holds}
-use Rattle.bay_book.specs.Asks.{holding, over, holds_class}
-use Rattle.bay_book.specs.Moments.{is_past, is_late, later, after}
+use Rattle.bay_book.specs.Asks.{holding, over, holds_class, is_written}
+use Rattle.bay_book.specs.Moments.{is_past, later, after}
+use Rattle.bay_book.specs.Books.{BookView}
 use Rattle.bay.specs.declared.classes.Class.{Class}
 use Rattle.bay.specs.declared.request.Request.{Request}
 use Rattle.bay.specs.declared.terms.Terms.{Terms}
@@ -29,19 +29,20 @@ pub record IsWellHeld (x : RoomView) : Type 0 where
 
 -- ---- who holds goes on to hold
 
--- the ask is over, since its time was over
-abbrev pub EndedInTime : List Class → Terms → ℕ → List Ask → Ask → Type 0
-EndedInTime classes terms now asks a = (how : End) × (at : Core) × IsDue classes terms now at a how × Has asks (over how a)
+-- the ask is over, since its time was over, with as much of the journal durable as now
+abbrev pub EndedInTime : List Class → Terms → ℕ → BookView → Ask → Type 0
+EndedInTime classes terms now book a =
+    (how : End) × (at : Core) × (at.book.durable ≡ book.durable) × IsDue classes terms now at a how × Has book.asks (over how now a)
 
 -- it holds, as it did; or its time was over
-abbrev pub HoldsOn : List Class → Terms → ℕ → List Ask → Ask → Type 0
-HoldsOn classes terms now asks a = Has asks a ⊎ EndedInTime classes terms now asks a
+abbrev pub HoldsOn : List Class → Terms → ℕ → BookView → Ask → Type 0
+HoldsOn classes terms now book a = Has book.asks a ⊎ EndedInTime classes terms now book a
 
 -- it waits, as it did; or its deadline was over; or it came to hold, and holds on
-abbrev pub WaitsOn : List Class → Terms → ℕ → List Ask → Ask → Type 0
-WaitsOn classes terms now asks a =
-    Has asks a ⊎ ((is_late now terms.disk a ≡ true) × Has asks (over Lapsed a))
-    ⊎ ((needs : ℕ) × HoldsOn classes terms now asks (holding needs now terms.keeps a))
+abbrev pub WaitsOn : List Class → Terms → ℕ → BookView → Ask → Type 0
+WaitsOn classes terms now book a =
+    Has book.asks a ⊎ ((is_past now a.deadline ≡ true) × Has book.asks (over Lapsed now a))
+    ⊎ ((needs : ℕ) × HoldsOn classes terms now book (holding needs now terms.keeps a))
 
 -- any call but one of the ask with this number
 abbrev pub IsCallOfOthers : ℕ → ℕ → RoomView → RoomView → Type 0
@@ -58,7 +59,7 @@ IsCallOfOthers number now old new =
 abbrev pub WhoHoldsHoldsOn : Type 0
 WhoHoldsHoldsOn =
     (old new : RoomView) (now : ℕ) (a : Ask) → HoldsIn old.book a → IsCallOfOthers a.number now old new
-    → HoldsOn old.classes old.terms new.moment new.book.asks a
+    → HoldsOn old.classes old.terms new.moment new.book a
 
 -- any call of others but that the room stops
 abbrev pub IsCallInService : ℕ → ℕ → RoomView → RoomView → Type 0
@@ -74,17 +75,25 @@ IsCallInService number now old new =
 abbrev pub WhoWaitsWaitsOn : Type 0
 WhoWaitsWaitsOn =
     (old new : RoomView) (now : ℕ) (a : Ask) → Has old.book.asks a → a.stage ≡ Waits → IsCallInService a.number now old new
-    → WaitsOn old.classes old.terms new.moment new.book.asks a
+    → WaitsOn old.classes old.terms new.moment new.book a
 
 -- ---- in time
 
--- After each call: nobody waits whose deadline is over; nobody holds, and wasn't told so, whose deadline and the disk's time are over; nobody holds whose
--- limit is over while somebody waits for what it has; and nobody whose client is gone for too long
+-- After each call: nobody waits whose deadline is over; nobody holds, and isn't written, whose deadline and the disk's time are over; nobody holds whose limit
+-- is over while somebody waits for what it has; and nobody whose client is gone for too long
 pub record IsInTime (classes : List Class) (terms : Terms) (now : ℕ) (x : Core) : Type 0 where
   pub waits : (a : Ask) → Has x.book.asks a → a.stage ≡ Waits → is_past now a.deadline ≡ true → ⊥
-  pub untold : (a : Ask) → Has x.book.asks a → a.stage ≡ Holds → a.heard ≡ Nothing → is_past now (later a.deadline (after (Some a.since) terms.disk)) ≡ true → ⊥
+  pub unwritten :
+      (a : Ask) → Has x.book.asks a → a.stage ≡ Holds → is_written x.book.durable a.hold_line ≡ false
+      → is_past now (later a.deadline (after (Some a.since) terms.disk)) ≡ true → ⊥
   pub limits : (a : Ask) → Has x.book.asks a → a.stage ≡ Holds → IsWanted classes x a → is_past now (after (Some a.since) a.limit) ≡ true → ⊥
   pub gone : (a : Ask) → Has x.book.asks a → a.stage ≡ Holds → is_past now (after a.gone terms.grace) ≡ true → ⊥
+
+-- the disk was in time for one that is written, or has no line to be written: it isn't over for that, however late it is told
+abbrev pub WrittenIsInTime : Type 0
+WrittenIsInTime =
+    (classes : List Class) (terms : Terms) (now : ℕ) (x : Core) (a : Ask) → is_written x.book.durable a.hold_line ≡ true
+    → IsDue classes terms now x a NotWritten → ⊥
 
 abbrev pub AnswersInTime : Type 0
 AnswersInTime = (old new : RoomView) (now : ℕ) (mid : Core) → GoesOn now mid old new → IsInTime old.classes old.terms new.moment (core_of new)

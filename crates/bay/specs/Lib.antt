@@ -15,6 +15,7 @@ pub mod Bays
 pub mod Restoring
 pub mod LineLaws
 pub mod HeardLaws
+pub mod Keepers
 pub mod Written
 pub mod Giving
 pub mod Safe

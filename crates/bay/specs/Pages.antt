@@ -23,7 +23,7 @@ use Rattle.bay.specs.Members.{Has}
 
 -- what an ask holds, as the log says it
 abbrev pub entry_of : Ask → Entry
-entry_of a = record { class = a.class; needs = a.needs; owner = a.owner; since = a.since; limit = a.limit }
+entry_of a = record { class = a.class; needs = a.needs; owner = a.owner; since = a.since; limit = a.limit; asked = a.asked }
 
 abbrev pub how_of : End → How
 how_of LetGo = hows.LetGo
@@ -42,14 +42,14 @@ if_due NoLine line = None
 if_due Due line = Some line
 if_due (At position) line = None
 
-abbrev pub end_line_at : ℕ → Stage → Mark → Option Line
-end_line_at number Waits mark = None
-end_line_at number Holds mark = None
-end_line_at number (Over how) mark = if_due mark (EndLine number (how_of how))
+abbrev pub end_line_at : ℕ → ℕ → Stage → Mark → Option Line
+end_line_at number since Waits mark = None
+end_line_at number since Holds mark = None
+end_line_at number since (Over how) mark = if_due mark (EndLine number (how_of how) since)
 
 -- the line that says that it is over, if it is owed
 abbrev pub owed_end : Ask → Option Line
-owed_end a = end_line_at a.number a.stage a.end_line
+owed_end a = end_line_at a.number a.since a.stage a.end_line
 
 -- the line that says that it holds, if it is owed
 abbrev pub owed_hold : Ask → Option Line

@@ -22,7 +22,7 @@ use Rattle.bay.specs.Views.{RoomView}
 
 -- (none)
 abbrev pub no_holder : Holder
-no_holder = record { ask = 0; entry = record { class = 0; needs = 0; owner = 0; since = 0; limit = None } }
+no_holder = record { ask = 0; entry = record { class = 0; needs = 0; owner = 0; since = 0; limit = None; asked = 0 } }
 
 abbrev pub holder_at : List Holder → ℕ → Holder
 holder_at holders k = slice_index_or holders k no_holder
@@ -55,7 +55,7 @@ AreAlone classes book = (line : LineView) → line.wishes ≡ [] → IsTied clas
 abbrev pub Restores : Holder → ℕ → BookView → BookView → Type 0
 Restores h moment old new =
     (h.ask < 18446744073709551615)
-    × (new ≡ restore old h.ask h.entry.class h.entry.owner h.entry.limit h.entry.needs h.entry.since moment)
+    × (new ≡ restore old h.ask h.entry.class h.entry.owner h.entry.limit h.entry.needs h.entry.asked h.entry.since moment)
 
 -- the ask holds what it holds by these lines, and was told so; they outlive a crash; and its client is gone since this moment
 pub record IsRestored (lines : List Line) (moment position : ℕ) (a : Ask) : Type 0 where
@@ -83,7 +83,7 @@ abbrev pub after_line : Line → ℕ
 after_line (Head bay base next) = next
 after_line (HoldLine ask entry) = min (ask + 1) 18446744073709551615
 after_line (Back from to) = min (max from to + 1) 18446744073709551615
-after_line (EndLine ask how) = min (ask + 1) 18446744073709551615
+after_line (EndLine ask how at) = min (ask + 1) 18446744073709551615
 after_line (Note ask text) = min (ask + 1) 18446744073709551615
 
 -- the head of these lines is this bay's
@@ -92,7 +92,7 @@ IsOf head [] = ⊥
 IsOf head (Head bay base next ∷ lines) = bay ≡ head
 IsOf head (HoldLine ask entry ∷ lines) = ⊥
 IsOf head (Back from to ∷ lines) = ⊥
-IsOf head (EndLine ask how ∷ lines) = ⊥
+IsOf head (EndLine ask how at ∷ lines) = ⊥
 IsOf head (Note ask text ∷ lines) = ⊥
 
 -- Just those hold that held by these lines, each what it held. They were told so, and the lines outlive a crash. Their clients are gone since this moment.

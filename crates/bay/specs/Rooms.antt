@@ -62,7 +62,7 @@ pub record Asks (sets : List ℕ) (r : Request) (now : ℕ) (old new : RoomView)
 pub record Ends (how : End) (number now : ℕ) (old new : RoomView) : Type 0 where
   pub place : ℕ
   pub stands : StandsAt old.book.asks number place Holds
-  pub goes_on : GoesOn now (ended (core_of old) place how) old new
+  pub goes_on : GoesOn now (ended (core_of old) place how (max old.moment now)) old new
 
 -- it is over, or nobody ever asked so; or it waits
 abbrev pub IsWhyNotHeld : RoomView → ℕ → NotHeld → Type 0
@@ -78,7 +78,7 @@ pub record IsOpenAt (asks : List Ask) (number place : ℕ) : Type 0 where
 -- the ask with this number is over, if it wasn't yet: its owner left; and all follows from that
 abbrev pub Leaves : ℕ → ℕ → RoomView → RoomView → Type 0
 Leaves number now old new =
-    ((place : ℕ) × IsOpenAt old.book.asks number place × GoesOn now (ended (core_of old) place Left) old new)
+    ((place : ℕ) × IsOpenAt old.book.asks number place × GoesOn now (ended (core_of old) place Left (max old.moment now)) old new)
     ⊎ (IsGone old.book.asks number × GoesOn now (core_of old) old new)
 
 -- from this moment on its client is gone, if it is in the book; and all follows from that
@@ -108,7 +108,7 @@ stopping x = record {
 
 -- nobody may ask any more; all that wait end; and all follows from that
 abbrev pub Stops : ℕ → RoomView → RoomView → Type 0
-Stops now old new = (mid : Core) × StopsTo (length old.book.asks) (core_of old) mid × GoesOn now mid (stopping old) new
+Stops now old new = (mid : Core) × StopsTo (max old.moment now) (length old.book.asks) (core_of old) mid × GoesOn now mid (stopping old) new
 
 -- ---- what is told
 

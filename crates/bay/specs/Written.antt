@@ -16,7 +16,7 @@ use Rattle.bay.specs.Members.{Has}
 
 -- what an ask holds, as its line says it
 abbrev pub entry_of : Ask → Entry
-entry_of a = record { class = a.class; needs = a.needs; owner = a.owner; since = a.since; limit = a.limit }
+entry_of a = record { class = a.class; needs = a.needs; owner = a.owner; since = a.since; limit = a.limit; asked = a.asked }
 
 -- the line was given
 abbrev pub is_given : Mark → Bool
@@ -34,7 +34,7 @@ abbrev pub touches : ℕ → Line → Bool
 touches n (Head bay base next) = false
 touches n (Hold ask entry) = n == ask
 touches n (Back from to) = n == from || n == to
-touches n (End ask how) = n == ask
+touches n (End ask how at) = n == ask
 touches n (Note ask text) = false
 
 -- every number of the line is below this
@@ -42,7 +42,7 @@ abbrev pub bound_of : Line → ℕ
 bound_of (Head bay base next) = next
 bound_of (Hold ask entry) = ask + 1
 bound_of (Back from to) = max from to + 1
-bound_of (End ask how) = ask + 1
+bound_of (End ask how at) = ask + 1
 bound_of (Note ask text) = ask + 1
 
 -- By the lines before this position the ask holds so much, and no later line changes that

@@ -6,7 +6,9 @@ ghost use Rattle.bay_book.specs.Asks.{ask_at};
 ghost use Rattle.bay_log.specs.Reads.{IsRead};
 ghost use Rattle.bay_log.specs.Logs.{end_of, unsent_of, beginning, adding, sending, reaching, failing};
 ghost use Rattle.bay.specs.Rooms.{IsOpened, Asks, IsWhyNot, Ends, IsWhyNotHeld, Leaves, Goes, ComesBack, Passes, Stops, reached, Tells};
+ghost use Rattle.bay_line.specs.Keepers.{IsWishFor};
 ghost use Rattle.bay.specs.Following.{IsNextMoment};
+ghost use Rattle.bay.specs.Keepers.{IsKeeper};
 ghost use Rattle.bay.specs.Standings.{HoldsTold};
 ghost use Rattle.bay.specs.Views.{core_of};
 ghost use Rattle.bay.specs.Refusals.{IsWhyNoLines, IsWhyNotBack};
@@ -19,6 +21,7 @@ use crate::room::Room;
 use crate::telling::Told;
 use crate::terms::Terms;
 use bay_book::Ask;
+use bay_line::Wish;
 use bay_log::{Fault, Found, Line, Log, Text, is_text, read};
 use std::alloc::{AllocError, Global};
 use std::marker::Model;
@@ -229,6 +232,23 @@ impl Bay {
         ensures { result ≡ ask_at self.now.room.book.asks place }
     {
         self.room.ask_at(place)
+    }
+
+    /// Who keeps an instrument from the ask with this number: whoever holds it; or else the first in line for which it is kept from that ask. None, if nobody
+    /// does. The ask needn't be in the bay any more: then it is kept from it for those that asked before.
+    pub fn keeper(&self, number: u64, instrument: u32) -> Option<Ask>
+        requires { instrument < 64 }
+        ensures { IsKeeper self.now.room.classes (core_of self.now.room) number instrument result }
+    {
+        self.room.keeper(number, instrument)
+    }
+
+    /// What the ask with this number waits for by its set with this place among those that it asked for, counted from 0; and how often it was passed there.
+    /// None, if it doesn't wait, or asked for no more sets.
+    pub fn wish_for(&self, number: u64, set: usize) -> Option<Wish>
+        ensures { IsWishFor self.now.room.line.wishes number set result }
+    {
+        self.room.wish_for(number, set)
     }
 
     /// The bay stops: nobody may ask any more, and all that wait are over. Who holds goes on to hold.

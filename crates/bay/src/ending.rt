@@ -47,12 +47,12 @@ pub(crate) fn first_due(
     }
 }
 
-/// The ask at this place is over, and isn't in line any more.
-pub(crate) fn end_at(line: &mut Line, book: &mut Book, place: usize, how: End)
+/// The ask at this place is over from this moment on, and isn't in line any more.
+pub(crate) fn end_at(line: &mut Line, book: &mut Book, place: usize, how: End, now: u64)
     requires inside { place < length book.old.asks }
     requires open { is_over (ask_at book.old.asks place).stage ≡ false }
-    ensures { core line.new book.new ≡ ended (core line.old book.old) place how }
+    ensures { core line.new book.new ≡ ended (core line.old book.old) place how now }
 {
     line.leave(book.ask_at(place).number);
-    book.end(place, how);
+    book.end(place, how, now);
 }

@@ -24,7 +24,7 @@ pub(crate) fn follow(classes: &[Class], terms: Terms, line: &mut Line, book: &mu
         let Some((place, how)) = first_due(classes, terms, line, book, now) else {
             return;
         };
-        end_at(line, book, place, how);
+        end_at(line, book, place, how, now);
     }
 }
 
@@ -42,10 +42,10 @@ pub(crate) fn end_and_follow(
     requires tied { IsTied classes.now (core line.old book.old) }
     requires inside { place < length book.old.asks }
     requires open { is_over (ask_at book.old.asks place).stage ≡ false }
-    ensures follows { Follows classes.now terms now (ended (core line.old book.old) place how) (core line.new book.new) }
+    ensures follows { Follows classes.now terms now (ended (core line.old book.old) place how now) (core line.new book.new) }
     ensures tied { IsTied classes.now (core line.new book.new) }
 {
     book.is_sound();
-    end_at(line, book, place, how);
+    end_at(line, book, place, how, now);
     follow(classes, terms, line, book, now);
 }

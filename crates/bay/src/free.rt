@@ -16,7 +16,7 @@ pub(crate) fn is_free(classes: &[Class], book: &Book, class: usize) -> bool
 }
 
 /// Whether it holds.
-fn is_holding(stage: Stage) -> bool
+pub(crate) fn is_holding(stage: Stage) -> bool
     ensures { result ≡ is_holding stage }
 {
     matches!(stage, Stage::Holds)

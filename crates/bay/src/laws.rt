@@ -1,11 +1,12 @@
 //! What holds of every bay. Each law is the contract of a function that does nothing.
 ghost use Rattle.bay.specs.Bays.{ToldIsKept, ToldComesBack, LetGoIsKept, PastStaysPast, StaysWhole, ComesBack};
+ghost use Rattle.bay.specs.Keepers.{NobodyWaitsForNobody};
 ghost use Rattle.bay.specs.LineLaws.{CallsAreWaited, NobodyWaitsForNothing, NumbersRise};
 ghost use Rattle.bay.specs.HeardLaws.{TellsOnce};
-ghost use Rattle.bay.specs.Laws.{IsWellHeld, WhoHoldsHoldsOn, WhoWaitsWaitsOn, AnswersInTime};
+ghost use Rattle.bay.specs.Laws.{IsWellHeld, WhoHoldsHoldsOn, WhoWaitsWaitsOn, AnswersInTime, WrittenIsInTime};
 
 use crate::bay::Bay;
-use bay_line::laws::{each_reason_ends, next_is_let_in};
+use bay_line::laws::{each_lacks_something, each_reason_ends, next_is_let_in};
 use bay_log::laws::{cut_lines_are_read, holds_at_the_cut};
 
 /// No two asks hold one instrument; of each class no more hold than it has places; and each holds what its class may use.
@@ -28,6 +29,11 @@ pub fn who_waits_waits_on()
 /// After each call nobody waits or holds whose time is over.
 pub fn answers_in_time()
     ensures { AnswersInTime }
+{}
+
+/// A hold that is written isn't over for want of the disk, however late it is told.
+pub fn written_is_in_time()
+    ensures { WrittenIsInTime }
 {}
 
 /// Whoever was told that it holds, and holds still, does so by what is read of the log after a crash.
@@ -85,6 +91,13 @@ pub fn nobody_waits_for_nothing()
     ensures { NobodyWaitsForNothing }
 {
     each_reason_ends();
+}
+
+/// After each call there is somebody to name to whoever is in line: no place is free for it, or somebody keeps an instrument of one of its sets from it.
+pub fn nobody_waits_for_nobody()
+    ensures { NobodyWaitsForNobody }
+{
+    each_lacks_something();
 }
 
 /// A number is given once.

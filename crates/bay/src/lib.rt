@@ -10,6 +10,7 @@ mod classes;
 mod ending;
 mod following;
 mod free;
+mod keeper;
 pub mod laws;
 mod letting_in;
 pub mod log_laws;

@@ -113,6 +113,7 @@ fn restore_one(
         entry.owner,
         entry.limit,
         entry.needs,
+        entry.asked,
         entry.since,
         moment,
     ) {

@@ -5,6 +5,8 @@ ghost use Rattle.bay_book.specs.Asks.{ask_at};
 ghost use Rattle.bay.specs.Rooms.{IsOpened, Asks, IsWhyNot, Ends, IsWhyNotHeld, Leaves, Goes};
 ghost use Rattle.bay.specs.Rooms.{ComesBack, Passes, Stops, reached, with_book, Tells, IsKept};
 ghost use Rattle.bay.specs.Following.{IsNextMoment};
+ghost use Rattle.bay_line.specs.Keepers.{IsWishFor};
+ghost use Rattle.bay.specs.Keepers.{IsKeeper};
 ghost use Rattle.bay.specs.Views.{core_of};
 ghost use Rattle.bay.specs.Restoring.{IsBack};
 ghost use Rattle.bay.specs.Standings.{HoldsTold};
@@ -15,6 +17,7 @@ ghost use Rattle.bay.specs.Refusals.{IsWhyNotRestored};
 use crate::asking::{take, why_not};
 use crate::classes::Class;
 use crate::following::{end_and_follow, follow};
+use crate::keeper::keeper;
 use crate::moments::next_moment;
 use crate::place::{Place, holds_told, mark_back, mark_gone, place_of};
 use crate::request::{NotAsked, NotHeld, Request};
@@ -24,7 +27,7 @@ use crate::telling::{Told, is_still_told, tell_next};
 use crate::terms::Terms;
 use crate::writing::write_owed;
 use bay_book::{Ask, Book, End};
-use bay_line::Line as Waiting;
+use bay_line::{Line as Waiting, Wish};
 use bay_log::{Line, Log};
 use std::alloc::{AllocError, Global};
 use std::marker::Model;
@@ -333,13 +336,28 @@ impl Room {
         self.book.ask_at(place)
     }
 
+    /// Who keeps an instrument from the ask with this number.
+    pub fn keeper(&self, number: u64, instrument: u32) -> Option<Ask>
+        requires { instrument < 64 }
+        ensures { IsKeeper self.now.classes (core_of self.now) number instrument result }
+    {
+        keeper(&self.classes, &self.line, &self.book, number, instrument)
+    }
+
+    /// What the ask with this number waits for by its set with this place.
+    pub fn wish_for(&self, number: u64, set: usize) -> Option<Wish>
+        ensures { IsWishFor self.now.line.wishes number set result }
+    {
+        self.line.wish_for(number, set)
+    }
+
     /// The bay stops: nobody may ask any more, and all that wait are over. Who holds goes on to hold.
     pub fn stop(&mut self, now: u64)
         ensures { Stops now self.old self.new }
     {
         self.moment = self.moment.max(now);
         self.stopped = true;
-        end_all_that_wait(&self.classes, &mut self.line, &mut self.book);
+        end_all_that_wait(&self.classes, &mut self.line, &mut self.book, self.moment);
         follow(
             &self.classes,
             self.terms,

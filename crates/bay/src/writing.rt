@@ -19,6 +19,7 @@ fn entry_of(ask: Ask) -> Entry
         owner: ask.owner,
         since: ask.since,
         limit: ask.limit,
+        asked: ask.asked,
     }
 }
 
@@ -51,6 +52,7 @@ fn owed_end(ask: Ask) -> Option<Line>
             Mark::Due => Some(Line::End {
                 ask: ask.number,
                 how: how_of(how),
+                at: ask.since,
             }),
             Mark::At(_) => None,
         },

@@ -70,7 +70,7 @@ stays_apart x (Add number class owner deadline limit now) ok free h =
     all_pairs_push IsApart x.asks (asker number class owner deadline limit now) h (λ k d inside. λ p q. absurd (false≢true q))
 stays_apart x (Hold place needs now keeps) ok free h =
     apart_set x.asks place (holding needs now keeps (ask_at x.asks place)) ok.0 (λ i other in_i p q. free i in_i q) h
-stays_apart x (Finish place how) ok free h = apart_set x.asks place (over how (ask_at x.asks place)) ok.0 (λ i other in_i p q. absurd (false≢true p)) h
+stays_apart x (Finish place how now) ok free h = apart_set x.asks place (over how now (ask_at x.asks place)) ok.0 (λ i other in_i p q. absurd (false≢true p)) h
 stays_apart x (SetGone place moment) inside free h =
     apart_set x.asks place (gone_since moment (ask_at x.asks place)) inside (λ i other in_i p q. apart_either x.asks i place other in_i inside h p q) h
 stays_apart x (IsBack place) inside free h =
@@ -120,7 +120,7 @@ takes_at_most x (Add number k owner deadline limit now) ok class = count_push (h
 takes_at_most x (Hold place needs now keeps) ok class =
     let a = ask_at x.asks place in
     count_set (holds_class class) x.asks place (holding needs now keeps a) (number_of (a.class == class)) ok.0 (one_more a class needs now keeps)
-takes_at_most x (Finish place how) ok class = count_set (holds_class class) x.asks place (over how (ask_at x.asks place)) 0 ok.0 (omega arith)
+takes_at_most x (Finish place how now) ok class = count_set (holds_class class) x.asks place (over how now (ask_at x.asks place)) 0 ok.0 (omega arith)
 takes_at_most x (SetGone place moment) inside class =
     count_set (holds_class class) x.asks place (gone_since moment (ask_at x.asks place)) 0 inside (omega arith)
 takes_at_most x (IsBack place) inside class = count_set (holds_class class) x.asks place (back_again (ask_at x.asks place)) 0 inside (omega arith)
@@ -146,10 +146,10 @@ either_is (Some a) (Some b) m h =
     ]
 
 pub due_is_to_come : DueIsToCome
-due_is_to_come asks now m grace disk late gone least =
+due_is_to_come asks now durable m grace disk late gone least =
     let j = least.0.0 in let a = ask_at asks j in
-    elim (either_is (until disk a) (kept_until grace a) m least.0.2) [
-      | inl is ↦ not_past now m (until disk a) is (late j least.0.1)
+    elim (either_is (until durable disk a) (kept_until grace a) m least.0.2) [
+      | inl is ↦ not_past now m (until durable disk a) is (late j least.0.1)
       | inr is ↦ not_past now m (kept_until grace a) is (gone j least.0.1)
     ]
 

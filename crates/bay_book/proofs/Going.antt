@@ -21,7 +21,7 @@ sound_call x (Add number class owner deadline limit now) new h = sound_add x num
 sound_call x (Hold place needs now keeps) ok h =
     sound_set x place (holding needs now keeps (ask_at x.asks place)) ok.0 refl
     (sound_holding x.durable needs now keeps (ask_at x.asks place) ok.1 (h.each place no_ask ok.0)) h
-sound_call x (Finish place how) ok h = sound_set x place (over how (ask_at x.asks place)) ok.0 refl (sound_over x.durable how (ask_at x.asks place)) h
+sound_call x (Finish place how now) ok h = sound_set x place (over how now (ask_at x.asks place)) ok.0 refl (sound_over x.durable how now (ask_at x.asks place)) h
 sound_call x (SetGone place moment) inside h =
     sound_set x place (gone_since moment (ask_at x.asks place)) inside refl (sound_gone x.durable moment (ask_at x.asks place) (h.each place no_ask inside)) h
 sound_call x (IsBack place) inside h =
@@ -38,7 +38,7 @@ sound_call x Purge ok h = sound_purge x h
 -- what no call makes true of an ask
 pub record ComesNot (Q : Ask → Type 0) : Type 0 where
   pub by_hold : (a : Ask) (needs now : ℕ) (keeps : Bool) → a.stage ≡ Waits → Q (holding needs now keeps a) → Q a
-  pub by_end : (a : Ask) (how : End) → is_over a.stage ≡ false → Q (over how a) → Q a
+  pub by_end : (a : Ask) (how : End) (now : ℕ) → is_over a.stage ≡ false → Q (over how now a) → Q a
   pub by_gone : (a : Ask) (moment : ℕ) → Q (gone_since moment a) → Q a
   pub by_back : (a : Ask) → Q (back_again a) → Q a
   pub by_give : (a : Ask) (at : ℕ) → Q (given at a) → Q a
@@ -113,8 +113,8 @@ pub came_before : (Q : Ask → Type 0) → ComesNot Q → (number : ℕ) (x : Bo
 came_before Q c number x (Add n class owner deadline limit now) new h = came_add Q number x n class owner deadline limit now new h
 came_before Q c number x (Hold place needs now keeps) ok h =
     came_set Q number x place (holding needs now keeps (ask_at x.asks place)) ok.0 refl (c.by_hold (ask_at x.asks place) needs now keeps ok.1) h
-came_before Q c number x (Finish place how) ok h =
-    came_set Q number x place (over how (ask_at x.asks place)) ok.0 refl (c.by_end (ask_at x.asks place) how ok.1) h
+came_before Q c number x (Finish place how now) ok h =
+    came_set Q number x place (over how now (ask_at x.asks place)) ok.0 refl (c.by_end (ask_at x.asks place) how now ok.1) h
 came_before Q c number x (SetGone place moment) inside h =
     came_set Q number x place (gone_since moment (ask_at x.asks place)) inside refl (c.by_gone (ask_at x.asks place) moment) h
 came_before Q c number x (IsBack place) inside h =

@@ -45,8 +45,8 @@ no_end_of_none (At position) h = absurd (at_isnt position h)
     at_isnt : (p : ℕ) → At p ≡ NoLine → ⊥
     at_isnt p e = cc
 
-pub sound_over : (durable : ℕ) (how : End) (a : Ask) → IsSoundAsk durable (over how a)
-sound_over durable how a = (refl, kept_isnt_owed a.hold_line, no_end_of_none a.hold_line)
+pub sound_over : (durable : ℕ) (how : End) (now : ℕ) (a : Ask) → IsSoundAsk durable (over how now a)
+sound_over durable how now a = (refl, kept_isnt_owed a.hold_line, no_end_of_none a.hold_line)
 
 sound_gone_at : (durable moment : ℕ) (a : Ask) (s : Stage) → IsSoundAt durable a s → IsSoundAt durable (gone_since moment a) s
 sound_gone_at durable moment a Waits h = h

@@ -37,7 +37,7 @@ heard_something (ToldOver how) h = cc
 holds_not : ComesNot MayHold
 holds_not = record {
   by_hold = λ a needs now keeps waits q. record { goes_on = waits_open a.stage waits; silent = q.silent };
-  by_end = λ a how was q. record { goes_on = was; silent = q.silent };
+  by_end = λ a how now was q. record { goes_on = was; silent = q.silent };
   by_gone = λ a moment q. record { goes_on = q.goes_on; silent = q.silent };
   by_back = λ a q. record { goes_on = q.goes_on; silent = q.silent };
   by_give = λ a at q. record { goes_on = q.goes_on; silent = q.silent };
@@ -73,7 +73,7 @@ told_hears durable a what t = told_hears_at durable a what a.stage a.heard t
 hears_not : ComesNot MayHear
 hears_not = record {
   by_hold = λ a needs now keeps waits q. q;
-  by_end = λ a how was q. q;
+  by_end = λ a how now was q. q;
   by_gone = λ a moment q. q;
   by_back = λ a q. q;
   by_give = λ a at q. q;
@@ -172,7 +172,7 @@ counts_call : (p : ℕ × Outcome → Bool) (Q : Ask → Type 0) (number : ℕ) 
     → IsAllowed x call → Counts p Q number x call
 counts_call p Q number tells x (Add n class owner deadline limit now) h ok = counts_nothing p Q number x (Add n class owner deadline limit now) refl
 counts_call p Q number tells x (Hold place needs now keeps) h ok = counts_nothing p Q number x (Hold place needs now keeps) refl
-counts_call p Q number tells x (Finish place how) h ok = counts_nothing p Q number x (Finish place how) refl
+counts_call p Q number tells x (Finish place how now) h ok = counts_nothing p Q number x (Finish place how now) refl
 counts_call p Q number tells x (SetGone place moment) h ok = counts_nothing p Q number x (SetGone place moment) refl
 counts_call p Q number tells x (IsBack place) h ok = counts_nothing p Q number x (IsBack place) refl
 counts_call p Q number tells x (Give at) h ok = counts_nothing p Q number x (Give at) refl
@@ -226,7 +226,7 @@ tells_once x calls h ok number = (
 none_by : (number : ℕ) (x : BookView) (call : Call) → IsAllowed x call → (May MayHear number x → ⊥) → count_by (is_told number) (told_by x call) ≡ 0
 none_by number x (Add n class owner deadline limit now) ok never = refl
 none_by number x (Hold place needs now keeps) ok never = refl
-none_by number x (Finish place how) ok never = refl
+none_by number x (Finish place how now) ok never = refl
 none_by number x (SetGone place moment) ok never = refl
 none_by number x (IsBack place) ok never = refl
 none_by number x (Give at) ok never = refl

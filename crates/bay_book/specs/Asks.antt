@@ -21,6 +21,7 @@ no_ask = record {
   deadline = None;
   limit = None;
   needs = 0;
+  asked = 0;
   since = 0;
   gone = None;
   stage = Waits;
@@ -91,6 +92,7 @@ asker number class owner deadline limit now = record {
   deadline = deadline;
   limit = limit;
   needs = 0;
+  asked = now;
   since = now;
   gone = None;
   stage = Waits;
@@ -100,14 +102,15 @@ asker number class owner deadline limit now = record {
 }
 
 -- one that holds, as the journal says up to this position, and as it was told; its client isn't there since this moment
-abbrev pub restored : ℕ → ℕ → ℕ → Option ℕ → ℕ → ℕ → ℕ → ℕ → Ask
-restored number class owner limit needs since gone at = record {
+abbrev pub restored : ℕ → ℕ → ℕ → Option ℕ → ℕ → ℕ → ℕ → ℕ → ℕ → Ask
+restored number class owner limit needs asked since gone at = record {
   number = number;
   class = class;
   owner = owner;
   deadline = None;
   limit = limit;
   needs = needs;
+  asked = asked;
   since = since;
   gone = Some gone;
   stage = Holds;
@@ -120,9 +123,9 @@ restored number class owner limit needs since gone at = record {
 abbrev pub holding : ℕ → ℕ → Bool → Ask → Ask
 holding needs now keeps a = record a { needs = needs; since = now; stage = Holds; hold_line = if keeps then Due else NoLine }
 
--- it is over, and holds nothing
-abbrev pub over : End → Ask → Ask
-over how a = record a { needs = 0; stage = Over how; hold_line = kept_mark a.hold_line; end_line = end_mark a.hold_line }
+-- it is over, from this moment on, and holds nothing
+abbrev pub over : End → ℕ → Ask → Ask
+over how now a = record a { needs = 0; since = now; stage = Over how; hold_line = kept_mark a.hold_line; end_line = end_mark a.hold_line }
 
 -- its client isn't there since this moment
 abbrev pub gone_since : ℕ → Ask → Ask

@@ -37,9 +37,9 @@ add x number class owner deadline limit now = record {
 }
 
 -- an ask holds again, as the journal says up to where it outlives a crash
-abbrev pub restore : BookView → ℕ → ℕ → ℕ → Option ℕ → ℕ → ℕ → ℕ → BookView
-restore x number class owner limit needs since gone = record {
-  asks = x.asks ++ restored number class owner limit needs since gone x.durable ∷ [];
+abbrev pub restore : BookView → ℕ → ℕ → ℕ → Option ℕ → ℕ → ℕ → ℕ → ℕ → BookView
+restore x number class owner limit needs asked since gone = record {
+  asks = x.asks ++ restored number class owner limit needs asked since gone x.durable ∷ [];
   next = number + 1;
   durable = x.durable;
 }
@@ -52,9 +52,9 @@ skip x next = record { asks = x.asks; next = max x.next next; durable = x.durabl
 abbrev pub hold : BookView → ℕ → ℕ → ℕ → Bool → BookView
 hold x place needs now keeps = with_ask x place (holding needs now keeps (ask_at x.asks place))
 
--- one is over
-abbrev pub end : BookView → ℕ → End → BookView
-end x place how = with_ask x place (over how (ask_at x.asks place))
+-- one is over, from this moment on
+abbrev pub end : BookView → ℕ → End → ℕ → BookView
+end x place how now = with_ask x place (over how now (ask_at x.asks place))
 
 -- the client of one is gone since this moment
 abbrev pub set_gone : BookView → ℕ → ℕ → BookView

@@ -16,9 +16,9 @@ IsFirst p asks (Some j) = (j < length asks) × (p (ask_at asks j) ≡ true) × (
 IsFirst p asks None = (i : ℕ) → i < length asks → p (ask_at asks i) ≡ false
 
 -- the first whose time is over, and how it ends; or nobody's is
-abbrev pub IsFirstLate : ℕ → Option ℕ → List Ask → Option (ℕ × End) → Type 0
-IsFirstLate now disk asks (Some t) = IsFirst (is_late now disk) asks (Some t.0) × (t.1 ≡ late_end (ask_at asks t.0).stage)
-IsFirstLate now disk asks None = IsFirst (is_late now disk) asks None
+abbrev pub IsFirstLate : ℕ → ℕ → Option ℕ → List Ask → Option (ℕ × End) → Type 0
+IsFirstLate now durable disk asks (Some t) = IsFirst (is_late now durable disk) asks (Some t.0) × (t.1 ≡ late_end (ask_at asks t.0).stage)
+IsFirstLate now durable disk asks None = IsFirst (is_late now durable disk) asks None
 
 -- the least moment of all; or there is none
 abbrev pub IsLeast : (Ask → Option ℕ) → List Ask → Option ℕ → Type 0

@@ -21,7 +21,7 @@ AreApart asks = AllPairs IsApart asks
 abbrev pub IsFree : BookView → Call → Type 0
 IsFree x (Add number class owner deadline limit now) = Unit {0}
 IsFree x (Hold place needs now keeps) = (j : ℕ) → j < length x.asks → is_holding (ask_at x.asks j).stage ≡ true → common needs (ask_at x.asks j).needs ≡ false
-IsFree x (Finish place how) = Unit {0}
+IsFree x (Finish place how now) = Unit {0}
 IsFree x (SetGone place moment) = Unit {0}
 IsFree x (IsBack place) = Unit {0}
 IsFree x (Give at) = Unit {0}
@@ -37,7 +37,7 @@ StaysApart = (x : BookView) (call : Call) → IsAllowed x call → IsFree x call
 abbrev pub places_taken : ℕ → BookView → Call → ℕ
 places_taken class x (Add number k owner deadline limit now) = 0
 places_taken class x (Hold place needs now keeps) = if (ask_at x.asks place).class == class then 1 else 0
-places_taken class x (Finish place how) = 0
+places_taken class x (Finish place how now) = 0
 places_taken class x (SetGone place moment) = 0
 places_taken class x (IsBack place) = 0
 places_taken class x (Give at) = 0
@@ -54,8 +54,8 @@ TakesAtMost =
 -- once nobody is late, and no grace is over, the next moment at which that is so is to come
 abbrev pub DueIsToCome : Type 0
 DueIsToCome =
-    (asks : List Ask) (now m : ℕ) (grace disk : Option ℕ) → IsFirst (is_late now disk) asks None → IsFirst (is_gone_too_long now grace) asks None
-    → IsLeast (due_at grace disk) asks (Some m) → now < m
+    (asks : List Ask) (now durable m : ℕ) (grace disk : Option ℕ) → IsFirst (is_late now durable disk) asks None
+    → IsFirst (is_gone_too_long now grace) asks None → IsLeast (due_at grace durable disk) asks (Some m) → now < m
 
 -- once no limit is over, the next moment at which one is, is to come
 abbrev pub LimitIsToCome : Type 0

@@ -1,14 +1,13 @@
 -- For readers: when the time of an ask is over.
-use Rattle.std.specs.Prelude.{ℕ, ◌+◌, ◌==◌, min, max, nat_le, Bool, true, false, ◌||◌, not, Option, None, Some}
+use Rattle.std.specs.Prelude.{ℕ, ◌+◌, ◌==◌, min, max, nat_le, Bool, true, false, ◌||◌, not, if◌then◌else◌, Option, None, Some}
 use Rattle.std.specs.Int.{bit_at}
 use Rattle.std.specs.Int.Bits.{bit_and}
 use Rattle.bay_book.specs.declared.ask.Ask.{Ask}
 use Rattle.bay_book.specs.declared.ask.End.{End}
 use Rattle.bay_book.specs.declared.ask.End.TheVariants.{Lapsed, NotWritten}
-use Rattle.bay_book.specs.declared.ask.Heard.{Heard}
-use Rattle.bay_book.specs.declared.ask.Heard.TheVariants.{Nothing, Holds as HeardHolds, End as HeardEnd}
 use Rattle.bay_book.specs.declared.ask.Stage.{Stage}
 use Rattle.bay_book.specs.declared.ask.Stage.TheVariants.{Waits, Holds, Over}
+use Rattle.bay_book.specs.Asks.{is_written}
 
 -- so long after a moment, and no later than the last moment of all
 abbrev pub plus : ℕ → ℕ → ℕ
@@ -40,16 +39,14 @@ abbrev pub is_past : ℕ → Option ℕ → Bool
 is_past now None = false
 is_past now (Some moment) = nat_le moment now
 
--- Until when it may wait; and once it holds, until when the disk may take to write that, so that it is told
-abbrev pub until_at : Option ℕ → Ask → Stage → Heard → Option ℕ
-until_at disk a Waits heard = a.deadline
-until_at disk a Holds Nothing = later a.deadline (after (Some a.since) disk)
-until_at disk a Holds HeardHolds = None
-until_at disk a Holds HeardEnd = None
-until_at disk a (Over how) heard = None
+-- Until when it may wait; and once it holds, until when the disk may take to write that. A hold that is written has all the time, however late it is told
+abbrev pub until_at : ℕ → Option ℕ → Ask → Stage → Option ℕ
+until_at durable disk a Waits = a.deadline
+until_at durable disk a Holds = if is_written durable a.hold_line then None else later a.deadline (after (Some a.since) disk)
+until_at durable disk a (Over how) = None
 
-abbrev pub until : Option ℕ → Ask → Option ℕ
-until disk a = until_at disk a a.stage a.heard
+abbrev pub until : ℕ → Option ℕ → Ask → Option ℕ
+until durable disk a = until_at durable disk a a.stage
 
 -- how it ends, if that is over
 abbrev pub late_end : Stage → End
@@ -80,8 +77,8 @@ abbrev pub is_wanted : ℕ → ℕ → Ask → Bool
 is_wanted wanted full a = common a.needs wanted || bit_at full a.class == 1
 
 -- the next moment at which something of it is over, whoever waits
-abbrev pub due_at : Option ℕ → Option ℕ → Ask → Option ℕ
-due_at grace disk a = sooner (until disk a) (kept_until grace a)
+abbrev pub due_at : Option ℕ → ℕ → Option ℕ → Ask → Option ℕ
+due_at grace durable disk a = sooner (until durable disk a) (kept_until grace a)
 
 -- if somebody waits for what it has, the moment at which its limit is over
 abbrev pub wanted_moment : Bool → Option ℕ → Option ℕ
@@ -93,8 +90,8 @@ limit_due_at wanted full a = wanted_moment (is_wanted wanted full a) (limit_end 
 
 -- ---- what is over at this moment
 
-abbrev pub is_late : ℕ → Option ℕ → Ask → Bool
-is_late now disk a = is_past now (until disk a)
+abbrev pub is_late : ℕ → ℕ → Option ℕ → Ask → Bool
+is_late now durable disk a = is_past now (until durable disk a)
 
 abbrev pub is_gone_too_long : ℕ → Option ℕ → Ask → Bool
 is_gone_too_long now grace a = is_past now (kept_until grace a)

@@ -15,7 +15,7 @@ use Rattle.bay_book.specs.Books.{BookView, IsSound, add, hold, end, set_gone, is
 pub data Call : Type 0 where
   Add : (number class owner : ℕ) → (deadline limit : Option ℕ) → (now : ℕ) → Call
   Hold : (place needs now : ℕ) → (keeps : Bool) → Call
-  Finish : (place : ℕ) → (how : End) → Call
+  Finish : (place : ℕ) → (how : End) → (now : ℕ) → Call
   SetGone : (place moment : ℕ) → Call
   IsBack : (place : ℕ) → Call
   Give : (at : ℕ) → Call
@@ -27,7 +27,7 @@ pub data Call : Type 0 where
 abbrev pub IsAllowed : BookView → Call → Type 0
 IsAllowed x (Add number class owner deadline limit now) = x.next ≤ number
 IsAllowed x (Hold place needs now keeps) = (place < length x.asks) × ((ask_at x.asks place).stage ≡ Waits)
-IsAllowed x (Finish place how) = (place < length x.asks) × (is_over (ask_at x.asks place).stage ≡ false)
+IsAllowed x (Finish place how now) = (place < length x.asks) × (is_over (ask_at x.asks place).stage ≡ false)
 IsAllowed x (SetGone place moment) = place < length x.asks
 IsAllowed x (IsBack place) = place < length x.asks
 IsAllowed x (Give at) = Unit {0}
@@ -39,7 +39,7 @@ IsAllowed x Purge = Unit {0}
 abbrev pub after_call : BookView → Call → BookView
 after_call x (Add number class owner deadline limit now) = add x number class owner deadline limit now
 after_call x (Hold place needs now keeps) = hold x place needs now keeps
-after_call x (Finish place how) = end x place how
+after_call x (Finish place how now) = end x place how now
 after_call x (SetGone place moment) = set_gone x place moment
 after_call x (IsBack place) = is_back x place
 after_call x (Give at) = give x at
@@ -51,7 +51,7 @@ after_call x Purge = purge x
 abbrev pub told_by : BookView → Call → List (ℕ × Outcome)
 told_by x (Add number class owner deadline limit now) = []
 told_by x (Hold place needs now keeps) = []
-told_by x (Finish place how) = []
+told_by x (Finish place how now) = []
 told_by x (SetGone place moment) = []
 told_by x (IsBack place) = []
 told_by x (Give at) = []

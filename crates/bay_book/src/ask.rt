@@ -80,7 +80,9 @@ pub struct Ask {
     pub limit: Option<u64>,
     /// The instruments that it holds: bit i for instrument i. None, unless it holds.
     pub needs: u64,
-    /// Since when it asks, and then since when it holds.
+    /// Since when it asks.
+    pub asked: u64,
+    /// Since when it is so far: since when it asks, then since when it holds, and then since when it is over.
     pub since: u64,
     /// Since when its client isn't there.
     pub gone: Option<u64>,

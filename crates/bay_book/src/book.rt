@@ -120,12 +120,13 @@ impl Book {
         owner: u128,
         limit: Option<u64>,
         needs: u64,
+        asked: u64,
         since: u64,
         gone: u64,
     ) -> Result<(), AllocError>
         requires new { self.old.next ≤ number }
         requires room { number < 18446744073709551615 }
-        ensures restores { OnOk result (self.new ≡ restore self.old number class owner limit needs since gone) }
+        ensures restores { OnOk result (self.new ≡ restore self.old number class owner limit needs asked since gone) }
         ensures refused { OnErr result (self.new ≡ self.old) }
     {
         self.asks.push(restored(
@@ -134,6 +135,7 @@ impl Book {
             owner,
             limit,
             needs,
+            asked,
             since,
             gone,
             self.durable,
@@ -158,13 +160,13 @@ impl Book {
         self.asks[place] = holding(self.asks[place], needs, now, keeps);
     }
 
-    /// It is over, and holds nothing. A line is owed if one was given that it holds.
-    pub fn end(&mut self, place: usize, how: End)
+    /// It is over from this moment on, and holds nothing. A line is owed if one was given that it holds.
+    pub fn end(&mut self, place: usize, how: End, now: u64)
         requires inside { place < length self.old.asks }
         requires not_over { is_over (ask_at self.old.asks place).stage ≡ false }
-        ensures { self.new ≡ end self.old place how }
+        ensures { self.new ≡ end self.old place how now }
     {
-        self.asks[place] = over(self.asks[place], how);
+        self.asks[place] = over(self.asks[place], how, now);
     }
 
     /// Its client isn't there since this moment.
@@ -244,9 +246,9 @@ impl Book {
 
     /// The next moment at which a deadline, the disk's time or a grace is over.
     pub fn due(&self, grace: Option<u64>, disk: Option<u64>) -> Option<u64>
-        ensures { IsLeast (due_at grace disk) self.now.asks result }
+        ensures { IsLeast (due_at grace self.now.durable disk) self.now.asks result }
     {
-        due(&self.asks, grace, disk)
+        due(&self.asks, grace, self.durable, disk)
     }
 
     /// The next moment at which a limit is over, of those that have one of these instruments, or a place of one of these classes.
@@ -258,9 +260,9 @@ impl Book {
 
     /// The first that has to lapse at this moment, and how.
     pub fn first_late(&self, now: u64, disk: Option<u64>) -> Option<(usize, End)>
-        ensures { IsFirstLate now disk self.now.asks result }
+        ensures { IsFirstLate now self.now.durable disk self.now.asks result }
     {
-        first_late(&self.asks, now, disk)
+        first_late(&self.asks, now, self.durable, disk)
     }
 
     /// The first that holds, and whose client is gone for too long.

@@ -25,12 +25,17 @@ pub(crate) fn place_of(asks: &[Ask], number: u64) -> Option<usize>
 }
 
 /// The first that has to lapse, and how.
-pub(crate) fn first_late(asks: &[Ask], now: u64, disk: Option<u64>) -> Option<(usize, End)>
-    ensures { IsFirstLate now disk asks.now result }
+pub(crate) fn first_late(
+    asks: &[Ask],
+    now: u64,
+    durable: u64,
+    disk: Option<u64>,
+) -> Option<(usize, End)>
+    ensures { IsFirstLate now durable disk asks.now result }
 {
     for place in 0..asks.len() {
         let ask = asks[place];
-        if is_late(ask, now, disk) {
+        if is_late(ask, now, durable, disk) {
             return Some((place, late_end(ask.stage)));
         }
     }
@@ -62,12 +67,12 @@ pub(crate) fn first_over_limit(asks: &[Ask], now: u64, wanted: u64, full: u32) -
 }
 
 /// The next moment at which a wait, the disk's time or a grace is over.
-pub(crate) fn due(asks: &[Ask], grace: Option<u64>, disk: Option<u64>) -> Option<u64>
-    ensures { IsLeast (due_at grace disk) asks.now result }
+pub(crate) fn due(asks: &[Ask], grace: Option<u64>, durable: u64, disk: Option<u64>) -> Option<u64>
+    ensures { IsLeast (due_at grace durable disk) asks.now result }
 {
     let mut least = None;
     for place in 0..asks.len() {
-        least = sooner(least, due_at(asks[place], grace, disk));
+        least = sooner(least, due_at(asks[place], grace, durable, disk));
     }
     least
 }

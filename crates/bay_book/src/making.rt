@@ -23,6 +23,7 @@ pub(crate) fn asker(
         deadline,
         limit,
         needs: 0,
+        asked: now,
         since: now,
         gone: None,
         stage: Stage::Waits,
@@ -39,11 +40,12 @@ pub(crate) fn restored(
     owner: u128,
     limit: Option<u64>,
     needs: u64,
+    asked: u64,
     since: u64,
     gone: u64,
     at: u64,
 ) -> Ask
-    ensures { result ≡ restored number class owner limit needs since gone at }
+    ensures { result ≡ restored number class owner limit needs asked since gone at }
 {
     Ask {
         number,
@@ -52,6 +54,7 @@ pub(crate) fn restored(
         deadline: None,
         limit,
         needs,
+        asked,
         since,
         gone: Some(gone),
         stage: Stage::Holds,
@@ -75,9 +78,9 @@ pub(crate) fn holding(ask: Ask, needs: u64, now: u64, keeps: bool) -> Ask
     }
 }
 
-/// It is over.
-pub(crate) fn over(ask: Ask, how: End) -> Ask
-    ensures { result ≡ over how ask }
+/// It is over, from this moment on.
+pub(crate) fn over(ask: Ask, how: End, now: u64) -> Ask
+    ensures { result ≡ over how now ask }
 {
     let (hold_line, end_line) = match ask.hold_line {
         Mark::None => (Mark::None, Mark::None),
@@ -86,6 +89,7 @@ pub(crate) fn over(ask: Ask, how: End) -> Ask
     };
     Ask {
         needs: 0,
+        since: now,
         stage: Stage::Over(how),
         hold_line,
         end_line,

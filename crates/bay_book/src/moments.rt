@@ -4,7 +4,8 @@ ghost use Rattle.std.specs.Int.{bit_at};
 ghost use Rattle.bay_book.specs.Moments.{plus, after, later, sooner, is_past, until, late_end, if_holds, kept_until, limit_end};
 ghost use Rattle.bay_book.specs.Moments.{common, is_wanted, due_at, limit_due_at, is_late, is_gone_too_long, is_over_limit};
 
-use crate::ask::{Ask, End, Heard, Stage};
+use crate::ask::{Ask, End, Stage};
+use crate::telling::is_written;
 
 /// So long after a moment.
 fn plus(moment: u64, span: u64) -> u64
@@ -63,17 +64,19 @@ fn is_past(moment: Option<u64>, now: u64) -> bool
     }
 }
 
-/// Until when it may wait, and until when the disk may take once it holds.
-fn until(ask: Ask, disk: Option<u64>) -> Option<u64>
-    ensures { result ≡ until disk ask }
+/// Until when it may wait, and once it holds, until when the disk may take to write that. A hold that is written has all the time.
+fn until(ask: Ask, durable: u64, disk: Option<u64>) -> Option<u64>
+    ensures { result ≡ until durable disk ask }
 {
     match ask.stage {
         Stage::Waits => ask.deadline,
-        Stage::Holds => match ask.heard {
-            Heard::Nothing => later(ask.deadline, after(Some(ask.since), disk)),
-            Heard::Holds => None,
-            Heard::End => None,
-        },
+        Stage::Holds => {
+            if is_written(ask.hold_line, durable) {
+                None
+            } else {
+                later(ask.deadline, after(Some(ask.since), disk))
+            }
+        }
         Stage::Over(_) => None,
     }
 }
@@ -136,10 +139,10 @@ fn is_wanted(ask: Ask, wanted: u64, full: u32) -> bool
 }
 
 /// The next moment at which something of it is over, whoever waits.
-pub(crate) fn due_at(ask: Ask, grace: Option<u64>, disk: Option<u64>) -> Option<u64>
-    ensures { result ≡ due_at grace disk ask }
+pub(crate) fn due_at(ask: Ask, grace: Option<u64>, durable: u64, disk: Option<u64>) -> Option<u64>
+    ensures { result ≡ due_at grace durable disk ask }
 {
-    sooner(until(ask, disk), kept_until(ask, grace))
+    sooner(until(ask, durable, disk), kept_until(ask, grace))
 }
 
 /// If somebody waits for what it has, the moment at which its limit is over.
@@ -154,10 +157,10 @@ pub(crate) fn limit_due_at(ask: Ask, wanted: u64, full: u32) -> Option<u64>
 }
 
 /// Whether its wait is over, or the disk took too long.
-pub(crate) fn is_late(ask: Ask, now: u64, disk: Option<u64>) -> bool
-    ensures { result ≡ is_late now disk ask }
+pub(crate) fn is_late(ask: Ask, now: u64, durable: u64, disk: Option<u64>) -> bool
+    ensures { result ≡ is_late now durable disk ask }
 {
-    is_past(until(ask, disk), now)
+    is_past(until(ask, durable, disk), now)
 }
 
 /// Whether its client is gone for too long.

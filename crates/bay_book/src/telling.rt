@@ -6,7 +6,7 @@ ghost use Rattle.bay_book.specs.Telling.{may_say, if_may, to_tell, says_over, Is
 use crate::ask::{Ask, End, Heard, Mark, Outcome, Stage};
 
 /// Whether no line is owed, or it outlives a crash.
-fn is_written(mark: Mark, durable: u64) -> bool
+pub(crate) fn is_written(mark: Mark, durable: u64) -> bool
     ensures { result ≡ is_written durable mark }
 {
     match mark {

@@ -1,6 +1,9 @@
 -- For readers: what each call leaves in the handle and in the caller's memory, and its status.
 use Rattle.std.specs.Prelude.{◌≡◌, ◌⊎◌, ℕ, ◌<◌, ◌≤◌, List, ◌++◌, map, length, drop, Option, Some, None, Ok, Err}
 use Rattle.std.specs.declared.alloc.AllocError.{AllocError}
+use Rattle.bay_line.specs.declared.wish.Wish.{Wish}
+use Rattle.bay_line.specs.Keepers.{IsWishFor}
+use Rattle.bay_book.specs.declared.ask.Ask.{Ask}
 use Rattle.bay_book.specs.declared.ask.End.{End}
 use Rattle.bay_book.specs.declared.ask.End.TheVariants.{LetGo, TakenAway}
 use Rattle.bay_book.specs.Asks.{ask_at}
@@ -15,6 +18,7 @@ use Rattle.bay.specs.declared.restoring.NotBack.{NotBack}
 use Rattle.bay.specs.Refusals.{IsWhyNotBack}
 use Rattle.bay.specs.Standings.{HoldsTold}
 use Rattle.bay.specs.Following.{IsNextMoment}
+use Rattle.bay.specs.Keepers.{IsKeeper}
 use Rattle.bay.specs.Views.{core_of}
 use Rattle.bay.specs.Rooms.{IsOpened, Asks, IsWhyNot, Ends, IsWhyNotHeld, Leaves, Goes, ComesBack, Passes, Stops, reached, Tells}
 use Rattle.bay_c.specs.declared.inside.Inside.{Inside}
@@ -149,6 +153,36 @@ Looks place a b told told' status =
     (b ≡ a) × (told'.next ≡ a.room.book.next)
     × (((status ≡ 0) × (place < length a.room.book.asks) × (told'.standing ≡ standing_of (ask_at a.room.book.asks place)))
     ⊎ ((status ≡ 8) × (length a.room.book.asks ≤ place) × (told'.standing ≡ told.standing)))
+
+-- how whoever keeps it stands is in the caller's memory
+abbrev pub IsToldKeeper : Option Ask → BayStanding → BayStanding → ℕ → Type 0
+IsToldKeeper (Some a) told told' status = (status ≡ 0) × (told' ≡ standing_of a)
+IsToldKeeper None told told' status = (status ≡ 8) × (told' ≡ told)
+
+-- who keeps the instrument from the ask with this number (0), or nobody does, or there is no such instrument (8); and nothing changed
+abbrev pub TellsKeeper : ℕ → ℕ → BayView → BayView → BayStanding → BayStanding → ℕ → Type 0
+TellsKeeper number instrument a b told told' status =
+    (b ≡ a)
+    × (((instrument < 64) × ((keeper : Option Ask) × IsKeeper a.room.classes (core_of a.room) number instrument keeper × IsToldKeeper keeper told told' status))
+    ⊎ ((64 ≤ instrument) × (status ≡ 8) × (told' ≡ told)))
+
+-- the instruments of a set that an ask waits for, and how often it was passed there
+pub record Waiting : Type 0 where
+  pub needs : ℕ
+  pub passed : ℕ
+
+abbrev pub waiting : ℕ → ℕ → Waiting
+waiting needs passed = record { needs = needs; passed = passed }
+
+-- they are in the caller's memory
+abbrev pub IsToldWish : Option Wish → Waiting → Waiting → ℕ → Type 0
+IsToldWish (Some w) told told' status = (status ≡ 0) × (told' ≡ waiting w.needs w.passed)
+IsToldWish None told told' status = (status ≡ 8) × (told' ≡ told)
+
+-- what the ask waits for by its set with this place (0), or it doesn't wait, or asked for no more sets (8); and nothing changed
+abbrev pub TellsWish : ℕ → ℕ → BayView → BayView → Waiting → Waiting → ℕ → Type 0
+TellsWish number set a b told told' status =
+    (b ≡ a) × ((w : Option Wish) × IsWishFor a.room.line.wishes number set w × IsToldWish w told told' status)
 
 -- the bay is gone, and the handle is empty (0); or it was (7)
 abbrev pub Frees : Option Inside → Option Inside → ℕ → Type 0

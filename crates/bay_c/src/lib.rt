@@ -6,6 +6,7 @@ mod handle;
 mod inside;
 mod opening;
 mod owners;
+mod reading;
 mod slot;
 mod statuses;
 mod told;

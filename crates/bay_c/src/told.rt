@@ -27,7 +27,7 @@ pub struct BayTerms {
     pub line: u64,
     /// How long a hold is kept whose client is gone; 18446744073709551615: for ever.
     pub grace: u64,
-    /// How long a hold may wait for the disk once its deadline is over; 18446744073709551615: for ever.
+    /// How long a hold may wait for the disk, and always until its deadline; 18446744073709551615: for ever.
     pub disk: u64,
     /// By how many that came later an ask is passed at most.
     pub overtakes: u32,
@@ -74,7 +74,7 @@ pub struct BayStanding {
     pub owner_low: u64,
     /// The instruments that it holds.
     pub needs: u64,
-    /// Since when it asks, or holds.
+    /// Since when it asks, then since when it holds, and then since when it is over.
     pub since: u64,
     pub class: u32,
     /// 0: it holds; 1 to 9: it is over, and how; 10: it waits.

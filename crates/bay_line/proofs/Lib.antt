@@ -11,3 +11,5 @@ pub mod AllOf
 pub mod InLine
 pub mod Within
 pub mod Deadlines
+pub mod Keepers
+pub mod Lacking

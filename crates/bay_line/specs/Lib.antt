@@ -5,3 +5,4 @@ pub mod Bounds
 pub mod Chains
 pub mod Wanted
 pub mod InLine
+pub mod Keepers

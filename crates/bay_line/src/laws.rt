@@ -3,6 +3,7 @@ ghost use Rattle.bay_line.specs.Chains.{EachReasonEnds};
 ghost use Rattle.bay_line.specs.Lines.{NextIsLetIn};
 ghost use Rattle.bay_line.specs.Wanted.{IsLateFromFirst};
 ghost use Rattle.bay_line.specs.InLine.{StaysInLine, WhatWasAskedStays};
+ghost use Rattle.bay_line.specs.Keepers.{EachLacksSomething};
 ghost use Rattle.bay_line.specs.Bounds.{IsPassedAtMost, WaitsAddUp, IsFirstComeFirstServed, IsServedBefore, NobodyWaitsForNothing};
 
 /// Once nobody is let in any more, nobody waits whose instruments are all free, kept for nobody before it, and for whom a place is free.
@@ -14,6 +15,11 @@ pub fn nobody_waits_for_nothing()
 /// before it, which has such a reason itself, and so on, in no more steps than there are wishes, to one of which an instrument is in use.
 pub fn each_reason_ends()
     ensures { EachReasonEnds }
+{}
+
+/// So there is somebody to name to each that waits: no place is free for it; or an instrument of one of its sets is in use, or kept for another.
+pub fn each_lacks_something()
+    ensures { EachLacksSomething }
 {}
 
 /// While it waits, and a place is free for it, at most `most` that need one of its instruments are let in, and one more for each wish that stood before it when

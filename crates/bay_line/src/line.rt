@@ -1,15 +1,16 @@
 //! The line.
-ghost use Rattle.std.specs.Prelude.{◌≡◌, ◌≤◌, length, OnErr, OnOk, IfErr};
+ghost use Rattle.std.specs.Prelude.{◌≡◌, ◌<◌, ◌≤◌, length, OnErr, OnOk, IfErr};
 ghost use Rattle.bay_line.specs.Lines.{nobody, Below, IsInOrder, asking, IsWhyNot, leaving, gone, TakesLate, IsChosen, LetsIn};
 ghost use Rattle.bay_line.specs.InLine.{SaysInLine};
 ghost use Rattle.bay_line.specs.Wanted.{AreWanted, AreClasses, IsFirstDeadline};
+ghost use Rattle.bay_line.specs.Keepers.{IsKeeper, IsWishFor};
 
 use crate::appending::append;
 use crate::going_in::{Seated, choose, go_at, go_in};
 use crate::late::first_late;
 use crate::passing::remove;
-use crate::wanting;
 use crate::wish::Wish;
+use crate::{keeper, wanting};
 use std::alloc::Global;
 use std::marker::Model;
 
@@ -86,6 +87,22 @@ impl Line {
         ensures { IsFirstDeadline self.now.wishes (length self.now.wishes) result }
     {
         wanting::first_deadline(&self.wishes)
+    }
+
+    /// The number of the first in line for which this instrument is kept from an ask, if places of these classes are free. The ask needn't be in line: then
+    /// it is kept from it for those that asked before.
+    pub fn keeper(&self, ask: u64, instrument: u32, free: u32) -> Option<u64>
+        requires { instrument < 64 }
+        ensures { IsKeeper self.now.most free self.now.wishes ask instrument result }
+    {
+        keeper::keeper(&self.wishes, self.most, free, ask, instrument)
+    }
+
+    /// What an ask waits for by its set with this place among those that it asked for, counted from 0.
+    pub fn wish_for(&self, ask: u64, set: usize) -> Option<Wish>
+        ensures { IsWishFor self.now.wishes ask set result }
+    {
+        keeper::wish_for(&self.wishes, ask, set)
     }
 
     /// Somebody asks, for one of these sets of instruments, whichever is free first, and for a place of one of these classes. Its number is above those of

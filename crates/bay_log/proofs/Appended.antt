@@ -34,7 +34,7 @@ base_both [] b h = cc h
 base_both (Head bay base next ∷ a) b h = refl
 base_both (Hold ask entry ∷ a) b h = refl
 base_both (Back from to ∷ a) b h = refl
-base_both (End ask how ∷ a) b h = refl
+base_both (End ask how at ∷ a) b h = refl
 base_both (Note ask text ∷ a) b h = refl
 
 pub begun_both : (a b : List Line) → is_none a ≡ false → is_none (a ++ b) ≡ false

@@ -1,5 +1,5 @@
 -- The reader of a line's words is the inverse of their writer.
-use Rattle.std.proofs.Common.{◌≡◌, ℕ, zero, suc, ◌+◌, ◌*◌, ◌<◌, ◌≤◌, ◌^◌, ◌%◌, Bool, true, false, if◌then◌else◌, List, [], ◌∷◌, ◌++◌, length, take, get_or, append_assoc, refl, sym, ap, ◌∙◌, arith, Option, Some, None, length-append}
+use Rattle.std.proofs.Common.{◌≡◌, ℕ, zero, suc, ◌+◌, ◌-◌, ◌*◌, ◌<◌, ◌≤◌, ◌^◌, ◌%◌, Bool, true, false, if◌then◌else◌, List, [], ◌∷◌, ◌++◌, length, take, get_or, append_assoc, refl, sym, ap, ◌∙◌, arith, Option, Some, None, length-append}
 use Rattle.std.specs.Prelude.{◌/◌, ◌&&◌, codes, ◌==◌, not, nat_lt, nat_le, slice_range, drop, IfSome}
 use Rattle.std.specs.Int.{w32, w64, to_be_bytes, byte_at}
 use Rattle.std.specs.List.{list_all}
@@ -121,21 +121,16 @@ limit_back None fits = refl
 limit_back (Some n) fits =
     (λ i. if is_no_dash n i then Some None else limited (number_of w64 (digits w64 n))) ∙ ap limited (number_8 n fits)
 
-limit_size : (limit : Option ℕ) → length (limit_text limit) ≡ 16
-unfolding digits encode_with
-limit_size None = refl
-limit_size (Some n) = refl
-
-limit_taken : (limit : Option ℕ) → take 16 (limit_text limit) ≡ limit_text limit
-unfolding digits encode_with
-limit_taken None = refl
-limit_taken (Some n) = refl
-
 -- ---- entries
 
-entry_size : (e : Entry) → length (entry_text e) ≡ 92
+entry_size_by : (c n o s a : ℕ) (l : Option ℕ) → length (entry_text (record { class = c; needs = n; owner = o; since = s; limit = l; asked = a })) ≡ 109
 unfolding entry_text digits encode_with
-entry_size e = omega (arith, limit_size e.limit)
+entry_size_by c n o s a None = refl
+entry_size_by c n o s a (Some m) = refl
+
+entry_size : (e : Entry) → length (entry_text e) ≡ 109
+unfolding entry_text
+entry_size e = entry_size_by e.class e.needs e.owner e.since e.asked e.limit
 
 entry_class : (e : Entry) → slice_range (entry_text e) 0 8 ≡ digits w32 e.class
 unfolding entry_text digits encode_with
@@ -153,9 +148,23 @@ entry_since : (e : Entry) → slice_range (entry_text e) 59 75 ≡ digits w64 e.
 unfolding entry_text digits encode_with
 entry_since e = refl
 
-entry_limit : (e : Entry) → slice_range (entry_text e) 76 92 ≡ limit_text e.limit
+entry_limit_by : (c n o s a : ℕ) (l : Option ℕ) → slice_range (entry_text (record { class = c; needs = n; owner = o; since = s; limit = l; asked = a })) 76 92 ≡ limit_text l
 unfolding entry_text digits encode_with
-entry_limit e = limit_taken e.limit
+entry_limit_by c n o s a None = refl
+entry_limit_by c n o s a (Some m) = refl
+
+entry_limit : (e : Entry) → slice_range (entry_text e) 76 92 ≡ limit_text e.limit
+unfolding entry_text
+entry_limit e = entry_limit_by e.class e.needs e.owner e.since e.asked e.limit
+
+entry_asked_by : (c n o s a : ℕ) (l : Option ℕ) → slice_range (entry_text (record { class = c; needs = n; owner = o; since = s; limit = l; asked = a })) 93 109 ≡ digits w64 a
+unfolding entry_text digits encode_with
+entry_asked_by c n o s a None = refl
+entry_asked_by c n o s a (Some m) = refl
+
+entry_asked : (e : Entry) → slice_range (entry_text e) 93 109 ≡ digits w64 e.asked
+unfolding entry_text
+entry_asked e = entry_asked_by e.class e.needs e.owner e.since e.asked e.limit
 
 entry_back : (e : Entry) → EntryFits e → entry_of (entry_text e) ≡ Some e
 unfolding entry_of
@@ -165,7 +174,8 @@ entry_back e fits =
     let o = ap number_of_128 (entry_owner e) ∙ number_16 e.owner fits.owner in
     let s = ap (number_of w64) (entry_since e) ∙ number_8 e.since fits.since in
     let l = ap limit_of (entry_limit e) ∙ limit_back e.limit fits.limit in
-    λ i. entry_if (c i) (n i) (o i) (s i) (l i)
+    let a = ap (number_of w64) (entry_asked e) ∙ number_8 e.asked fits.asked in
+    λ i. entry_if (c i) (n i) (o i) (s i) (l i) (a i)
 
 -- ---- each kind of line
 
@@ -218,7 +228,7 @@ head_back bay base next fits =
     ap head_in (head_form bay base next) ∙ ((λ i. if is_equal (length text) 102 long i then head_if (hash_of (slice_range text 4 68)) (number_of w64 (slice_range text 69 85)) (number_of w64 (slice_range text 86 102)) else None)
     ∙ λ i. head_if (h i) (b i) (n i))
 
-hold_size : (ask : ℕ) (e : Entry) → length (body (Hold ask e)) ≡ 114
+hold_size : (ask : ℕ) (e : Entry) → length (body (Hold ask e)) ≡ 131
 unfolding body digits encode_with
 hold_size ask e = omega (arith, entry_size e)
 
@@ -226,9 +236,9 @@ hold_ask : (ask : ℕ) (e : Entry) → slice_range (body (Hold ask e)) 5 21 ≡ 
 unfolding body digits encode_with
 hold_ask ask e = refl
 
-hold_entry : (ask : ℕ) (e : Entry) → slice_range (body (Hold ask e)) 22 114 ≡ entry_text e
+hold_entry : (ask : ℕ) (e : Entry) → slice_range (body (Hold ask e)) 22 131 ≡ entry_text e
 unfolding body digits encode_with
-hold_entry ask e = take_all_of (entry_text e) 92 (entry_size e)
+hold_entry ask e = take_all_of (entry_text e) 109 (entry_size e)
 
 hold_back : (ask : ℕ) (e : Entry) → Fits (Hold ask e) → hold_in (body (Hold ask e)) ≡ Some (Hold ask e)
 unfolding hold_in
@@ -236,7 +246,7 @@ hold_back ask e fits =
     let words = body (Hold ask e) in
     let a = ap (number_of w64) (hold_ask ask e) ∙ number_8 ask fits.0 in
     let h = ap entry_of (hold_entry ask e) ∙ entry_back e fits.1 in
-    (λ i. if is_equal (length words) 114 (hold_size ask e) i then hold_if (a i) (h i) else None)
+    (λ i. if is_equal (length words) 131 (hold_size ask e) i then hold_if (a i) (h i) else None)
 
 back_size : (from to : ℕ) → length (body (Back from to)) ≡ 38
 unfolding body digits encode_with
@@ -273,25 +283,57 @@ how_back Stopped = refl
 pub enough : (n m : ℕ) → m ≤ n → nat_lt n m ≡ false
 enough n m h = grind (arith, nat_tests)
 
-end_size : (ask : ℕ) (how : How) → 21 ≤ length (body (End ask how))
+-- the words of an end, but for the word itself: 4 bytes and 16 digits and a blank before it, and a blank and 16 digits behind it
+end_size : (ask : ℕ) (how : How) (at : ℕ) → length (body (End ask how at)) ≡ 38 + length (how_text how)
 unfolding body digits encode_with
-end_size ask how = omega arith
+end_size ask LetGo at = refl
+end_size ask Left at = refl
+end_size ask Lapsed at = refl
+end_size ask NotWritten at = refl
+end_size ask Limit at = refl
+end_size ask Grace at = refl
+end_size ask TakenAway at = refl
+end_size ask Replaced at = refl
+end_size ask Stopped at = refl
 
-end_ask : (ask : ℕ) (how : How) → slice_range (body (End ask how)) 4 20 ≡ digits w64 ask
+end_ask : (ask : ℕ) (how : How) (at : ℕ) → slice_range (body (End ask how at)) 4 20 ≡ digits w64 ask
 unfolding body digits encode_with
-end_ask ask how = refl
+end_ask ask how at = refl
 
-end_how : (ask : ℕ) (how : How) → drop 21 (body (End ask how)) ≡ how_text how
+end_how : (ask : ℕ) (how : How) (at : ℕ) → slice_range (body (End ask how at)) 21 (length (body (End ask how at)) - 17) ≡ how_text how
 unfolding body digits encode_with
-end_how ask how = refl
+end_how ask LetGo at = refl
+end_how ask Left at = refl
+end_how ask Lapsed at = refl
+end_how ask NotWritten at = refl
+end_how ask Limit at = refl
+end_how ask Grace at = refl
+end_how ask TakenAway at = refl
+end_how ask Replaced at = refl
+end_how ask Stopped at = refl
 
-end_back : (ask : ℕ) (how : How) → Fits (End ask how) → end_in (body (End ask how)) ≡ Some (End ask how)
+end_at : (ask : ℕ) (how : How) (at : ℕ) → drop (length (body (End ask how at)) - 16) (body (End ask how at)) ≡ digits w64 at
+unfolding body digits encode_with
+end_at ask LetGo at = refl
+end_at ask Left at = refl
+end_at ask Lapsed at = refl
+end_at ask NotWritten at = refl
+end_at ask Limit at = refl
+end_at ask Grace at = refl
+end_at ask TakenAway at = refl
+end_at ask Replaced at = refl
+end_at ask Stopped at = refl
+
+end_back : (ask : ℕ) (how : How) (at : ℕ) → Fits (End ask how at) → end_in (body (End ask how at)) ≡ Some (End ask how at)
 unfolding end_in
-end_back ask how fits =
-    let words = body (End ask how) in
-    let a = ap (number_of w64) (end_ask ask how) ∙ number_8 ask fits in
-    let h = ap how_of (end_how ask how) ∙ how_back how in
-    (λ i. if enough (length words) 21 (end_size ask how) i then None else end_if (a i) (h i))
+end_back ask how at fits =
+    let words = body (End ask how at) in
+    let size = end_size ask how at in
+    let long : 38 ≤ length words = omega (arith, size) in
+    let a = ap (number_of w64) (end_ask ask how at) ∙ number_8 ask fits.0 in
+    let h = ap how_of (end_how ask how at) ∙ how_back how in
+    let m = ap (number_of w64) (end_at ask how at) ∙ number_8 at fits.1 in
+    (λ i. if enough (length words) 38 long i then None else end_if (a i) (h i) (m i))
 
 note_size : (ask : ℕ) (text : List ℕ) → 22 ≤ length (body (Note ask text))
 unfolding body digits encode_with
@@ -326,7 +368,7 @@ unfolding line_in body
 first_back (Head bay base next) fits = head_back bay base next fits
 first_back (Hold ask entry) fits = hold_back ask entry fits
 first_back (Back from to) fits = back_back from to fits
-first_back (End ask how) fits = end_back ask how fits
+first_back (End ask how at) fits = end_back ask how at fits
 first_back (Note ask text) fits = note_back ask text fits
 
 -- what is written is read again

@@ -125,7 +125,7 @@ taken_holders hs held (Hold ask e) are =
       each = λ n. entry_set hs ask (Some e) n ∙ ap (λ (y : Option Entry). if n == ask then Some e else y) (are.each n);
       apart = apart_set hs ask (Some e) are.apart;
     }
-taken_holders hs held (End ask how) are =
+taken_holders hs held (End ask how at) are =
     record {
       each = λ n. entry_without hs ask n ∙ ap (none_if (n == ask)) (are.each n);
       apart = apart_without hs ask are.apart;

@@ -32,7 +32,7 @@ before_line held (Head bay base next) n entry none h = h
 before_line held (Hold ask e) n entry none h = chosen (n == ask) (Some e) (held n) entry none h
 before_line held (Back from to) n entry none h =
     kept (n == from) (held n) entry (chosen (n == to) (held from) (if n == from then None else held n) entry none h)
-before_line held (End ask how) n entry none h = kept (n == ask) (held n) entry h
+before_line held (End ask how at) n entry none h = kept (n == ask) (held n) entry h
 before_line held (Note ask text) n entry none h = h
 
 before_lines : (held : ℕ → Option Entry) (lines : List Line) (n : ℕ) (entry : Entry) → list_any (begins n) lines ≡ false

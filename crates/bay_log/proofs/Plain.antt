@@ -74,7 +74,9 @@ plain_all (x ∷ l) h =
 entry : (e : Entry) → One (entry_text e)
 unfolding entry_text
 entry e =
-    field (field (field (field (number w32 e.class) (number w64 e.needs)) (both (number w64 _) (number w64 _))) (number w64 e.since)) (limit e.limit)
+    field
+    (field (field (field (field (number w32 e.class) (number w64 e.needs)) (both (number w64 _) (number w64 _))) (number w64 e.since)) (limit e.limit))
+    (number w64 e.asked)
 
 word : (l : List ℕ) → IsOneLine l → One l
 word l h = record { is = h }
@@ -84,7 +86,7 @@ unfolding body
 words (Head bay base next) fits = field (field (both (word (codes "bay ") refl) (hex bay)) (number w64 base)) (number w64 next)
 words (Hold ask e) fits = field (both (word (codes "hold ") refl) (number w64 ask)) (entry e)
 words (Back from to) fits = field (both (word (codes "back ") refl) (number w64 from)) (number w64 to)
-words (End ask h) fits = field (both (word (codes "end ") refl) (number w64 ask)) (how h)
+words (End ask h at) fits = field (field (both (word (codes "end ") refl) (number w64 ask)) (how h)) (number w64 at)
 words (Note ask text) fits = field (both (word (codes "note ") refl) (number w64 ask)) (word text (plain_all text fits.1.plain))
 
 pub line_one : (before : List ℕ) (line : Line) → Fits line → IsOneLine (line_words before line)

@@ -9,7 +9,7 @@ abbrev pub after : (ℕ → Option Entry) → Line → ℕ → Option Entry
 after held (Head bay base next) n = held n
 after held (Hold ask entry) n = if n == ask then Some entry else held n
 after held (Back from to) n = if n == to then held from else if n == from then None else held n
-after held (End ask how) n = if n == ask then None else held n
+after held (End ask how at) n = if n == ask then None else held n
 after held (Note ask text) n = held n
 
 abbrev pub alive_from : (ℕ → Option Entry) → List Line → ℕ → Option Entry
@@ -25,5 +25,5 @@ abbrev pub begins : ℕ → Line → Bool
 begins n (Head bay base next) = false
 begins n (Hold ask entry) = n == ask
 begins n (Back from to) = n == to
-begins n (End ask how) = false
+begins n (End ask how at) = false
 begins n (Note ask text) = false

@@ -1,5 +1,5 @@
 -- What the reader takes from the words of a line, field by field. It is the inverse of `body`, as proofs/Back.antt shows.
-use Rattle.std.specs.Prelude.{ℕ, ◌+◌, ◌*◌, ◌^◌, ◌==◌, nat_lt, Bool, true, false, not, ◌&&◌, nat_le, if◌then◌else◌}
+use Rattle.std.specs.Prelude.{ℕ, ◌+◌, ◌-◌, ◌*◌, ◌^◌, ◌==◌, nat_lt, Bool, true, false, not, ◌&&◌, nat_le, if◌then◌else◌}
 use Rattle.std.specs.Prelude.{List, ◌++◌, length, take, drop, slice_range, codes, Option, None, Some, Result, Ok, Err}
 use Rattle.std.specs.List.{list_all}
 use Rattle.std.specs.Int.{w32, w64}
@@ -53,14 +53,14 @@ how_of word =
 
 -- ---- each kind of line, whatever its first word
 
-abbrev pub entry_if : Option ℕ → Option ℕ → Option ℕ → Option ℕ → Option (Option ℕ) → Option Entry
-entry_if (Some c) (Some n) (Some o) (Some s) (Some l) = Some (record { class = c; needs = n; owner = o; since = s; limit = l })
-entry_if _ _ _ _ _ = None
+abbrev pub entry_if : Option ℕ → Option ℕ → Option ℕ → Option ℕ → Option (Option ℕ) → Option ℕ → Option Entry
+entry_if (Some c) (Some n) (Some o) (Some s) (Some l) (Some a) = Some (record { class = c; needs = n; owner = o; since = s; limit = l; asked = a })
+entry_if _ _ _ _ _ _ = None
 
 unfoldable pub entry_of : List ℕ → Option Entry
 entry_of words =
     entry_if (number_of w32 (slice_range words 0 8)) (number_of w64 (slice_range words 9 25)) (number_of_128 (slice_range words 26 58))
-    (number_of w64 (slice_range words 59 75)) (limit_of (slice_range words 76 92))
+    (number_of w64 (slice_range words 59 75)) (limit_of (slice_range words 76 92)) (number_of w64 (slice_range words 93 109))
 
 abbrev pub head_if : Option (List ℕ) → Option ℕ → Option ℕ → Option Line
 head_if (Some bay) (Some base) (Some next) = Some (Head bay base next)
@@ -77,7 +77,7 @@ hold_if (Some ask) (Some entry) = Some (Hold ask entry)
 hold_if _ _ = None
 
 unfoldable pub hold_in : List ℕ → Option Line
-hold_in words = if length words == 114 then hold_if (number_of w64 (slice_range words 5 21)) (entry_of (slice_range words 22 114)) else None
+hold_in words = if length words == 131 then hold_if (number_of w64 (slice_range words 5 21)) (entry_of (slice_range words 22 131)) else None
 
 abbrev pub back_if : Option ℕ → Option ℕ → Option Line
 back_if (Some from) (Some to) = Some (Back from to)
@@ -86,12 +86,15 @@ back_if _ _ = None
 unfoldable pub back_in : List ℕ → Option Line
 back_in words = if length words == 38 then back_if (number_of w64 (slice_range words 5 21)) (number_of w64 (slice_range words 22 38)) else None
 
-abbrev pub end_if : Option ℕ → Option How → Option Line
-end_if (Some ask) (Some how) = Some (End ask how)
-end_if _ _ = None
+abbrev pub end_if : Option ℕ → Option How → Option ℕ → Option Line
+end_if (Some ask) (Some how) (Some at) = Some (End ask how at)
+end_if _ _ _ = None
 
 unfoldable pub end_in : List ℕ → Option Line
-end_in words = if nat_lt (length words) 21 then None else end_if (number_of w64 (slice_range words 4 20)) (how_of (drop 21 words))
+end_in words =
+    if nat_lt (length words) 38
+    then None
+    else end_if (number_of w64 (slice_range words 4 20)) (how_of (slice_range words 21 (length words - 17))) (number_of w64 (drop (length words - 16) words))
 
 abbrev pub is_text : List ℕ → Bool
 is_text text = nat_le (length text) 500 && list_all is_plain text

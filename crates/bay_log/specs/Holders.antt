@@ -33,5 +33,5 @@ abbrev pub taken : List Holder → Line → List Holder
 taken holders (Head bay base next) = holders
 taken holders (Hold ask entry) = pushed ask (Some entry) (without ask holders)
 taken holders (Back from to) = pushed to (entry_in holders from) (without to (without from holders))
-taken holders (End ask how) = without ask holders
+taken holders (End ask how at) = without ask holders
 taken holders (Note ask text) = holders

@@ -32,13 +32,13 @@ limit_text (Some n) = digits w64 n
 unfoldable pub entry_text : Entry → List ℕ
 entry_text e =
     digits w32 e.class ++ codes " " ++ digits w64 e.needs ++ codes " " ++ digits_of_128 e.owner ++ codes " " ++ digits w64 e.since
-    ++ codes " " ++ limit_text e.limit
+    ++ codes " " ++ limit_text e.limit ++ codes " " ++ digits w64 e.asked
 
 unfoldable pub body : Line → List ℕ
 body (Head bay base next) = codes "bay " ++ encode_lower bay ++ codes " " ++ digits w64 base ++ codes " " ++ digits w64 next
 body (Hold ask entry) = codes "hold " ++ digits w64 ask ++ codes " " ++ entry_text entry
 body (Back from to) = codes "back " ++ digits w64 from ++ codes " " ++ digits w64 to
-body (End ask how) = codes "end " ++ digits w64 ask ++ codes " " ++ how_text how
+body (End ask how at) = codes "end " ++ digits w64 ask ++ codes " " ++ how_text how ++ codes " " ++ digits w64 at
 body (Note ask text) = codes "note " ++ digits w64 ask ++ codes " " ++ text
 
 -- ---- the text of lines
@@ -83,19 +83,20 @@ pub record EntryFits (e : Entry) : Type 0 where
   pub owner : e.owner < 2 ^ 128
   pub since : e.since < 2 ^ 64
   pub limit : IfSome e.limit (λ n. n < 2 ^ 64)
+  pub asked : e.asked < 2 ^ 64
 
 abbrev pub Fits : Line → Type 0
 Fits (Head bay base next) = IsHash bay × (base < 2 ^ 64) × (next < 2 ^ 64)
 Fits (Hold ask entry) = (ask < 2 ^ 64) × EntryFits entry
 Fits (Back from to) = (from < 2 ^ 64) × (to < 2 ^ 64)
-Fits (End ask how) = ask < 2 ^ 64
+Fits (End ask how at) = (ask < 2 ^ 64) × (at < 2 ^ 64)
 Fits (Note ask text) = (ask < 2 ^ 64) × IsText text
 
 abbrev pub is_head : Line → Bool
 is_head (Head bay base next) = true
 is_head (Hold ask entry) = false
 is_head (Back from to) = false
-is_head (End ask how) = false
+is_head (End ask how at) = false
 is_head (Note ask text) = false
 
 -- there is no line

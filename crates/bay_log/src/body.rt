@@ -54,7 +54,7 @@ fn limit_text(limit: Option<u64>) -> [u8; 16]
 fn put_entry(out: &mut Words, entry: Entry)
     requires { array_vec_len out.old ≤ 100 }
     ensures text { out.new.items ≡ out.old.items ++ entry_text entry }
-    ensures len { array_vec_len out.new ≡ array_vec_len out.old + 92 }
+    ensures len { array_vec_len out.new ≡ array_vec_len out.old + 109 }
     ensures fits { EntryFits entry }
 {
     put(out, &digits_32(entry.class));
@@ -66,6 +66,8 @@ fn put_entry(out: &mut Words, entry: Entry)
     put(out, &digits_64(entry.since));
     put(out, b" ");
     put(out, &limit_text(entry.limit));
+    put(out, b" ");
+    put(out, &digits_64(entry.asked));
 }
 
 /// The words of a line.
@@ -97,11 +99,13 @@ pub(crate) fn body(line: &Line) -> Words
             put(&mut out, b" ");
             put(&mut out, &digits_64(*to));
         }
-        Line::End { ask, how } => {
+        Line::End { ask, how, at } => {
             put(&mut out, b"end ");
             put(&mut out, &digits_64(*ask));
             put(&mut out, b" ");
             put(&mut out, text_of(*how));
+            put(&mut out, b" ");
+            put(&mut out, &digits_64(*at));
         }
         Line::Note { ask, text } => {
             put(&mut out, b"note ");

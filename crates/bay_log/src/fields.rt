@@ -56,7 +56,7 @@ fn how_of(word: &[u8]) -> Option<How>
 /// What an ask holds, by these words.
 #[tactic(auto, unfolding(crate::specs::Bodies::entry_of))]
 fn entry_of(words: &[u8]) -> Option<Entry>
-    requires { length words.now ≡ 92 }
+    requires { length words.now ≡ 109 }
     ensures { result ≡ entry_of words.now }
 {
     let class = number_32(&words[0..8])?;
@@ -64,12 +64,14 @@ fn entry_of(words: &[u8]) -> Option<Entry>
     let owner = number_128(&words[26..58])?;
     let since = number_64(&words[59..75])?;
     let limit = limit_of(&words[76..92])?;
+    let asked = number_64(&words[93..109])?;
     Some(Entry {
         class,
         needs,
         owner,
         since,
         limit,
+        asked,
     })
 }
 
@@ -92,11 +94,11 @@ fn head_in(words: &[u8]) -> Option<Line>
 fn hold_in(words: &[u8]) -> Option<Line>
     ensures { result ≡ hold_in words.now }
 {
-    if words.len() != 114 {
+    if words.len() != 131 {
         return None;
     }
     let ask = number_64(&words[5..21])?;
-    let entry = entry_of(&words[22..114])?;
+    let entry = entry_of(&words[22..131])?;
     Some(Line::Hold { ask, entry })
 }
 
@@ -118,12 +120,13 @@ fn back_in(words: &[u8]) -> Option<Line>
 fn end_in(words: &[u8]) -> Option<Line>
     ensures { result ≡ end_in words.now }
 {
-    if words.len() < 21 {
+    if words.len() < 38 {
         return None;
     }
     let ask = number_64(&words[4..20])?;
-    let how = how_of(&words[21..])?;
-    Some(Line::End { ask, how })
+    let how = how_of(&words[21..words.len() - 17])?;
+    let at = number_64(&words[words.len() - 16..])?;
+    Some(Line::End { ask, how, at })
 }
 
 /// The note that may have these words.

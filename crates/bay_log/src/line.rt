@@ -3,7 +3,7 @@
 use crate::how::How;
 use crate::text::Text;
 
-/// What an ask holds, and since when.
+/// What an ask holds, since when, and since when it asked.
 #[derive(Clone, Copy, PartialEq, Eq, Debug)]
 pub struct Entry {
     /// The class whose place it has.
@@ -12,9 +12,12 @@ pub struct Entry {
     pub needs: u64,
     /// A hash of the ticket that only the owner knows.
     pub owner: u128,
+    /// Since when it holds.
     pub since: u64,
     /// How long it may hold while somebody waits for it.
     pub limit: Option<u64>,
+    /// Since when it asked.
+    pub asked: u64,
 }
 
 /// One line of a journal.
@@ -27,8 +30,8 @@ pub enum Line {
     Hold { ask: u64, entry: Entry },
     /// What one ask holds is another's from here on.
     Back { from: u64, to: u64 },
-    /// An ask is over.
-    End { ask: u64, how: How },
+    /// An ask is over, since this moment.
+    End { ask: u64, how: How, at: u64 },
     /// A note of whoever asked.
     Note { ask: u64, text: Text },
 }

@@ -15,8 +15,8 @@ pub fn limit(bytes: usize) {
 
 const CHILD: &str = "LABRUN_TEST_CHILD";
 
-/// Runs a test in a process of its own, in which a write beyond the limit fails and no signal ends it. Not in the child of a fork: the threads
-/// of other tests are gone there, and what they were in the midst of stays so.
+/// Runs a test in a process of its own, in which a write beyond the limit fails and no signal ends it. Not in the child of a fork: the
+/// threads of other tests are gone there, and what they were in the midst of stays so.
 pub fn alone(name: &str, test: fn()) {
     often_alone(1, name, test);
 }

@@ -14,7 +14,7 @@ loop-place-smaller c =
     let all = c.let_in_all.ensures.all in
     let same = all_in_open classes c.args.now c.args.terms.keeps all.0 (core l.line l.book) x all.1 in
     let due = c.in-Some.ensures in
-    let less = ended_open x c.in-Some.place c.in-Some.how due.0
+    let less = ended_open x c.in-Some.place c.in-Some.how c.args.now due.0
     (due_open classes c.args.terms c.args.now x (ask_at x.book.asks c.in-Some.place) c.in-Some.how due.1) in
     let now = ap (λ (y : Core). count_by is_open y.book.asks) c.end_at.ensures in
     omega (arith, same, less, now)
@@ -35,7 +35,7 @@ loop-place-preserved c =
     record {
       steps = ends_more classes terms now first x y (lets_more classes terms now first (core l.line l.book) x l.invariant.steps c.let_in_all.ensures.all) ends;
       tied = subst (IsTied classes) (sym c.end_at.ensures)
-          (ended_tied classes x c.in-Some.place c.in-Some.how c.is_sound.ensures due.0 c.let_in_all.ensures.tied);
+          (ended_tied classes x c.in-Some.place c.in-Some.how now c.is_sound.ensures due.0 c.let_in_all.ensures.tied);
     }
 
 pub returns-in_default-clause-follows : goal.returns-in_default-clause-follows

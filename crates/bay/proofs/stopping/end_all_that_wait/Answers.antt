@@ -13,13 +13,13 @@ loop-place-preserved c =
     let l = c.loop-place in let first = core c.args.line.now c.args.book.now in let x = core l.line l.book in
     let y = core c.end_if_it_waits.new.line c.end_if_it_waits.new.book in
     record {
-      stops = subst (λ n. StopsTo n first y) (sym (add-one l.place)) (x, l.invariant.stops, c.end_if_it_waits.ensures.stops);
+      stops = subst (λ n. StopsTo c.args.now n first y) (sym (add-one l.place)) (x, l.invariant.stops, c.end_if_it_waits.ensures.stops);
       tied = c.end_if_it_waits.ensures.tied;
-      many = as_many l.place x y c.end_if_it_waits.ensures.stops ∙ l.invariant.many;
+      many = as_many c.args.now l.place x y c.end_if_it_waits.ensures.stops ∙ l.invariant.many;
     }
 
 pub returns : goal.returns
 returns c =
     let l = c.loop-place in
     let all : l.place ≡ length c.args.book.now.asks = omega (arith, c.loop-place-test.false, l.auto.place-end, c.len-place-end.ensures) in
-    record { stops = subst (λ n. StopsTo n (core c.args.line.now c.args.book.now) (core l.line l.book)) all l.invariant.stops; tied = l.invariant.tied }
+    record { stops = subst (λ n. StopsTo c.args.now n (core c.args.line.now c.args.book.now) (core l.line l.book)) all l.invariant.stops; tied = l.invariant.tied }

@@ -4,4 +4,4 @@ use Rattle.bay_book.specs.Moments.{is_late}
 use Rattle.bay_book.proofs.finding.first_late.Given as goal
 
 abbrev pub invariant-loop-place : goal.invariant-loop-place
-invariant-loop-place l = (i : ℕ) → i < l.place → is_late l.now l.disk (ask_at l.asks i) ≡ false
+invariant-loop-place l = (i : ℕ) → i < l.place → is_late l.now l.durable l.disk (ask_at l.asks i) ≡ false

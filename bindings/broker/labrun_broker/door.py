@@ -1,0 +1,99 @@
+"""Where the broker listens, and who is let in."""
+
+from __future__ import annotations
+
+import asyncio
+import os
+import socket
+import ssl
+import stat
+from dataclasses import dataclass
+from typing import Any, Optional
+
+import grpc
+
+from .bay import BadAddress, is_here
+from .sockets import check_group, clear
+
+
+@dataclass(frozen=True)
+class Door:
+    """Where the broker listens, and who is let in: by the mode of the socket, or by certificate, key and token."""
+
+    addresses: tuple[str, ...]
+    certificate: Optional[str] = None
+    key: Optional[str] = None
+    token_file: Optional[str] = None
+    group: Optional[str] = None
+
+    def token(self) -> Optional[str]:
+        if self.token_file is None:
+            return None
+        with open(self.token_file, encoding="ascii") as file:
+            if stat.S_IMODE(os.fstat(file.fileno()).st_mode) & 0o007:
+                raise BadAddress(f"{self.token_file}: everybody on this machine may read it: chmod o= {self.token_file}")
+            token = file.read().strip()
+        if len(token) < 16:
+            raise BadAddress(f"{self.token_file}: a token of 16 characters or more is wanted: openssl rand -hex 32 > {self.token_file}")
+        return token
+
+    def credentials(self) -> Any:
+        if self.certificate is None or self.key is None:
+            return None
+        try:
+            # (gRPC would say so in thirty lines)
+            ssl.SSLContext(ssl.PROTOCOL_TLS_SERVER).load_cert_chain(self.certificate, self.key)
+        except ssl.SSLError as fault:
+            raise BadAddress(f"{self.certificate} and {self.key} are no certificate and its key: {fault.reason or fault}") from None
+        with open(self.key, "rb") as key, open(self.certificate, "rb") as certificate:
+            return grpc.ssl_server_credentials([(key.read(), certificate.read())])
+
+    def check(self) -> None:
+        check_group(self.group)
+        if (self.certificate is None) != (self.key is None):
+            raise BadAddress("a certificate and its key belong together: --tls-certificate FILE --tls-key FILE")
+        for address in self.addresses:
+            if not address.startswith("unix:") and not is_loopback(address) and (self.certificate is None or self.token_file is None):
+                raise BadAddress(
+                    f"{address} is seen by other machines: that takes a certificate and a token, --tls-certificate FILE --tls-key FILE --token-file FILE"
+                )
+
+
+def is_loopback(address: str) -> bool:
+    host, colon, port = address.rpartition(":")
+    if not colon or not port.isdigit():
+        raise BadAddress(f"{address}: unix:PATH or HOST:PORT is wanted")
+    return is_here(host.strip("[]"))
+
+
+class Complaints:
+    """What nobody catches is told, with its traceback, once in a while: a client can't fill the log. That a stream was over before gRPC
+    could say how it ended is no fault."""
+
+    PAUSE = 10.0
+
+    def __init__(self) -> None:
+        self.next, self.passed = 0.0, 0
+
+    def __call__(self, loop: asyncio.AbstractEventLoop, context: dict[str, Any]) -> None:
+        if type(context.get("exception")).__name__ == "ExecuteBatchError":
+            return
+        if loop.time() < self.next:
+            self.passed += 1
+            return
+        if self.passed:
+            context = {**context, "message": f"{context.get('message')} (and {self.passed} before it)"}
+        self.next, self.passed = loop.time() + self.PAUSE, 0
+        loop.default_exception_handler(context)
+
+
+def check_free(address: str) -> None:
+    """Nobody listens there. A socket that a broker left which is gone is taken away."""
+    if address.startswith("unix:"):
+        return clear(address.removeprefix("unix:"))
+    host, _, port = address.rpartition(":")
+    try:
+        kind = socket.AF_INET6 if ":" in host else socket.AF_INET
+        socket.create_server((host.strip("[]"), int(port)), family=kind).close()
+    except (OSError, OverflowError) as fault:
+        raise BadAddress(f"{address}: it can't listen there: {getattr(fault, 'strerror', None) or fault}") from None

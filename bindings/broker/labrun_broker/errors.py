@@ -1,0 +1,80 @@
+"""What a client may be told, as exceptions: the package's, with the broker's text."""
+
+from __future__ import annotations
+
+from typing import Any, Callable
+
+import grpc
+import labrun
+
+
+class BrokerError(labrun.LabrunError):
+    """The broker said no."""
+
+
+class Unreachable(labrun.LabrunError, ConnectionError):
+    """The broker can't be reached, or doesn't let this client in."""
+
+
+class _Told(Exception):
+    """One of the package's errors, with the broker's text."""
+
+    def __init__(self, text: str) -> None:
+        Exception.__init__(self, text)
+
+    def __reduce__(self) -> Any:
+        return type(self), (str(self),)
+
+
+class TimeoutError(_Told, labrun.TimeoutError):  # noqa: A001
+    """The time limit passed, and the session was given up. The text says who kept it waiting."""
+
+
+class NotHeld(_Told, labrun.NotHeld):
+    """The session doesn't hold its instruments."""
+
+
+class TakenAway(_Told, labrun.TakenAway):
+    """The session was ended for its owner, or the broker hasn't answered for so long that it may be. Others may be at its instruments soon."""
+
+
+class MayNotUse(_Told, labrun.MayNotUse):
+    """The station, or a guest, may not use one of the instruments."""
+
+
+class JournalError(_Told, labrun.JournalError):
+    """The broker couldn't write it down, so it isn't done."""
+
+
+class Stopped(_Told, labrun.Stopped):
+    """The broker ends, and nobody comes to hold any more."""
+
+
+class BadWish(_Told, labrun.LabrunError, ValueError):
+    """What was asked for can't be."""
+
+
+KINDS: dict[str, Callable[[str], Exception]] = {
+    "TimeoutError": TimeoutError,
+    "TakenAway": TakenAway,
+    "NotHeld": NotHeld,
+    "LetGo": NotHeld,
+    "MayNotUse": MayNotUse,
+    "JournalError": JournalError,
+    "Stopped": Stopped,
+    "BadWish": BadWish,
+}
+
+
+def raised(fault: Any) -> Exception:
+    return KINDS.get(fault.kind, BrokerError)(fault.text)
+
+
+def why_lost(address: str, code: Any, text: str) -> Exception:
+    if code is grpc.StatusCode.DEADLINE_EXCEEDED:
+        return Unreachable(f"the broker at {address} doesn't answer")
+    if code in (grpc.StatusCode.UNAVAILABLE, grpc.StatusCode.UNKNOWN, grpc.StatusCode.CANCELLED):
+        return Unreachable(f"the broker at {address} can't be reached: {text}")
+    if code in (grpc.StatusCode.UNAUTHENTICATED, grpc.StatusCode.RESOURCE_EXHAUSTED):
+        return Unreachable(f"the broker at {address} doesn't let this client in: {text}")
+    return NotHeld(text) if code is grpc.StatusCode.FAILED_PRECONDITION else BrokerError(text)

@@ -1,0 +1,103 @@
+"""The state folder: where the bay's journal is kept, what its numbers mean, and the records. Nothing else of the broker knows of files."""
+
+from __future__ import annotations
+
+import contextlib
+import os
+import re
+from typing import Protocol
+
+from labrun import JournalError, LabrunError
+from labrun.store import FileStore, Store
+
+from .places import Places, places_of
+from .records import Record, Records
+from .sessions import recent_records
+
+JOURNAL, PLACES, RECORDS = "bay.journal", "bay.json", "records.jsonl"
+A_BAYS = re.compile(rb"[0-9a-f]{16} bay ")
+
+
+class State(Protocol):
+    """What of a bay outlives its broker."""
+
+    store: Store
+    records: Records
+
+    def places(self, is_needed: bool) -> Places:
+        """As they were written last. If they never were: empty ones, or a JournalError if they are needed."""
+
+    def keeps(self, places: Places) -> None:
+        """They outlive a crash. OSError: nobody knows which are there."""
+
+    def recent(self) -> list[Record]:
+        """The last records that there are, as many as a broker that begins has to know."""
+
+    def close(self) -> None: ...
+
+
+class Folder:
+    """A folder of this process alone. LabrunError and OSError say why it can't be."""
+
+    def __init__(self, path: str, syncs: bool) -> None:
+        self.path, self._syncs = path, syncs
+        os.makedirs(path, 0o750, exist_ok=True)
+        _looks_at_former(path)
+        try:
+            self.store: Store = FileStore(f"{path}/{JOURNAL}", syncs, 0o640)
+        except JournalError:
+            raise LabrunError(f"{path}: another broker keeps its state there") from None
+        try:
+            self.records = Records(f"{path}/{RECORDS}", syncs)
+        except BaseException:
+            self.store.close()
+            raise
+
+    def places(self, is_needed: bool) -> Places:
+        path = f"{self.path}/{PLACES}"
+        try:
+            with open(path, encoding="utf-8") as file:
+                return places_of(file.read())
+        except FileNotFoundError:
+            if is_needed:
+                raise JournalError(path, "it isn't there, and the journal can't be read without it") from None
+            return Places()
+        except ValueError as fault:
+            raise JournalError(path, f"it isn't as the broker wrote it, and the journal can't be read without it: {fault}") from None
+
+    def keeps(self, places: Places) -> None:
+        path, new = f"{self.path}/{PLACES}", f"{self.path}/{PLACES}.new"
+        with open(os.open(new, os.O_WRONLY | os.O_CREAT | os.O_TRUNC | os.O_CLOEXEC, 0o640), "w", encoding="utf-8") as file:
+            file.write(places.text())
+            file.flush()
+            if self._syncs:
+                os.fsync(file.fileno())
+        os.replace(new, path)
+        if self._syncs:
+            folder = os.open(self.path, os.O_RDONLY | os.O_CLOEXEC)
+            try:
+                os.fsync(folder)
+            finally:
+                os.close(folder)
+
+    def recent(self) -> list[Record]:
+        return recent_records(self.path)
+
+    def close(self) -> None:
+        self.store.close()
+        self.records.close()
+
+
+def _looks_at_former(folder: str) -> None:
+    """The journal of a broker from before the bay can't be gone on with."""
+    path = f"{folder}/{JOURNAL}"
+    with contextlib.suppress(FileNotFoundError), open(path, "rb") as file:
+        first = file.read(22)
+        if first.startswith(b"lab "):
+            raise JournalError(
+                path,
+                "an older labrun-broker wrote it, and this one can't go on with it. With the older one let all sessions end, and end it; "
+                f"then move {JOURNAL}, its numbered files and lock out of {folder} (the records may stay), and begin again",
+            )
+        if len(first) == 22 and not A_BAYS.match(first):
+            raise JournalError(path, "it is no journal of a bay")

@@ -1,0 +1,334 @@
+"""A session of a client, as the broker keeps it."""
+
+from __future__ import annotations
+
+import asyncio
+import math
+import secrets
+from types import TracebackType
+from typing import TYPE_CHECKING, Any, Callable, Optional
+
+import grpc
+import labrun
+
+from . import broker_pb2 as pb
+from .errors import BadWish, NotHeld, TakenAway, raised, why_lost
+from .stream import AGAIN, Lost, Stream
+from .work import clock
+
+if TYPE_CHECKING:
+    from .client import Lab
+
+# for how long a client tries to reach a broker again that it waits for
+GRACE = 60.0
+PAUSE = 0.1  # between such tries
+# so many pings in the time for which a session is held after one
+BEATS = 6
+MOST_FAILED = 10000  # characters that are told of work that failed
+
+
+class Held:
+    """A session, as the broker keeps it. `with` it, or call `acquire` and `release`. `instruments`, `station` and `number` are known once it
+    holds."""
+
+    def __init__(self, lab: Lab, wish: Any, timeout: Optional[float], waits: Optional[Callable[[str], None]]) -> None:
+        self.lab, self.timeout = lab, timeout
+        self.instruments: tuple[str, ...] = tuple(wish.instruments)
+        self.station, self.number, self.state = "", 0, "new"
+        self._wish, self._waits = wish, waits
+        self._stream: Optional[Stream] = None
+        self._taken: Optional[Exception] = None
+        # for how long it is held after a word that the broker answered, and so until when, by `clock`; and who sends such words. Nobody else holds
+        # its instruments before that, whatever becomes of the connection (LEASE in keeping.py)
+        self._lease: Optional[float] = None
+        self._until = math.inf
+        self._beats: Optional[asyncio.Task[None]] = None
+        # what its owner asks now, and since when; and who looks for another stream
+        self._asked: dict[str, Any] = {}
+        self._asked_at = 0.0
+        self._returns: Optional[asyncio.Task[None]] = None
+        # it is called, on another thread, if the session was taken away while its owner works
+        self.on_taken: Optional[Callable[[Exception], None]] = None
+
+    @property
+    def held(self) -> bool:
+        """Whether nobody else can hold its instruments."""
+        return self.state == "held" and clock() < self._until
+
+    @property
+    def is_released_if_gone(self) -> bool:
+        """Whether the broker lets it go by itself once it hasn't heard from this client for a while (`gone = "release"`)."""
+        return self._lease is not None
+
+    def acquire(self) -> None:
+        """Blocks until the session holds all its instruments."""
+        try:
+            self.lab._run(self._acquire())
+        except BaseException:
+            if self.state == "held":
+                self.release()
+            raise
+
+    async def acquire_async(self) -> None:
+        """As `acquire`, for a task of asyncio."""
+        try:
+            await self.lab._run_async(self._acquire())
+        except BaseException:
+            if self.state == "held":
+                await self.release_async()
+            raise
+
+    def note(self, text: object) -> None:
+        """Writes a line to the records, as a reading."""
+        self.lab._run(self._ask(note=pb.Note(text=str(text))))
+
+    async def note_async(self, text: object) -> None:
+        await self.lab._run_async(self._ask(note=pb.Note(text=str(text))))
+
+    def release(self, failed: Optional[str] = None) -> None:
+        """Lets the instruments go; `failed` says what went wrong with the work. TakenAway if the session was ended before."""
+        self.lab._run(self._let_go(failed))
+
+    async def release_async(self, failed: Optional[str] = None) -> None:
+        await self.lab._run_async(self._let_go(failed))
+
+    def __enter__(self) -> Held:
+        self.acquire()
+        return self
+
+    def __exit__(self, kind: Optional[type[BaseException]], fault: Optional[BaseException], at: Optional[TracebackType]) -> None:
+        try:
+            if self.state == "held" or self._taken is not None:
+                self.release(_failure(kind, fault))
+        except labrun.LabrunError:
+            # (what the body raised is told first)
+            if kind is None:
+                raise
+
+    async def __aenter__(self) -> Held:
+        await self.acquire_async()
+        return self
+
+    async def __aexit__(self, kind: Optional[type[BaseException]], fault: Optional[BaseException], at: Optional[TracebackType]) -> None:
+        try:
+            if self.state == "held" or self._taken is not None:
+                await self.release_async(_failure(kind, fault))
+        except labrun.LabrunError:
+            if kind is None:
+                raise
+
+    # what follows runs on the lab's loop
+
+    async def _acquire(self) -> None:
+        if self.state in ("waiting", "held"):
+            raise labrun.LabrunError(f"the session is {self.state} already")
+        loop = asyncio.get_running_loop()
+        self._wish.ticket, self._taken, self.state = secrets.token_urlsafe(), None, "waiting"
+        until = None if self.timeout is None else loop.time() + self.timeout
+        lost_at: Optional[float] = None
+        try:
+            while not await self._comes_to_hold(loop, until, lost_at):
+                lost_at = lost_at or loop.time()
+        except BaseException:
+            self.state = "withdrawn"
+            raise
+        # (it may have been taken away, or the stream have ended, just now)
+        self._raises_taken()
+        self.state = "held"
+        self.lab._held.add(self)
+        if self._lease is not None:
+            self._beats = asyncio.create_task(self._stays_sure(self._lease))
+        if self._stream is not None and self._stream.is_lost:
+            self._is_cut()
+
+    async def _comes_to_hold(self, loop: asyncio.AbstractEventLoop, until: Optional[float], lost_at: Optional[float]) -> bool:
+        """Whether it holds; if not, the stream ended, and it is worth another try."""
+        lab = self.lab
+        is_new = not lab._idle
+        stream = Stream(lab) if is_new else lab._idle.pop()
+        stream.session = self
+        try:
+            if is_new:
+                await stream.opens()
+                lab._was_there = True
+            if until is not None:
+                self._wish.timeout = max(0.0, until - loop.time())
+            sent = clock()
+            kind, told = await stream.asks(wish=self._wish)
+            if kind == "held" and told.HasField("lease") and clock() > sent + told.lease / BEATS:
+                # (the wish is old: what was told may be, too)
+                sent = await stream.keeps()
+        except Lost as lost:
+            self._raises_taken()
+            # (one that was idle may be of a broker that is gone)
+            is_over = lost_at is not None and loop.time() > lost_at + GRACE or until is not None and loop.time() > until
+            if is_new and (lost.code not in AGAIN or not lab._was_there or is_over):
+                raise why_lost(lab.address, lost.code, str(lost)) from None
+            if is_new:
+                await asyncio.sleep(PAUSE)
+            return False
+        except asyncio.CancelledError:
+            await stream.gives_up()
+            raise
+        except BaseException:
+            stream.cancel()
+            raise
+        if kind == "fault":
+            stream.is_idle()
+            raise raised(told)
+        self._holds(stream, told, sent)
+        return True
+
+    def _holds(self, stream: Stream, told: Any, sent: float) -> None:
+        """The broker said so in answer to what was sent then."""
+        self._stream = stream
+        self._lease = told.lease if told.HasField("lease") else None
+        self._until = math.inf if self._lease is None else sent + self._lease
+        self.instruments, self.station, self.number = tuple(told.instruments), told.station, told.session
+
+    def _waits_for(self, text: str) -> None:
+        if self._waits is not None:
+            self._waits(text)
+
+    def _is_sure(self, sent: float) -> None:
+        """The broker answered what was sent then, and it holds."""
+        if self._lease is not None:
+            self._until = max(self._until, sent + self._lease)
+
+    async def _stays_sure(self, lease: float) -> None:
+        """Says again and again that the client is there. If the broker doesn't answer the session is over in time, whatever the connection does."""
+        ping: Optional[asyncio.Task[None]] = None
+        while self.state == "held" and (left := self._until - clock()) > 0:
+            # (a question that its owner has asked is a word, too)
+            if self._stream is not None and self._returns is None and not self._asked and (ping is None or ping.done()):
+                ping = asyncio.create_task(self._stream.pings())
+            await asyncio.sleep(min(left, lease / BEATS))
+        self._looks_at_the_time()
+
+    def _looks_at_the_time(self) -> None:
+        if self.state != "held" or clock() < self._until:
+            return
+        what = ", ".join(self.instruments)
+        fault = TakenAway(f"{self.station}: the broker hasn't answered for {self._lease or 0:g} s, so others may hold these soon: {what}")
+        stream, returns = self._stream, self._returns
+        if returns is None and stream is not None:
+            self._is_taken(stream, fault)
+            return
+        if returns is not None:
+            returns.cancel()
+        self._is_over("taken", fault)
+
+    def _is_taken(self, stream: Stream, fault: Exception) -> None:
+        if self._asked:
+            stream.ends(fault)
+        stream.cancel()
+        self._is_over("taken", fault)
+
+    def _is_cut(self) -> None:
+        """The stream ended. A session that is held comes back on another one, while its owner works."""
+        if self.state == "held" and self._returns is None and not self.lab._has_left:
+            self._returns = asyncio.create_task(self._comes_back(asyncio.get_running_loop()))
+
+    async def _comes_back(self, loop: asyncio.AbstractEventLoop) -> None:
+        """The session goes on to hold, on another stream, or is over. It is tried while the broker keeps the session, or for so long as an
+        owner waits who asked for something."""
+        wish = pb.Wish(ticket=self._wish.ticket, by=self._wish.by, comes_back=True, pings=True)
+        while True:
+            stream, sent = Stream(self.lab), clock()
+            stream.session = self
+            try:
+                kind, told = await stream.asks(wish=wish)
+                if self.state != "held":  # it was taken away just now
+                    stream.cancel()
+                    return
+                if kind == "held" and not stream.is_lost:
+                    self._returns = None
+                    return self._holds(stream, told, sent)
+                if kind == "fault":
+                    was_done = told.kind == "LetGo" and "let_go" in self._asked
+                    return self._is_over("finished" if was_done else "taken", None if was_done else raised(told))
+            except Lost as lost:
+                now = loop.time()
+                is_late = bool(self._asked) and now > self._asked_at + GRACE
+                # (where too many clients are, there may be room later)
+                if lost.code not in (*AGAIN, grpc.StatusCode.RESOURCE_EXHAUSTED) or is_late:
+                    return self._is_over("lost", why_lost(self.lab.address, lost.code, str(lost)))
+            except asyncio.CancelledError:
+                stream.cancel()
+                raise
+            stream.cancel()
+            await asyncio.sleep(PAUSE)
+
+    def _is_over(self, state: str, fault: Optional[Exception]) -> None:
+        self.state, self._taken, self._stream, self._returns = state, fault, None, None
+        self.lab._held.discard(self)
+        if self._beats is not None and self._beats is not asyncio.current_task():
+            self._beats.cancel()
+        if fault is not None and not self._asked and self.on_taken is not None:
+            self.on_taken(fault)
+
+    async def _ask(self, **what: Any) -> None:
+        """Asks, and waits for the answer; if the stream ends meanwhile it is asked again on the next one."""
+        self._looks_at_the_time()
+        self._raises_taken()
+        if self.state != "held":
+            raise NotHeld(f"the session is {self.state}: it doesn't hold its instruments")
+        if self._asked:
+            raise labrun.LabrunError("another thread asks something of this session")
+        self._asked, self._asked_at = what, asyncio.get_running_loop().time()
+        try:
+            await self._is_answered(what)
+        finally:
+            self._asked = {}
+
+    async def _is_answered(self, what: dict[str, Any]) -> None:
+        pause = PAUSE
+        while self.state == "held":
+            if (returns := self._returns) is not None:
+                await asyncio.wait({returns})
+                if self._returns is returns and not returns.cancelled():
+                    returns.result()
+                if self._returns is returns:
+                    raise NotHeld("the lab is closed")
+                continue
+            stream, sent = self._stream, clock()
+            assert stream is not None
+            try:
+                kind, told = await stream.asks(**what)
+            except Lost as lost:
+                self._is_cut()
+                if self._returns is None:
+                    raise NotHeld("the lab is closed") from None
+                if lost.code is grpc.StatusCode.RESOURCE_EXHAUSTED and "note" in what:
+                    raise BadWish(f"the broker doesn't take this note: {lost}") from None
+                if asyncio.get_running_loop().time() > self._asked_at + GRACE:
+                    raise why_lost(self.lab.address, lost.code, str(lost)) from None
+                # (it comes back meanwhile)
+                await asyncio.sleep(pause)
+                pause = min(2 * pause, 1.0)
+                continue
+            except labrun.LabrunError:
+                self._raises_taken()
+                raise
+            if kind == "fault":
+                raise raised(told)
+            if kind == "gone":
+                stream.is_idle()
+                self._is_over("finished", None)
+            elif stream is self._stream:
+                self._is_sure(sent)
+            return
+        self._raises_taken()
+
+    def _raises_taken(self) -> None:
+        """The owner is told once, if the session was ended before."""
+        if self._taken is not None:
+            fault, self._taken = self._taken, None
+            raise fault
+
+    async def _let_go(self, failed: Optional[str]) -> None:
+        await self._ask(let_go=pb.LetGo(failed=failed and failed[:MOST_FAILED]))
+
+
+def _failure(kind: Optional[type[BaseException]], fault: Optional[BaseException]) -> Optional[str]:
+    return None if kind is None else f"{kind.__name__}: {fault}"[:200]

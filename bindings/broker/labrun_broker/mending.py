@@ -1,0 +1,60 @@
+"""What the records lost, as the bay's journal has it: of a broker that was killed, or whose machine was, right between the two."""
+
+from __future__ import annotations
+
+from typing import Iterable, Optional
+
+from .journals import Left
+from .places import Places
+from .records import Record
+from .sessions import ENDS
+
+AS_IT_IS = "as the journal has it"
+MANY = 1000  # records
+
+
+def labels(records: Iterable[Record]) -> dict[int, str]:
+    """Which station each session was of, by the records."""
+    return {it["session"]: it["station"] for it in records if it.get("session") and it.get("station")}
+
+
+def missing(left: dict[int, Left], records: list[Record], places: Places) -> list[Record]:
+    """The records that aren't there, of sessions that held; `left` has them as they came to hold."""
+    held = {it["session"] for it in records if it["what"] == "held"}
+    over = {it["session"] for it in records if it["what"] in ENDS}
+    noted = {(it["session"], it.get("text")) for it in records if it["what"] == "note"}
+    named = labels(records)
+    found: list[Record] = []
+    for it in _since_the_first(list(left.values()), held, len(records)):
+        about = _About(it, places, named.get(it.number, ""))
+        if it.number not in held:
+            found.append(about.record("held", it.since / 1000))
+        found += [about.record("note", it.since / 1000, text) for text in it.notes if (it.number, text) not in noted]
+        if it.how and it.number not in over:
+            found.append(about.record(it.what, (it.until or 0) / 1000))
+    return found
+
+
+def _since_the_first(left: list[Left], held: set[Optional[int]], count: int) -> list[Left]:
+    """Those that came to hold since the first of the records, of which only the last were read. (If so many say of none that it holds,
+    those of the others were before.)"""
+    if not held:
+        return left if count < MANY else []
+    return left[next((at for at, it in enumerate(left) if it.number in held), len(left)) :]
+
+
+class _About:
+    """What all records of a session have."""
+
+    def __init__(self, it: Left, places: Places, label: str) -> None:
+        self._station = places.station(it.kind) or it.station or label or "a guest"
+        self._it, self._instruments = it, list(places.names(it.needs))
+
+    def record(self, what: str, t: float, text: Optional[str] = None) -> Record:
+        """(When a note was written isn't in the journal: not before its session held.)"""
+        of = {"station": self._station, "session": self._it.number, "instruments": self._instruments, "by": self._it.by or None}
+        return {"t": round(t, 6), "what": what, **of, "text": self._why(what) if text is None else text}
+
+    def _why(self, what: str) -> str:
+        why: Optional[str] = self._it.failed if what == "failed" else f"by {self._it.taken}" if what == "taken" and self._it.taken else None
+        return f"{why}, {AS_IT_IS}" if why else AS_IT_IS

@@ -1,0 +1,80 @@
+"""Which bit of the bay's machine each instrument is, and which class each station. The guests are class 0, of so many places as the bay
+says; a station is a class of one place.
+
+A name keeps its place for as long as the state is kept. So a bay may get and lose instruments and stations, and the journal means the
+same."""
+
+from __future__ import annotations
+
+import hashlib
+import json
+from dataclasses import dataclass, replace
+from typing import Any, Iterable, Optional, Sequence
+
+from .bay import MOST_INSTRUMENTS, MOST_STATIONS, Bay, BayFault
+
+GUESTS = 0
+
+
+@dataclass(frozen=True)
+class Places:
+    """`grace` is the longest that a client may have been told of a session that holds, in milliseconds; None: for ever."""
+
+    instruments: tuple[str, ...] = ()
+    stations: tuple[str, ...] = ()
+    grace: Optional[int] = 0
+
+    def with_bay(self, bay: Bay) -> Places:
+        """The same, and places for what is new in the bay. BayFault: there are none left."""
+        instruments = tuple(dict.fromkeys((*self.instruments, *bay.instruments)))
+        stations = tuple(dict.fromkeys((*self.stations, *bay.stations)))
+        for what, names, most in (("instruments", instruments, MOST_INSTRUMENTS), ("stations", stations, MOST_STATIONS)):
+            if len(names) > most:
+                why = f"with those that the state folder knows there are {len(names)}; {most} are the most"
+                raise BayFault(what, [f"{why}: begin with a new folder"])
+        return replace(self, instruments=instruments, stations=stations)
+
+    def classes(self, bay: Bay) -> list[tuple[int, int]]:
+        """The classes of the machine. Of a station that isn't in the bay any more nobody may use anything."""
+        return [(self.bits(bay.guests_use), max(1, bay.guests)), *((self.bits(bay.stations.get(name, ())), 1) for name in self.stations)]
+
+    def bits(self, names: Iterable[str]) -> int:
+        return sum(1 << self.instruments.index(name) for name in set(names))
+
+    def names(self, bits: int) -> tuple[str, ...]:
+        return tuple(name for at, name in enumerate(self.instruments) if bits >> at & 1)
+
+    def kind(self, station: str) -> int:
+        return 1 + self.stations.index(station) if station else GUESTS
+
+    def station(self, kind: int) -> str:
+        """Its name; nothing for a guest."""
+        return self.stations[kind - 1] if 0 < kind <= len(self.stations) else ""
+
+    def text(self) -> str:
+        return json.dumps({"instruments": self.instruments, "stations": self.stations, "grace": self.grace}) + "\n"
+
+
+def places_of(text: str) -> Places:
+    """ValueError: it is none."""
+    given = json.loads(text)
+    if not isinstance(given, dict) or not all(_are_names(given.get(key)) for key in ("instruments", "stations")):
+        raise ValueError("names of instruments and stations are wanted")
+    grace = given.get("grace")
+    if grace is not None and (not isinstance(grace, int) or grace < 0):
+        raise ValueError("a grace is a number of milliseconds, or null")
+    return Places(tuple(given["instruments"]), tuple(given["stations"]), grace)
+
+
+def _are_names(given: Any) -> bool:
+    return isinstance(given, list) and all(isinstance(it, str) for it in given) and len(set(given)) == len(given)
+
+
+def mark_of(bay: Bay) -> bytes:
+    """By which the machine knows the journal of this bay: by its name, for all else of it may change."""
+    return hashlib.sha256(f"bay {bay.name}".encode()).digest()
+
+
+def longest(graces: Sequence[Optional[int]]) -> Optional[int]:
+    """Of some graces, of which None is for ever."""
+    return None if None in graces else max(it for it in graces if it is not None)

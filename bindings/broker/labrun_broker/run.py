@@ -1,0 +1,129 @@
+"""labrun-broker hold: runs a command while it holds."""
+
+from __future__ import annotations
+
+import argparse
+import contextlib
+import ctypes
+import os
+import signal
+import subprocess
+from typing import Callable, Iterator, Optional
+
+import labrun
+
+from .client import user
+from .held import Held
+from .texts import plain, seconds
+from .words import CANT_RUN, NOT_FOUND, PROGRAM, TAKEN, USAGE, add_client, lab_of, say
+
+
+def add_hold(parser: argparse.ArgumentParser) -> None:
+    parser.add_argument("instruments", metavar="INSTRUMENT", nargs="+", help="what the command needs, all at once")
+    parser.add_argument("--timeout", metavar="SECONDS", type=seconds, help="how long to wait for them at most")
+    parser.add_argument("--any", action="store_true", help="one of these is enough; with a comma, as in load-1,load-2, a choice has several")
+    parser.add_argument("--station", metavar="NAME", default="", help="as which station; a guest without")
+    parser.add_argument("--by", metavar="TEXT", help="who holds, for people to read; user, machine and command without")
+    parser.add_argument("--quiet", action="store_true", help="don't say for whom it waits")
+    add_client(parser)
+    parser.usage = f"{PROGRAM} hold INSTRUMENT .. [options] -- COMMAND [ARGUMENT ..]"
+    parser.set_defaults(command=[])
+
+
+def run_hold(args: argparse.Namespace) -> int:
+    if not args.command:
+        say("hold: say what to run, behind `--`: labrun-broker hold scope -- ./measure.sh")
+        return USAGE
+    what = os.path.basename(args.command[0])
+    with lab_of(args, station=args.station, by=args.by or f"{user()} {os.getpid()} {what}"[:64]) as lab:
+        waits = None if args.quiet else lambda text: say(f"waits: {plain(text)}")
+        if args.any:
+            held = lab.hold(any_of=[it.split(",") for it in args.instruments], timeout=args.timeout, waits=waits)
+        else:
+            held = lab.hold(*args.instruments, timeout=args.timeout, waits=waits)
+        with passing_on() as signals, held:
+            status = runs(args.command, held, signals)
+            if held.held:
+                held.release(f"status {status}" if status else None)
+    return status
+
+
+def runs(command: list[str], held: Held, signals: Signals) -> int:
+    """Runs a command, and gives its status. A session that is taken away ends it."""
+    environment = {**os.environ, "LABRUN_HELD": " ".join(held.instruments), "LABRUN_STATION": held.station}
+    taken: list[Exception] = []
+    try:
+        process = signals.starts(command, environment, held.is_released_if_gone)
+    except OSError as fault:
+        say(f"{command[0]}: {fault.strerror}")
+        return NOT_FOUND if isinstance(fault, FileNotFoundError) else CANT_RUN
+
+    def ends(fault: Exception) -> None:
+        taken.append(fault)
+        say(f"{plain(fault)}; the command is ended")
+        process.terminate()
+
+    held.on_taken = ends
+    if not held.held and not taken:
+        ends(labrun.NotHeld("the session is over"))
+    status = process.wait()
+    return TAKEN if taken else status if status >= 0 else 128 - status
+
+
+PR_SET_PDEATHSIG = 1
+
+
+def ends_with(parent: int) -> Callable[[], None]:
+    """What a child does before it becomes the command: it asks for SIGTERM once its parent is dead, however that died."""
+    prctl = ctypes.CDLL(None).prctl
+
+    def asks() -> None:
+        prctl(PR_SET_PDEATHSIG, int(signal.SIGTERM), 0, 0, 0)
+        if os.getppid() != parent:
+            os.kill(os.getpid(), signal.SIGTERM)
+
+    return asks
+
+
+class Signals:
+    """What comes before there is a command ends this process; from there on it is sent on. (A terminal sends Ctrl-C to all of its foreground.)"""
+
+    def __init__(self) -> None:
+        self.process: Optional[subprocess.Popen[bytes]] = None
+        self.is_starting = False
+        self.came: list[int] = []
+
+    def starts(self, command: list[str], environment: dict[str, str], ends_with_this: bool = False) -> subprocess.Popen[bytes]:
+        self.is_starting = True
+        self.process = subprocess.Popen(command, env=environment, preexec_fn=ends_with(os.getpid()) if ends_with_this else None)
+        for number in self.came:
+            self.process.send_signal(number)
+        return self.process
+
+    def comes(self, number: int, _: object) -> None:
+        if self.process is not None:
+            self.sends_on(number, self.process)
+        elif self.is_starting:
+            self.came.append(number)
+        elif number == signal.SIGINT:
+            raise KeyboardInterrupt
+        else:
+            raise SystemExit(128 + number)
+
+    def sends_on(self, number: int, process: subprocess.Popen[bytes]) -> None:
+        with contextlib.suppress(OSError):
+            if number == signal.SIGINT and os.isatty(0) and os.tcgetpgrp(0) == os.getpgrp():
+                return
+        process.send_signal(number)
+
+
+@contextlib.contextmanager
+def passing_on() -> Iterator[Signals]:
+    signals = Signals()
+    numbers = (signal.SIGINT, signal.SIGTERM, signal.SIGHUP, signal.SIGQUIT)
+    before = {number: signal.signal(number, signals.comes) for number in numbers}
+    try:
+        yield signals
+    finally:
+        for number, what in before.items():
+            signal.signal(number, what)

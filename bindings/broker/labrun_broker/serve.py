@@ -1,0 +1,105 @@
+"""labrun-broker serve."""
+
+from __future__ import annotations
+
+import argparse
+import asyncio
+import contextlib
+import os
+import resource
+import signal
+import socket
+import sys
+from typing import TYPE_CHECKING, Any
+
+from .bay import read_bay
+from .client import DEFAULT
+from .texts import plain, seconds
+from .words import USAGE, say
+
+if TYPE_CHECKING:
+    from .keeping import Keeping
+
+LEAST_GRACE = 1.0
+
+
+def add_serve(parser: argparse.ArgumentParser) -> None:
+    parser.add_argument("bay", metavar="BAY", help="the bay, a TOML file; see `bay check`")
+    parser.add_argument("--state", metavar="DIR", help="keep the journal and the records there: a broker that is killed goes on where it was")
+    parser.add_argument("--listen", metavar="ADDR", action="append", help=f"unix:PATH or HOST:PORT, as often as wanted; {DEFAULT} without")
+    parser.add_argument("--group", metavar="GROUP", help="whose members may use the Unix sockets, which have the mode 0660")
+    grace = "with gone = \"release\": for how long a session is kept whose client says nothing, 60 without"
+    parser.add_argument("--grace", metavar="SECONDS", type=seconds, default=60.0, help=grace)
+    parser.add_argument("--page", metavar="ADDR", help="show how the bay stands to browsers there")
+    parser.add_argument("--metrics", metavar="ADDR", help="tell Prometheus there")
+    parser.add_argument("--tls-certificate", metavar="FILE", help="for other machines: the broker's certificate")
+    parser.add_argument("--tls-key", metavar="FILE", help="its key")
+    parser.add_argument("--token-file", metavar="FILE", help="what clients have to know that come by the network")
+    parser.add_argument("--sync", choices=("data", "none"), default="data", help="none: what is written outlives the broker, and may not the machine")
+
+
+def run_serve(args: argparse.Namespace) -> int:
+    return asyncio.run(serve(args))
+
+
+async def serve(args: argparse.Namespace) -> int:
+    # (what only the broker needs: a client begins sooner without)
+    from . import door, service
+    from .keeping import Keeping
+
+    bay = read_bay(args.bay)
+    if bay.gone == "release" and args.grace < LEAST_GRACE:
+        say(f"--grace {args.grace:g}: where gone = \"release\" it is {LEAST_GRACE:g} s at least, so that a client that is there can say so")
+        return USAGE
+    _, hard = resource.getrlimit(resource.RLIMIT_NOFILE)
+    resource.setrlimit(resource.RLIMIT_NOFILE, (hard, hard))
+    # (the thread that syncs a slow disk isn't to wait for the interpreter's lock when it is through)
+    sys.setswitchinterval(0.0005)
+    its_door = door.Door(tuple(args.listen or (DEFAULT,)), args.tls_certificate, args.tls_key, args.token_file, args.group)
+    its_door.check()
+    keeping = Keeping(bay, args.state, args.grace, args.sync == "data")
+    ends = contextlib.AsyncExitStack()
+    try:
+        await keeping.open()
+        ends.push_async_callback(keeping.close)
+        server = await service.start(keeping, its_door)
+        ends.push_async_callback(server.stop, 0.5)
+        for runner in await web(args, keeping):
+            ends.push_async_callback(runner.cleanup)
+        say(f"bay {bay.name}: {len(bay.instruments)} instruments, at {' '.join(its_door.addresses)}")
+        for it in keeping.complaints:
+            say(plain(it))
+        tell_systemd("READY=1")
+        keeping.says = say
+        await until_the_end()
+        return 0
+    finally:
+        await ends.aclose()
+
+
+async def web(args: argparse.Namespace, keeping: Keeping) -> list[Any]:
+    """The page and the metrics, which need packages that the broker alone doesn't."""
+    runners = []
+    if args.page is not None:
+        from .page import serve_page
+
+        runners.append(await serve_page(keeping, args.page, args.group))
+    if args.metrics is not None:
+        from .metrics import serve_metrics
+
+        runners.append(await serve_metrics(keeping, args.metrics, args.group))
+    return runners
+
+
+async def until_the_end() -> None:
+    loop, end = asyncio.get_running_loop(), asyncio.Event()
+    for number in (signal.SIGINT, signal.SIGTERM):
+        loop.add_signal_handler(number, end.set)
+    await end.wait()
+    tell_systemd("STOPPING=1")
+
+
+def tell_systemd(text: str) -> None:
+    if path := os.environ.get("NOTIFY_SOCKET"):
+        with contextlib.suppress(OSError), socket.socket(socket.AF_UNIX, socket.SOCK_DGRAM) as to:
+            to.sendto(text.encode(), f"\0{path[1:]}" if path.startswith("@") else path)

@@ -1,0 +1,213 @@
+"""The shell of the bay's machine, on one loop: its clock, its timer, and when what it writes is on the disk. It has no rule of its own.
+
+After each call of the machine comes `pump`: what is told is handed on, the timer sleeps until the next moment, and new text is written.
+What is written outlives the broker; a thread syncs it, and whoever comes meanwhile shares the next sync."""
+
+from __future__ import annotations
+
+import asyncio
+import builtins
+import functools
+from concurrent.futures import ThreadPoolExecutor
+from typing import Callable, Optional
+
+from labrun import JournalError
+from labrun.machine import NEVER, Machine, Told
+from labrun.store import Store
+
+# what nobody waits for is on the disk after so many seconds; the records are, at least as often as the second says
+SOON, NOW_AND_THEN = 0.02, 1.0
+# after a write that failed it is tried again, and ever later up to the second number; at the end, for so long
+AGAIN, LATEST, CLOSING = 0.05, 1.0, 3.0
+# for how long whoever asks waits for the disk
+DISK = 10.0
+
+
+class Shell:
+    """`tells` is called with each outcome; `beside` on the thread, when there is time to sync something else; `says` if the disk fails."""
+
+    def __init__(
+        self, machine: Machine, store: Optional[Store], first: int,
+        tells: Callable[[Told], None], beside: Callable[[], None], says: Callable[[str], None],
+    ) -> None:  # fmt: skip
+        self.machine, self._store, self._tells, self._beside, self._says = machine, store, tells, beside, says
+        self._loop = asyncio.get_running_loop()
+        self._first = first - int(self._loop.time() * 1000)
+        self._serial, self._wakes_at = 0, NEVER
+        self._timer: Optional[asyncio.TimerHandle] = None
+        # how far the journal is written, and on the disk; and who waits for that
+        self._written = self._durable = machine.used
+        self._waiting: list[tuple[int, asyncio.Future[None]]] = []
+        self._thread = ThreadPoolExecutor(1, "journal")
+        self._sync_timer: Optional[asyncio.TimerHandle] = None
+        self._is_syncing = self._is_urgent = self._takes_all = self._is_closed = False
+        self._took_all_at = self._loop.time()
+        self._path = "" if store is None else store.path
+        # why a write failed, until that is mended; and the same until all is written
+        self.fault: Optional[BaseException] = None
+        self._last_fault: Optional[BaseException] = None
+        self._pause = AGAIN
+        self._mending: Optional[asyncio.Task[None]] = None
+
+    def now(self) -> int:
+        """The moment, in milliseconds, by a clock that doesn't jump."""
+        return self._first + int(self._loop.time() * 1000)
+
+    def pump(self) -> None:
+        """What follows from a call is done."""
+        self._tell()
+        next_moment = self.machine.time(self.now())
+        self._tell()
+        self._sleeps_until(next_moment)
+        self._writes()
+
+    def _tell(self) -> None:
+        while (told := self.machine.tell(self._serial)) is not None:
+            self._serial = told.serial
+            self._tells(told)
+
+    def _sleeps_until(self, moment: int) -> None:
+        if moment == self._wakes_at:
+            return
+        if self._timer is not None:
+            self._timer.cancel()
+        self._wakes_at, self._timer = moment, None
+        if moment != NEVER:
+            # (a day at most: more than some weeks a loop doesn't take)
+            self._timer = self._loop.call_later(min(86400.0, max(0, moment - self.now()) / 1000), self._wakes)
+
+    def _wakes(self) -> None:
+        self._wakes_at, self._timer = NEVER, None
+        self.pump()
+
+    # ---- the disk
+
+    def _writes(self) -> None:
+        if self._store is None or self.fault is not None:
+            return
+        text, position = self.machine.journal()
+        if text:
+            try:
+                self._store.write(text)
+            except OSError as fault:
+                return self._fails(fault)
+            self._written = position
+            # (who asks is told only once the line is on the disk)
+            self._is_urgent = self._is_urgent or b" hold " in text
+        if self._written > self._durable or self._takes_all:
+            self._syncs_in(0.0 if self._is_urgent or self._waiting else SOON)
+
+    def _syncs_in(self, seconds: float) -> None:
+        if self._is_syncing or self.fault is not None:
+            return
+        if self._sync_timer is not None:
+            if self._sync_timer.when() <= self._loop.time() + seconds:
+                return
+            self._sync_timer.cancel()
+        self._sync_timer = self._loop.call_later(seconds, self._syncs)
+
+    def _syncs(self) -> None:
+        self._sync_timer = None
+        takes_all = self._takes_all or not self._is_urgent or self._loop.time() > self._took_all_at + NOW_AND_THEN
+        self._is_syncing, self._is_urgent, self._takes_all = True, False, False
+        if takes_all:
+            self._took_all_at = self._loop.time()
+        work = self._loop.run_in_executor(self._thread, self._sync, takes_all)
+        work.add_done_callback(functools.partial(self._is_synced, self._written))
+
+    def _sync(self, takes_all: bool) -> None:
+        assert self._store is not None
+        self._store.sync()
+        if takes_all:
+            self._beside()
+
+    def _is_synced(self, position: int, work: asyncio.Future[None]) -> None:
+        self._is_syncing = False
+        if work.cancelled() or self._is_closed:
+            return
+        if (fault := work.exception()) is not None:
+            return self._fails(fault)
+        self._durable, self._pause = position, AGAIN
+        if self._last_fault is not None and self.fault is None:
+            self._last_fault = None
+            self._says(f"{self._path}: all is written")
+        self.machine.durable(position)
+        for upto, one in self._waiting:
+            if upto <= position and not one.done():
+                one.set_result(None)
+        self.pump()
+
+    def _fails(self, fault: BaseException) -> None:
+        if self._sync_timer is not None:
+            # (what it was to sync is cut off)
+            self._sync_timer.cancel()
+            self._sync_timer = None
+        if self.fault is None:
+            is_new, self.fault, self._last_fault = self._last_fault is None, fault, fault
+            if is_new:
+                self._says(f"{self._path}: {self._because()}, and is tried again: nobody is told that it holds until then")
+            self._mending = self._loop.create_task(self._mends())
+
+    async def _mends(self) -> None:
+        """The store is cut back to what is durable, and the rest is written again, after a pause."""
+        assert self._store is not None
+        is_cut = False
+        while not is_cut:
+            while self._is_syncing:
+                await asyncio.sleep(AGAIN)
+            try:
+                await self._loop.run_in_executor(self._thread, self._store.cut, self._durable)
+                is_cut = True
+            except OSError:
+                pass
+            await asyncio.sleep(self._pause)
+            self._pause = min(2 * self._pause, LATEST)
+        self._written, self._is_urgent, self.fault = self._durable, True, None
+        self.machine.failed()
+        self.pump()
+
+    async def durable(self, position: Optional[int] = None, takes_all: bool = False) -> None:
+        """Returns once all that was given is on the disk, or all up to a position; with `takes_all` so is what is synced beside.
+        JournalError: it isn't within the time for the disk, and it goes on to be tried."""
+        if self._store is None:
+            return
+        if position is None:
+            # (while a write fails: what is handed out here is handed out again)
+            position = self._written if self.fault is None else self.machine.journal()[1]
+        if position <= self._durable and not takes_all:
+            return
+        one = position, self._loop.create_future()
+        self._waiting.append(one)
+        self._takes_all = self._takes_all or takes_all
+        self._syncs_in(0.0)
+        try:
+            async with asyncio.timeout(DISK):
+                await one[1]
+        except builtins.TimeoutError:
+            raise self.why() from None
+        finally:
+            self._waiting.remove(one)
+
+    def why(self) -> JournalError:
+        """Why something isn't on the disk."""
+        return JournalError(self._path, f"it isn't on the disk after {DISK:g} s: {self._because()}")
+
+    def _because(self) -> str:
+        it = self._last_fault
+        return "the disk is slow" if it is None else f"a write failed ({getattr(it, 'strerror', None) or it})"
+
+    async def close(self) -> None:
+        """All is on the disk, as far as that can be. Nobody is told anything any more."""
+        if self._is_closed:
+            return
+        try:
+            async with asyncio.timeout(CLOSING):
+                await self.durable(takes_all=True)
+        except (builtins.TimeoutError, JournalError):
+            pass
+        self._is_closed = True
+        for it in (self._timer, self._sync_timer, self._mending):
+            if it is not None:
+                it.cancel()
+        self._thread.shutdown(wait=False)
+        self.machine.free()

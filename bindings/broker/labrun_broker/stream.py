@@ -1,0 +1,152 @@
+"""A client's stream to the broker."""
+
+from __future__ import annotations
+
+import asyncio
+import builtins
+from typing import TYPE_CHECKING, Any, Optional, Union
+
+import grpc
+
+from . import broker_pb2 as pb
+from .errors import BadWish, TakenAway, raised
+from .work import clock
+
+if TYPE_CHECKING:
+    from .client import Lab
+    from .held import Held
+
+GIVING_UP = 0.5
+# the bytes of a message that a broker takes
+MOST_BYTES = 1 << 16
+
+
+class Lost(Exception):
+    """The stream ended; `why` is the answer of gRPC."""
+
+    def __init__(self, code: Any, why: str) -> None:
+        super().__init__(why)
+        self.code = code
+
+
+# a broker that begins again, or a network that comes back, is worth another try
+AGAIN = (grpc.StatusCode.UNAVAILABLE, grpc.StatusCode.CANCELLED, grpc.StatusCode.UNKNOWN, grpc.StatusCode.INTERNAL, None)
+
+
+class Stream:
+    """One stream to the broker. It serves one session after another, and reads for it what the broker says."""
+
+    def __init__(self, lab: Lab) -> None:
+        self._lab, self._call = lab, lab._methods["Hold"](metadata=lab._metadata)
+        self.session: Optional[Held] = None
+        self.is_open = False
+        self._lost: Optional[Lost] = None
+        self._answers: asyncio.Queue[Union[tuple[str, Any], Exception]] = asyncio.Queue()
+        self._writing, self._asked_at = asyncio.Lock(), -1.0
+        self._reader = asyncio.create_task(self._reads())
+
+    @property
+    def is_lost(self) -> bool:
+        return self._lost is not None
+
+    async def opens(self) -> None:
+        """Returns once the broker has let the client in."""
+        try:
+            await self._call.wait_for_connection()
+            self.is_open = True
+        except grpc.RpcError:
+            await self._reader
+            await self._answer()
+
+    async def asks(self, **what: Any) -> tuple[str, Any]:
+        """What the broker answers. Lost: the stream ended."""
+        ask = pb.Ask(**what)
+        if (size := ask.ByteSize()) > MOST_BYTES:
+            # (the broker would end the stream)
+            raise BadWish(f"a {ask.WhichOneof('ask')} of {size} bytes; {MOST_BYTES} are the most")
+        await self._writes(ask)
+        return await self._answer()
+
+    async def _writes(self, ask: Any) -> None:
+        async with self._writing:
+            try:
+                await self._call.write(ask)
+            except (grpc.RpcError, asyncio.InvalidStateError):
+                pass  # (whoever reads sees that, too)
+            except asyncio.CancelledError:
+                # (so it ends, too, if the call was cancelled here, and not whoever asks)
+                task = asyncio.current_task()
+                if task is None or task.cancelling():
+                    raise
+
+    async def pings(self) -> None:
+        """Says that the client is there; the session is told of the answer."""
+        await self._writes(pb.Ask(ping=pb.Ping(at=clock())))
+
+    async def keeps(self) -> float:
+        """Asks whether the broker still keeps the session, and waits for the answer; when that was asked."""
+        at = self._asked_at = clock()
+        kind, told = await self.asks(ping=pb.Ping(at=at))
+        if kind != "pong" or not told.holds:
+            raise TakenAway("the session was taken away just as it came to hold")
+        return at
+
+    async def _answer(self) -> tuple[str, Any]:
+        if self._lost is not None:
+            raise self._lost
+        answer = await self._answers.get()
+        if isinstance(answer, Exception):
+            raise answer
+        return answer
+
+    async def gives_up(self) -> None:
+        """The session waits no longer. If it came to hold just now, it lets go."""
+        try:
+            async with asyncio.timeout(GIVING_UP if self.is_open else 0):
+                kind, _ = await self.asks(let_go=pb.LetGo())
+                while kind != "gone":
+                    kind, _ = await self._answer()
+            self.is_idle()
+        except (Lost, builtins.TimeoutError):
+            self.cancel()
+
+    def is_idle(self) -> None:
+        self.session = None
+        self._lab._idle.append(self)
+
+    def cancel(self) -> None:
+        self.session = None
+        self._call.cancel()
+
+    async def _reads(self) -> None:
+        try:
+            while (told := await self._call.read()) is not grpc.aio.EOF:
+                self.is_open, kind = True, told.WhichOneof("told")
+                self._is_told(kind, getattr(told, kind))
+        except (grpc.RpcError, asyncio.CancelledError):  # (the latter if the call was cancelled here)
+            pass
+        self._call.cancel()
+        self._lost = Lost(await self._call.code(), str(await self._call.details()))
+        self.ends(self._lost)
+        if self in self._lab._idle:
+            self._lab._idle.remove(self)
+        if self.session is not None:
+            self.session._is_cut()
+
+    def _is_told(self, kind: str, told: Any) -> None:
+        if kind == "taken" and self.session is not None:
+            self.session._is_taken(self, raised(told))
+        elif kind == "waits" and self.session is not None:
+            try:
+                self.session._waits_for(told.text)
+            except Exception as fault:
+                self.ends(fault)
+        elif kind == "pong" and told.at != self._asked_at:
+            if self.session is not None and told.holds:
+                self.session._is_sure(told.at)
+        else:
+            self._answers.put_nowait((kind, told))
+
+    def ends(self, fault: Exception) -> None:
+        """Whoever asks gets this fault."""
+        self._answers.put_nowait(fault)

@@ -1,0 +1,140 @@
+"""What a client may ask for: all that is looked at before the bay is asked."""
+
+from __future__ import annotations
+
+import hashlib
+import math
+import secrets
+from dataclasses import dataclass
+from typing import Any, Optional
+
+import labrun
+from labrun import LabrunError, MayNotUse, NotHeld
+
+from .bay import Bay
+
+MOST_CHOICES, LEAST_TICKET = 100, 16
+MOST_SECONDS = 1e9
+KEPT_IN_MEMORY = 1000  # ends
+
+
+class TimedOut(labrun.TimeoutError):
+    """The time was over while the client waited."""
+
+    def __init__(self, text: str) -> None:
+        Exception.__init__(self, text)
+
+    def __reduce__(self) -> Any:
+        return TimedOut, (str(self),)
+
+
+class BadWish(LabrunError, ValueError):
+    """What was asked for can't be."""
+
+
+class Ended(NotHeld):
+    """No session has this ticket any more. `how` it ended: `let_go`, `taken`, or, if nobody knows, nothing."""
+
+    def __init__(self, how: str, text: str) -> None:
+        super().__init__(text)
+        self.how = how
+
+
+class Ends:
+    """What became of the last sessions that are over, by their owners."""
+
+    def __init__(self) -> None:
+        self._of: dict[tuple[int, int], tuple[str, str]] = {}
+
+    def add(self, owner: tuple[int, int], how: str, text: str) -> None:
+        if how:
+            self._of[owner] = how, text
+            if len(self._of) > 2 * KEPT_IN_MEMORY:
+                self._of = dict(list(self._of.items())[KEPT_IN_MEMORY:])
+
+    def why(self, owner: tuple[int, int]) -> Ended:
+        """Why nobody can come back for it."""
+        how, text = self._of.get(owner, ("", ""))
+        if not how:
+            return Ended("", "no session has this ticket: it is over, or was never told that it holds")
+        return Ended("let_go", "the session has let go") if how == "let_go" else Ended("taken", f"the session was taken away {text}")
+
+
+@dataclass(frozen=True)
+class Wish:
+    """What a client asks for. With `comes_back` it held before, and wants no other session than that of its ticket. With `pings` it says
+    again and again that it is there, while it holds."""
+
+    instruments: tuple[str, ...] = ()
+    any_of: tuple[tuple[str, ...], ...] = ()
+    station: str = ""
+    by: str = ""
+    timeout: Optional[float] = None
+    ticket: str = ""
+    comes_back: bool = False
+    pings: bool = False
+
+    @property
+    def choices(self) -> tuple[tuple[str, ...], ...]:
+        return self.any_of or (self.instruments,)
+
+    @property
+    def names(self) -> tuple[str, ...]:
+        """All that it might hold, each once."""
+        return tuple(dict.fromkeys(name for choice in self.choices for name in choice))
+
+
+def wish_of(asked: Any) -> Wish:
+    """That of a message."""
+    any_of = tuple(tuple(it.names) for it in asked.any_of)
+    timeout = float(asked.timeout) if asked.HasField("timeout") else None
+    ticket = asked.ticket or secrets.token_urlsafe()
+    return Wish(tuple(asked.instruments), any_of, asked.station, asked.by, timeout, ticket, asked.comes_back, asked.pings)
+
+
+def check_form(wish: Wish, bay: Bay) -> None:
+    """Lengths and numbers. BadWish says what is wrong."""
+    for text in (wish.by, wish.station, wish.ticket, *wish.instruments, *(name for choice in wish.any_of for name in choice)):
+        if len(text) > bay.limits.name:
+            raise BadWish(f"a name of {len(text)} characters; {bay.limits.name} are the most")
+    if len(wish.any_of) > MOST_CHOICES:
+        raise BadWish(f"{len(wish.any_of)} choices; {MOST_CHOICES} are the most")
+    if wish.timeout is not None and not 0 <= wish.timeout < MOST_SECONDS:
+        raise BadWish(f"a timeout of {wish.timeout:g} s; it is 0 or more, and below 1000000000")
+    if wish.ticket and len(wish.ticket) < LEAST_TICKET:
+        raise BadWish(f"a ticket has {LEAST_TICKET} characters or more")
+
+
+def check(wish: Wish, bay: Bay) -> None:
+    """Whether the bay has it for this client. BadWish or MayNotUse says what is wrong."""
+    if wish.station and wish.station not in bay.stations:
+        raise BadWish(f"{wish.station} is no station of this bay: there are {', '.join(bay.stations) or 'none'}")
+    if not wish.station and not bay.guests:
+        raise BadWish(f"this bay has no guests: say which station you are, of {', '.join(bay.stations)}")
+    if wish.any_of and wish.instruments or not all(wish.choices):
+        raise BadWish("say which instruments, or which sets of them to choose from (any_of)")
+    may = bay.stations[wish.station] if wish.station else bay.guests_use
+    for name in wish.names:
+        if name not in may:
+            raise MayNotUse(wish.station or "a guest", name, may)
+
+
+def check_note(text: str, bay: Bay) -> None:
+    if len(text) > bay.limits.note:
+        raise BadWish(f"a note of {len(text)} characters; {bay.limits.note} are the most")
+
+
+def milliseconds(seconds: float) -> int:
+    return math.ceil(seconds * 1000)
+
+
+def owner_of(ticket: str) -> tuple[int, int]:
+    """By which the bay knows who may come back: the first 128 bits of the ticket's hash, so that whoever reads the files can't come in
+    place of its owner; without a ticket, bits by chance."""
+    bits = hashlib.sha256(ticket.encode()).digest() if ticket else secrets.token_bytes(16)
+    return int.from_bytes(bits[:8], "big"), int.from_bytes(bits[8:16], "big")
+
+
+def digits_of(owner: tuple[int, int]) -> str:
+    """As the journal has it."""
+    return f"{owner[0]:016x}{owner[1]:016x}"

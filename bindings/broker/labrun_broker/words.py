@@ -1,0 +1,52 @@
+"""What all words of the command share: what a word is, the statuses of their ends, and what is said to people."""
+
+from __future__ import annotations
+
+import argparse
+import sys
+from typing import Any, Callable, NamedTuple
+
+from .client import DEFAULT, Lab, connect
+
+PROGRAM, ABOUT = "labrun-broker", "a lab's instruments, shared by programs, people and machines"
+
+
+class Word(NamedTuple):
+    """A word of the command line: what it does, its arguments, and what runs it, which gives the status."""
+
+    name: str
+    help: str
+    add_arguments: Callable[[argparse.ArgumentParser], None]
+    run: Callable[[argparse.Namespace], int]
+
+
+# the status of each end that isn't the command's own
+USAGE, UNREACHABLE, NOT_WRITTEN, TIMED_OUT, TAKEN, MAY_NOT, NO_BAY, CANT_RUN, NOT_FOUND, INTERRUPTED = 2, 69, 74, 75, 76, 77, 78, 126, 127, 130
+
+STATUSES = (
+    ("0", "done; `hold` gives the status of what it ran, or 128 and the number of the signal that ended it"),
+    ("1", "the broker said no, as to a release of a station that holds nothing; `bay check` found faults"),
+    (str(USAGE), "the words aren't right"),
+    (str(UNREACHABLE), "the broker can't be reached, or doesn't let this client in; of `hold`, the command may have run"),
+    (str(NOT_WRITTEN), "the broker couldn't write down what it did; of `hold`, the command may have run"),
+    (str(TIMED_OUT), "the time limit passed; nothing was run"),
+    (str(TAKEN), "the session was taken away while the command ran, which got SIGTERM"),
+    (str(MAY_NOT), "the station, or a guest, may not use one of the instruments"),
+    (str(NO_BAY), "the bay's file has faults, or the broker may not listen there"),
+    (f"{CANT_RUN}, {NOT_FOUND}", "what `hold` was to run can't be run, or isn't there"),
+    (str(INTERRUPTED), "Ctrl-C"),
+)
+
+
+def say(text: str) -> None:
+    print(f"{PROGRAM}: {text}", file=sys.stderr, flush=True)
+
+
+def add_client(parser: argparse.ArgumentParser) -> None:
+    parser.add_argument("--broker", metavar="ADDR", help=f"where the broker listens; without, LABRUN_BROKER says it, or it is {DEFAULT}")
+    parser.add_argument("--token-file", metavar="FILE", help="the token, for a broker on another machine")
+    parser.add_argument("--certificate", metavar="FILE", help="the certificate to know that broker by")
+
+
+def lab_of(args: argparse.Namespace, **more: Any) -> Lab:
+    return connect(args.broker, token_file=args.token_file, certificate_file=args.certificate, **more)

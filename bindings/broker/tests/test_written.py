@@ -1,0 +1,362 @@
+"""What stands in the state folder and when: records, and a broker that is killed in each write, and a disk that is slow, full, or fails."""
+
+import asyncio
+import contextlib
+import json
+import os
+import signal
+import sys
+import tempfile
+import threading
+import time
+import unittest
+from typing import Any
+from unittest import mock
+
+import labrun
+import labrun_broker
+from labrun_broker import shell
+from labrun_broker.keeping import Keeping
+from labrun_broker.standing import Session, Standings
+from labrun_broker.wishes import Wish
+from tests.brokers import BAY, COMMAND, LIMIT, Broker, OnBroker
+from tests.test_keeping import TICKET, OnFolder, Owner, how, whats
+
+
+class Records(OnBroker):
+    def begun(self, command: list[str]) -> Broker:
+        folder = self.enterContext(tempfile.TemporaryDirectory())
+        broker = Broker(folder, BAY, ("--state", f"{folder}/state"), command)
+        self.addCleanup(broker.ends)
+        return broker
+
+    def records(self, broker: Broker, station: str) -> list[dict[str, Any]]:
+        with open(f"{broker.folder}/state/records.jsonl", encoding="utf-8") as file:
+            return [it for it in map(json.loads, file) if it["station"] == station]
+
+    def test_killed_behind_the_journals_line(self) -> None:
+        """Its end is in the journal, and in no record yet. The next broker writes that."""
+        for ends, what, text in (
+            (lambda lab, held: held.release(), "let_go", "as the journal has it"),
+            (lambda lab, held: held.release("smoke"), "failed", "smoke, as the journal has it"),
+            (lambda lab, held: lab.release("board"), "taken", "by tester, as the journal has it"),
+        ):
+            with self.subTest(what):
+                broker = self.begun(killed_at(what))
+                board, other = broker.lab("board"), broker.lab()
+                held = board.hold("scope", "supply")
+                held.acquire()
+                thread = threading.Thread(target=quietly, args=(ends, other, held))
+                thread.start()
+                self.begins_again(broker)
+                with broker.lab() as lab, lab.hold("scope", "supply", timeout=LIMIT):
+                    pass
+                thread.join(LIMIT)
+                for lab in (other, board):
+                    with contextlib.suppress(labrun.LabrunError):  # (its session was taken away)
+                        lab.close()
+                broker.end()
+                for _ in range(2):  # (once: not at each start)
+                    broker.begin()
+                    broker.end()
+                records = self.records(broker, "board")
+                self.assertEqual([it["what"] for it in records], ["asked", "held", what])
+                self.assertEqual((records[-1]["text"], records[-1]["session"], records[-1]["by"]), (text, records[1]["session"], "tester"))
+                self.assertEqual(records[-1]["instruments"], ["scope", "supply"])
+                self.assertLess(records[1]["t"] - 1, records[-1]["t"])
+
+    def begins_again(self, broker: Broker) -> None:
+        assert broker.process is not None
+        self.assertEqual(broker.process.wait(LIMIT), -signal.SIGKILL)
+        broker.command = COMMAND
+        broker.begin()
+
+    def test_killed_before_it_is_told(self) -> None:
+        """The hold is in the journal, and in no record. Its client, which was told nothing, has it all the same."""
+        broker = self.begun(killed_at("held"))
+        board = self.lab(broker, "board")
+        held: list[labrun_broker.Held] = []
+
+        def holds() -> None:
+            with board.hold("scope", timeout=LIMIT) as it:
+                held.append(it)
+
+        thread = threading.Thread(target=holds)
+        thread.start()
+        self.begins_again(broker)
+        thread.join(LIMIT)
+        records = self.records(broker, "board")
+        self.assertEqual([it["what"] for it in records if it["what"] != "asked"], ["held", "gone", "back", "let_go"])
+        self.assertEqual({it["session"] for it in records}, {held[0].number})
+        self.assertEqual(records[-4]["text"], "as the journal has it")
+
+    def test_who_may_read(self) -> None:
+        broker = self.broker(BAY, "--state", "FOLDER/state")
+        with self.lab(broker) as lab, lab.hold("scope"):
+            pass
+        for name in ("bay.journal", "records.jsonl", "bay.json"):
+            self.assertEqual(os.stat(f"{broker.folder}/state/{name}").st_mode & 0o777, 0o640, name)
+
+
+def quietly(ends: Any, lab: labrun_broker.Lab, held: labrun_broker.Held) -> None:
+    with contextlib.suppress(labrun.LabrunError):
+        ends(lab, held)
+
+
+def killed_at(what: str) -> list[str]:
+    """The command of a broker that is killed as it is to write this record; its journal's line is written by then."""
+    text = f"""
+import os, signal, sys
+from labrun_broker import command, records
+write = records.Records.write
+def killed(self):
+    if b'"what":"{what}"' in self._waiting:
+        os.kill(os.getpid(), signal.SIGKILL)
+    write(self)
+records.Records.write = killed
+sys.exit(command.main())"""
+    return [sys.executable, "-c", text]
+
+
+def killed_in_write(number: int, share: float) -> list[str]:
+    """The command of a broker that is killed in its so-many-eth write to the journal, when so much of that is done."""
+    text = f"""
+import os, signal, sys
+from labrun import store
+from labrun_broker import command
+write, left = store.FileStore.write, {number}
+def killed(self, text):
+    global left
+    left -= 1
+    if not left:
+        write(self, text[: int({share} * len(text))])
+        os.kill(os.getpid(), signal.SIGKILL)
+    write(self, text)
+store.FileStore.write = killed
+sys.exit(command.main())"""
+    return [sys.executable, "-c", text]
+
+
+class EachWrite(OnBroker):
+    def test_killed_in_it(self) -> None:
+        """A session that was told that it holds goes on to hold, and has its records, each once: whichever write the broker is killed in."""
+        # (the first write is the journal's first line, as the broker begins)
+        for number, share in enumerate((0.5, 1.0, 0.5, 0.0, 0.9, 1.0, 0.5), 2):
+            with self.subTest((number, share)):
+                folder = self.enterContext(tempfile.TemporaryDirectory())
+                broker = Broker(folder, BAY, ("--state", f"{folder}/state"), killed_in_write(number, share))
+                self.addCleanup(broker.ends)
+                with broker.lab("board") as lab:
+                    told: list[int] = []
+                    thread = threading.Thread(target=self.works, args=(lab, told))
+                    thread.start()
+                    assert broker.process is not None
+                    self.assertEqual(broker.process.wait(LIMIT), -signal.SIGKILL)
+                    broker.command = COMMAND
+                    broker.begin()
+                    thread.join(2 * LIMIT)
+                    self.assertEqual(len(told), 3)
+                broker.end()
+                with open(f"{folder}/state/records.jsonl", encoding="utf-8") as file:
+                    records = [it for it in map(json.loads, file) if it["station"] == "board"]
+                for what in ("held", "let_go"):
+                    self.assertEqual([it["session"] for it in records if it["what"] == what], told, what)
+
+    def test_killed_in_the_first(self) -> None:
+        for share in (0.0, 0.5, 1.0):
+            folder = self.enterContext(tempfile.TemporaryDirectory())
+            with self.assertRaises(AssertionError):
+                Broker(folder, BAY, ("--state", f"{folder}/state"), killed_in_write(1, share))
+            broker = Broker(folder, BAY, ("--state", f"{folder}/state"))
+            self.addCleanup(broker.ends)
+            with broker.lab() as lab, lab.hold("scope", timeout=LIMIT):
+                pass
+
+    def works(self, lab: labrun_broker.Lab, told: list[int]) -> None:
+        for _ in range(3):
+            with lab.hold("scope", timeout=LIMIT) as held:
+                number = held.number
+                held.note("5 V")
+                self.assertEqual((held.number, held.held), (number, True))
+            told.append(number)
+
+
+class OnDisk(OnFolder):
+    async def test_a_note_is_there_before_it_is_answered(self) -> None:
+        """In the journal and in the records, on a quick disk and on a slow one."""
+        for slow in (False, True):
+            with self.subTest(slow):
+                folder, owner = self.folder(), Owner()
+                on_disk: dict[str, bytes] = {}
+                real = os.fdatasync
+
+                def fdatasync(file: int) -> None:
+                    size = os.fstat(file).st_size
+                    if slow:
+                        time.sleep(0.05)
+                    real(file)
+                    name = os.path.basename(os.readlink(f"/proc/self/fd/{file}"))
+                    on_disk[name] = os.pread(file, size, 0)
+
+                with mock.patch("os.fdatasync", fdatasync):
+                    keeping = await self.keeping(folder)
+                    session = await keeping.hold(Wish(("scope",), station="radio", ticket=TICKET), owner)
+                    self.assertIn(b" hold ", on_disk["bay.journal"])
+                    await keeping.note(session, owner, "12.5 V")
+                    self.assertIn(b" note 12.5 V\n", on_disk["bay.journal"])
+                    self.assertIn(b'"text":"12.5 V"', on_disk["records.jsonl"])
+                    await keeping.let_go(session, owner)
+                    await asyncio.sleep(0.3)
+                    self.assertIn(b" let_go ", on_disk["bay.journal"], "though nobody waits for it")
+                    await keeping.close()
+
+    async def test_who_comes_during_a_sync_shares_the_next(self) -> None:
+        folder, owner, may, syncs = self.folder(), Owner(), threading.Event(), list[int]()
+        self.addCleanup(may.set)
+        keeping = await self.keeping(folder)
+
+        def fdatasync(file: int) -> None:
+            syncs.append(file)
+            may.wait(5)
+
+        with mock.patch("os.fdatasync", fdatasync):
+            asks = [asyncio.create_task(keeping.hold(Wish(("scope",)), owner))]
+            await asyncio.sleep(0.05)
+            asks += [asyncio.create_task(keeping.hold(Wish((name,)), owner)) for name in ("supply", "load-1", "load-2")]
+            await asyncio.sleep(0.05)
+            self.assertEqual(([it.done() for it in asks], len(syncs)), ([False] * 4, 1))
+            may.set()
+            await asyncio.gather(*asks)
+        # (one more may be for those lines that nobody waits for)
+        self.assertLessEqual(len(set(syncs)), 2)
+        self.assertLessEqual(syncs.count(syncs[0]), 3)
+
+
+class FullDisk(OnFolder):
+    """A disk that is full, or fails, as long as the test says."""
+
+    async def asyncSetUp(self) -> None:
+        self.is_full = self.fails = False
+        self.owner, self.said = Owner(), list[str]()
+        pwrite, fdatasync = os.pwrite, os.fdatasync
+
+        def writes(file: int, text: bytes, place: int) -> int:
+            if self.is_full:
+                # (a part of it fits)
+                if len(text) > 40:
+                    return pwrite(file, text[:40], place)
+                raise OSError(28, "No space left on device")
+            return pwrite(file, text, place)
+
+        def syncs(file: int) -> None:
+            if self.fails:
+                raise OSError(5, "Input/output error")
+            fdatasync(file)
+
+        self.enterContext(mock.patch("os.pwrite", writes))
+        self.enterContext(mock.patch("os.fdatasync", syncs))
+        self.enterContext(mock.patch.multiple(shell, AGAIN=0.005, LATEST=0.02, DISK=0.5))
+
+    async def on_disk(self, bay: str = BAY, grace: float = 60.0) -> Keeping:
+        self.its_folder = self.folder()
+        keeping = await self.keeping(self.its_folder, bay, grace)
+        keeping.says = self.said.append
+        return keeping
+
+    def breaks(self, how: str) -> None:
+        self.is_full, self.fails = how == "full", how == "fails"
+
+    async def test_who_asks(self) -> None:
+        """It is told so when its time is over, and some seconds for the disk; then it doesn't hold. Who comes when there is room does."""
+        for how_it_breaks, why in (("full", "No space left on device"), ("fails", "Input/output error")):
+            with self.subTest(how_it_breaks):
+                keeping = await self.on_disk()
+                self.breaks(how_it_breaks)
+                begun = time.monotonic()
+                with self.assertRaisesRegex(labrun.JournalError, why):
+                    await keeping.hold(Wish(("scope",), station="board", ticket=TICKET, timeout=0), self.owner)
+                self.assertGreater(time.monotonic() - begun, 0.4)
+                self.assertEqual((how(keeping, "board")["state"], whats(keeping, "board")), ("idle", ["asked", "failed"]))
+                self.assertIn(why, self.said[-1])
+                self.breaks("")
+                held = await keeping.hold(Wish(("scope",), station="radio", timeout=LIMIT), self.owner)
+                self.assertEqual(held.name, "radio")
+                await keeping.close()
+                self.assertRegex(self.said[-1], "bay.journal: all is written$")
+                again = await self.keeping(self.its_folder)
+                self.assertEqual([it["name"] for it in again.status()["stations"] if it["state"] != "idle"], ["radio"])
+
+    async def test_who_asks_without_a_time(self) -> None:
+        """It waits for the disk as long as for an instrument."""
+        keeping = await self.on_disk()
+        self.breaks("full")
+        asks = list[Session]()
+        waits = asyncio.create_task(keeping.hold(Wish(("scope",), station="board"), self.owner, asks.append))
+        await asyncio.sleep(1)
+        self.assertFalse(waits.done())
+        self.assertEqual(Standings(keeping).for_whom(asks[0])[:2], ([], "it is its turn, and it holds once that is on the disk"))
+        self.breaks("")
+        self.assertEqual((await waits).name, "board")
+
+    async def test_who_lets_go(self) -> None:
+        """It is answered at once, and who waits comes to hold once there is room."""
+        keeping = await self.on_disk()
+        session = await keeping.hold(Wish(("scope",), station="board"), self.owner)
+        waits = asyncio.create_task(keeping.hold(Wish(("scope",), station="radio", timeout=LIMIT), self.owner))
+        await asyncio.sleep(0.01)
+        self.breaks("full")
+        await asyncio.wait_for(keeping.let_go(session, self.owner), 0.2)
+        await asyncio.sleep(0.1)
+        self.assertFalse(waits.done())
+        self.breaks("")
+        self.assertEqual((await waits).name, "radio")
+        self.assertEqual(whats(keeping, "board"), ["asked", "held", "let_go"])
+
+    async def test_who_notes(self) -> None:
+        """It is told after a while that the note isn't there yet; once there is room it is."""
+        keeping = await self.on_disk()
+        session = await keeping.hold(Wish(("scope",), station="board"), self.owner)
+        self.breaks("full")
+        with self.assertRaisesRegex(labrun.JournalError, "No space left on device"):
+            await keeping.note(session, self.owner, "5 V")
+        with self.assertRaisesRegex(labrun.JournalError, "No space left on device"):
+            await keeping.release("board", "eve")
+        self.breaks("")
+        await keeping.let_go(await keeping.hold(Wish(("supply",), station="board", timeout=LIMIT), self.owner), self.owner)
+        with open(f"{self.its_folder}/bay.journal", "rb") as file:
+            text = file.read()
+        self.assertEqual([text.count(it) for it in (b" note 5 V\n", b" taken eve\n", b" taken_away ")], [1, 1, 1])
+
+    async def test_a_broker_begins(self) -> None:
+        """What was held is held; who asks waits for room."""
+        keeping = await self.on_disk()
+        await keeping.hold(Wish(("scope",), station="board", ticket=TICKET), self.owner)
+        await keeping.close()
+        self.breaks("full")
+        with mock.patch("labrun_broker.folder.Folder.keeps", side_effect=OSError(28, "No space left on device")):
+            keeping = await self.keeping(self.its_folder)
+        back = await keeping.hold(Wish(ticket=TICKET, comes_back=True), self.owner)
+        waits = asyncio.create_task(keeping.hold(Wish(("scope",), station="radio"), self.owner))
+        await keeping.let_go(back, self.owner)
+        await asyncio.sleep(0.1)
+        self.assertFalse(waits.done())
+        self.breaks("")
+        self.assertEqual((await waits).name, "radio")
+
+    async def test_grace_that_ends_meanwhile(self) -> None:
+        """Who waits goes on to wait, and comes to hold once there is room."""
+        keeping = await self.on_disk('gone = "release"\n' + BAY, 0.1)
+        session = await keeping.hold(Wish(("scope",), station="board"), self.owner)
+        waits = asyncio.create_task(keeping.hold(Wish(("scope",), station="radio", timeout=LIMIT), self.owner))
+        await asyncio.sleep(0.01)
+        self.breaks("full")
+        keeping.gone(session, self.owner)
+        await asyncio.sleep(0.3)
+        self.assertFalse(waits.done())
+        self.breaks("")
+        self.assertEqual((await asyncio.wait_for(waits, LIMIT)).name, "radio")
+        self.assertEqual(whats(keeping, "board"), ["asked", "held", "gone", "taken"])
+
+
+if __name__ == "__main__":
+    unittest.main()

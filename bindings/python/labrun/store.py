@@ -1,0 +1,107 @@
+"""Where the text of a bay is kept: the one seam between a shell and what outlives it. `Store` says what a shell needs; `FileStore` is a
+file."""
+
+from __future__ import annotations
+
+import fcntl
+import os
+from typing import Protocol
+
+from ._faults import JournalError
+
+
+class Store(Protocol):
+    """The text is written by one thread, from its beginning on, in the order in which the bay hands it out."""
+
+    path: str
+
+    def text(self) -> bytes:
+        """All that is there. Called once, before anything is written."""
+
+    def cut(self, length: int) -> None:
+        """So many bytes of it count, and outlive a crash from now on; the rest is a line that lost its end. OSError: it isn't so."""
+
+    def append(self, text: bytes) -> None:
+        """The text stands behind what there is, and outlives a crash. OSError: it isn't there, and never will be by this call."""
+
+    # the two halves of `append`, for a shell that answers some before the disk has it
+
+    def write(self, text: bytes) -> None:
+        """The text stands behind what there is, and outlives the process. OSError: nobody knows how much of it does, until `cut`."""
+
+    def sync(self) -> None:
+        """What was written before outlives a crash. Another thread may call it than the one that writes. OSError: nobody knows what does,
+        until `cut`; and what was written since the last sync has to be written again."""
+
+    def close(self) -> None:
+        """Nobody writes any more. It may be called twice."""
+
+
+class FileStore:
+    """A file of this process alone. With `syncs` false the system decides when it reaches the disk: it outlives the process, but perhaps
+    not the machine."""
+
+    def __init__(self, path: str | os.PathLike[str], syncs: bool = True, mode: int = 0o666) -> None:
+        self.path, self._syncs = os.fspath(path), syncs
+        self._file = os.open(self.path, os.O_RDWR | os.O_CREAT | os.O_CLOEXEC, mode)
+        self._is_closed = False
+        try:
+            # (the lock goes with the process, however that ends)
+            fcntl.flock(self._file, fcntl.LOCK_EX | fcntl.LOCK_NB)
+        except BlockingIOError:
+            self.close()
+            raise JournalError(self.path, "another process has it open") from None
+        self._length = os.fstat(self._file).st_size
+        self._is_torn = False
+
+    def text(self) -> bytes:
+        parts, at = [], 0
+        while at < self._length:
+            part = os.pread(self._file, self._length - at, at)
+            if not part:
+                break
+            parts.append(part)
+            at += len(part)
+        return b"".join(parts)
+
+    def cut(self, length: int) -> None:
+        os.ftruncate(self._file, length)
+        self._length, self._is_torn = length, False
+        if self._syncs:
+            # what a process wrote just before it was killed may be in memory alone, and its name may be, too
+            os.fsync(self._file)
+            self._syncs_folder()
+
+    def append(self, text: bytes) -> None:
+        if self._is_torn:
+            os.ftruncate(self._file, self._length)
+        self._is_torn, at = True, 0
+        while at < len(text):
+            at += os.pwrite(self._file, text[at:], self._length + at)
+        if self._syncs:
+            # (after a sync that failed nobody knows what is on the disk, and a second one would say that all is well: so the text is
+            # written again)
+            os.fdatasync(self._file)
+        self._length, self._is_torn = self._length + len(text), False
+
+    def write(self, text: bytes) -> None:
+        at = 0
+        while at < len(text):
+            at += os.pwrite(self._file, text[at:], self._length + at)
+        self._length += len(text)
+
+    def sync(self) -> None:
+        if self._syncs:
+            os.fdatasync(self._file)
+
+    def close(self) -> None:
+        if not self._is_closed:
+            self._is_closed = True
+            os.close(self._file)
+
+    def _syncs_folder(self) -> None:
+        folder = os.open(os.path.dirname(os.path.abspath(self.path)), os.O_RDONLY | os.O_CLOEXEC)
+        try:
+            os.fsync(folder)
+        finally:
+            os.close(folder)

@@ -1,0 +1,98 @@
+//! What may go wrong.
+use crate::keeper::{self, Keeper};
+use std::fmt;
+
+/// What may go wrong. Each has a text.
+///
+/// ```
+/// assert_eq!(labrun::Error::Stopped.to_string(), "the lab was stopped");
+/// ```
+#[derive(Clone, Debug, PartialEq, Eq)]
+#[non_exhaustive]
+pub enum Error {
+    /// The time limit passed; the keepers say who holds what it wants, or for whom it is kept. The session of a lab is over. One of a script
+    /// keeps its place, and may come to its instruments meanwhile: begin again, or [`Desk::give_up`](crate::script::Desk::give_up).
+    TimedOut(Vec<Keeper>),
+    /// The session was ended for its owner, by `take_away`, or because it had held for longer than it may: its instruments are somebody
+    /// else's by now.
+    TakenAway,
+    /// The session of a script was given up, because its patience ran out. The next begin is about the one after it.
+    Withdrawn,
+    /// There is no station, or the script has no job, of this name.
+    NoSuchJob(String),
+    /// Whoever asks may not use this instrument: that is settled when the lab is opened.
+    MayNotUse {
+        /// The station, or `a guest`.
+        job: String,
+        /// The instrument.
+        instrument: String,
+        /// What it may use.
+        may: Vec<String>,
+    },
+    /// What was asked for can't be; the text says why.
+    Invalid(String),
+    /// What was asked for may not be now; the text says why.
+    NotNow(String),
+    /// The line of a lab has no room for so many sets.
+    LineFull,
+    /// The lab was stopped.
+    Stopped,
+    /// The lab, or the bench, is closed.
+    Closed,
+    /// This is the child of a fork, and what it has is a copy of what the process with this number has: what it would hold, that one may
+    /// hold, too.
+    OtherProcess(u32),
+    /// The journal can't be used: another process has it open; it is another's, or a line of it is refused; or a write failed.
+    Journal {
+        /// The file.
+        path: String,
+        /// What is wrong.
+        why: String,
+        /// The line that differs or is refused, or 0.
+        line: usize,
+    },
+    /// A script or a step is refused: its line, from 1, and 1 to 14 for S1 to S14, or 0 for a step that isn't legal.
+    Refused {
+        /// The line.
+        line: usize,
+        /// The cause.
+        cause: u32,
+    },
+    /// The script has more than 16777216 bytes.
+    TooLong,
+    /// The file of a script can't be read.
+    Unread(String),
+    /// There is no memory, or the system has no thread.
+    NoMemory,
+    /// The library answered a status that it doesn't have for this call. A lab tells it to all that call from then on: nobody relies on it
+    /// any more.
+    Status(u32),
+}
+
+impl fmt::Display for Error {
+    fn fmt(&self, out: &mut fmt::Formatter<'_>) -> fmt::Result {
+        match self {
+            Error::TimedOut(keepers) => write!(out, "still waits{}", keeper::because(keepers)),
+            Error::TakenAway => write!(out, "the session was taken away"),
+            Error::Withdrawn => write!(out, "the session was withdrawn"),
+            Error::NoSuchJob(name) => write!(out, "there is no {name}"),
+            Error::MayNotUse { job, instrument, may } if may.is_empty() => {
+                write!(out, "{job} may not use {instrument}: it may use nothing")
+            }
+            Error::MayNotUse { job, instrument, may } => write!(out, "{job} may not use {instrument}: it may use {}", may.join(", ")),
+            Error::Invalid(why) | Error::NotNow(why) | Error::Unread(why) => write!(out, "{why}"),
+            Error::LineFull => write!(out, "the line is full"),
+            Error::Stopped => write!(out, "the lab was stopped"),
+            Error::Closed => write!(out, "it is closed"),
+            Error::OtherProcess(number) => write!(out, "this belongs to process {number}"),
+            Error::Journal { path, why, .. } => write!(out, "{path}: {why}"),
+            Error::Refused { line, cause: 0 } => write!(out, "line {line}: step is not legal"),
+            Error::Refused { line, cause } => write!(out, "line {line}: S{cause}"),
+            Error::TooLong => write!(out, "script longer than 16777216 bytes"),
+            Error::NoMemory => write!(out, "no memory"),
+            Error::Status(status) => write!(out, "status {status}"),
+        }
+    }
+}
+
+impl std::error::Error for Error {}

@@ -1,0 +1,119 @@
+//! The file of a journal: locked, so that one process has it; whatever a write that failed left is cut off.
+use crate::ffi::system;
+use crate::Error;
+use std::fs::{File, OpenOptions};
+use std::io;
+use std::mem::ManuallyDrop;
+use std::os::unix::fs::FileExt;
+use std::path::Path;
+use std::thread::sleep;
+use std::time::Duration;
+
+/// How often a lock is tried again that somebody has, and after how long.
+const TRIES: u32 = 30;
+const PAUSE: Duration = Duration::from_millis(10);
+
+/// Where a journal is before a call returns.
+///
+/// ```no_run
+/// let lab = labrun::LabOptions::new(["scope"]).journal("bay.journal", labrun::SyncTo::Disk).open()?;
+/// # Ok::<(), labrun::Error>(())
+/// ```
+#[derive(Clone, Copy, Debug, PartialEq, Eq)]
+pub enum SyncTo {
+    /// On the disk.
+    Disk,
+    /// In the system's memory, which outlives the process and not the machine.
+    Memory,
+}
+
+/// The file, and how much of it is there for good.
+pub(crate) struct Kept {
+    /// (A child of a fork has closed it.)
+    file: ManuallyDrop<File>,
+    born: u32,
+    syncs: bool,
+    length: u64,
+    /// What is behind its length may be anything, and has to be cut off.
+    is_torn: bool,
+}
+
+/// What is wrong with a journal.
+pub(crate) fn fault(path: &Path, why: impl ToString, line: usize) -> Error {
+    Error::Journal { path: path.display().to_string(), why: why.to_string(), line }
+}
+
+impl Kept {
+    /// The file, which is made if it isn't there, and what it has.
+    pub fn open(path: &Path, to: SyncTo) -> Result<(Kept, Vec<u8>), Error> {
+        let wrong = |why: io::Error| fault(path, why, 0);
+        let file = OpenOptions::new().read(true).write(true).create(true).truncate(false).open(path).map_err(wrong)?;
+        system::closes_in_a_child(&file);
+        let mut kept = Kept { file: ManuallyDrop::new(file), born: system::forks(), syncs: to == SyncTo::Disk, length: 0, is_torn: true };
+        lock(&kept.file).map_err(|why| fault(path, why, 0))?;
+        kept.length = kept.file.metadata().map_err(wrong)?.len();
+        let text = kept.text().map_err(wrong)?;
+        Ok((kept, text))
+    }
+
+    /// So much of what was read stays. It is on the disk before anybody is told of it, because a process that was killed may have left it
+    /// in memory alone; and so is the file's name, which its folder has.
+    pub fn begin(&mut self, path: &Path, length: u64) -> io::Result<()> {
+        self.cut(length)?;
+        if self.syncs {
+            self.file.sync_data()?;
+            let folder = path.parent().filter(|it| !it.as_os_str().is_empty()).unwrap_or(Path::new("."));
+            File::open(folder)?.sync_all()?;
+        }
+        Ok(())
+    }
+
+    /// What it has.
+    pub fn text(&self) -> io::Result<Vec<u8>> {
+        let mut text = vec![0; self.length as usize];
+        self.file.read_exact_at(&mut text, 0).map(|()| text)
+    }
+
+    fn cut(&mut self, length: u64) -> io::Result<()> {
+        (self.length, self.is_torn) = (length, true);
+        self.file.set_len(length)?;
+        self.is_torn = false;
+        Ok(())
+    }
+
+    /// The text is behind the others, and on the disk. If that fails the file has what it had: so nothing that was refused is read, and
+    /// nothing new stands behind half a line. (After a sync that failed nobody knows what is on the disk, and the next one would say that
+    /// all is well: so the same text is written again.)
+    pub fn add(&mut self, text: &[u8]) -> io::Result<()> {
+        if self.is_torn {
+            self.cut(self.length)?;
+        }
+        let written = self.file.write_all_at(text, self.length);
+        let done = if self.syncs { written.and_then(|()| self.file.sync_data()) } else { written };
+        match done {
+            Ok(()) => self.length += text.len() as u64,
+            // (if it can't be cut now, it is before the next text)
+            Err(_) => drop(self.cut(self.length)),
+        }
+        done
+    }
+}
+
+impl Drop for Kept {
+    fn drop(&mut self) {
+        if self.born == system::forks() {
+            system::close_here(&mut self.file);
+        }
+    }
+}
+
+fn lock(file: &File) -> Result<(), String> {
+    for _ in 0..TRIES {
+        match system::lock(file) {
+            // (a child that another thread began just now has the lock too, until it runs its program)
+            Err(why) if why.kind() == io::ErrorKind::WouldBlock => sleep(PAUSE),
+            it => return it.map_err(|why| why.to_string()),
+        }
+    }
+    Err("another process has it open".into())
+}

@@ -1,0 +1,103 @@
+// The file of a journal.
+#ifndef LABRUN_FILE_HPP
+#define LABRUN_FILE_HPP
+#include "forks.hpp"
+#include <cerrno>
+#include <cstring>
+#include <fcntl.h>
+#include <string_view>
+#include <sys/file.h>
+#include <sys/stat.h>
+
+namespace labrun::detail {
+
+// A file that one process has at a time. `syncs`: what was written is on the disk when a call returns, and so is the file's name.
+class file {
+  public:
+    file(const std::string &path, bool syncs) : path_(path), syncs_(syncs) {
+        number_ = ::open(path.c_str(), O_RDWR | O_CREAT | O_CLOEXEC, 0666);
+        if (number_ < 0) throw journal_error(path_, std::strerror(errno));
+        // (the lock goes with the process, however that ends)
+        if (flock(number_, LOCK_EX | LOCK_NB)) {
+            const int why = errno;
+            ::close(number_);
+            throw journal_error(path_, why == EWOULDBLOCK ? "another process has it open" : std::strerror(why));
+        }
+        for (std::atomic<int> &it : files)
+            if (int none = 0; it.compare_exchange_strong(none, number_ + 1)) break;
+    }
+    file(const file &) = delete;
+    file &operator=(const file &) = delete;
+    // (in a child of a fork it is closed already)
+    ~file() {
+        if (!birth_.is_here()) return;
+        for (std::atomic<int> &it : files)
+            if (int mine = number_ + 1; it.compare_exchange_strong(mine, 0)) break;
+        ::close(number_);
+    }
+
+    const std::string &path() const { return path_; }
+    std::size_t length() const { return length_; }
+
+    // All that stands in it.
+    std::string text() const {
+        std::string all, part(1 << 16, 0);
+        for (;;) {
+            const ssize_t more = pread(number_, part.data(), part.size(), static_cast<off_t>(all.size()));
+            if (more == 0) return all;
+            if (more > 0) all.append(part, 0, static_cast<std::size_t>(more));
+            else if (errno != EINTR) throw journal_error(path_, std::strerror(errno));
+        }
+    }
+
+    // So much of it counts, and the rest is cut off before anything is written behind that.
+    void counts(std::size_t length) {
+        length_ = length;
+        is_torn_ = true;
+    }
+
+    // This stands behind what counts, on the disk. No leaves the file as it was, and `errno` says why. (A sync that failed has to be called
+    // again with all that was written: nobody knows what is on the disk, and a second sync alone would say that all is well.)
+    bool add(std::string_view more) {
+        if (is_torn_ && !cut()) return false;
+        is_torn_ = true;
+        const bool is_good = writes(more) && (!syncs_ || !fdatasync(number_));
+        const int why = errno;
+        if (is_good) length_ += more.size();
+        is_torn_ = !is_good && !cut();
+        errno = why;
+        return is_good;
+    }
+
+    // Its name is on the disk. (Also if the file was there: whoever began it may have died before that.)
+    bool sync_name() const {
+        if (!syncs_) return true;
+        const std::size_t slash = path_.rfind('/');
+        const int folder = ::open(slash == std::string::npos ? "." : path_.substr(0, slash + 1).c_str(), O_RDONLY | O_CLOEXEC);
+        const bool is_good = folder >= 0 && !fsync(folder);
+        if (folder >= 0) ::close(folder);
+        return is_good;
+    }
+
+  private:
+    bool cut() const { return !ftruncate(number_, static_cast<off_t>(length_)); }
+
+    bool writes(std::string_view more) const {
+        for (std::size_t at = 0; at < more.size();) {
+            const ssize_t wrote = pwrite(number_, &more[at], more.size() - at, static_cast<off_t>(length_ + at));
+            if (wrote > 0) at += static_cast<std::size_t>(wrote);
+            else if (wrote == 0 || errno != EINTR) return false;
+        }
+        return true;
+    }
+
+    const std::string path_;
+    const bool syncs_;
+    const birth birth_{};
+    int number_;
+    std::size_t length_ = 0;
+    bool is_torn_ = true; // what is behind `length_` may be anything
+};
+
+} // namespace labrun::detail
+#endif
