@@ -6,9 +6,7 @@
 //     labrun/errors.hpp  what they throw
 //
 // What is in labrun/parts is theirs alone.
-#ifndef LABRUN_HPP
-#define LABRUN_HPP
+#pragma once
 #include "labrun/lab.hpp"
 #include "labrun/runs.hpp"
 #include "labrun/script.hpp"
-#endif

@@ -1,13 +1,14 @@
 // What a lab is opened with, how somebody asks, and who is there.
-#ifndef LABRUN_ASKING_HPP
-#define LABRUN_ASKING_HPP
-#include "errors.hpp"
+#pragma once
+#include "parts/calls.hpp"
 
 namespace labrun {
 
-namespace detail {
-class lab_core;
-}
+// Where a journal is before a call returns: on the disk, or in the system's memory, which outlives the process and not the machine.
+enum class sync { data, none };
+
+// By how many sessions one that came before them is passed at most, unless said otherwise.
+inline constexpr std::uint32_t OVERTAKES = 64;
 
 // What holds of a lab for as long as it is open.
 struct lab_options {
@@ -38,24 +39,15 @@ class asking {
     using span = std::chrono::nanoseconds;
 
     // How long it waits: then timed_out says who held what it wanted. 0: it takes what is free, and doesn't wait.
-    asking &timeout(span most) {
-        timeout_ = most;
-        return *this;
-    }
+    asking &timeout(span most) { return timeout_ = detail::milliseconds(most), *this; }
     // How long it may hold while somebody waits for what it has: then it is taken away. (What nobody wants is held for longer.)
-    asking &limit(span most) {
-        limit_ = most;
-        return *this;
-    }
+    asking &limit(span most) { return limit_ = detail::milliseconds(most), *this; }
     // What it is for: see held::note. It is in the journal before the session begins.
-    asking &note(std::string text) {
-        note_ = std::move(text);
-        return *this;
-    }
+    asking &note(std::string text) { return note_ = std::move(text), *this; }
 
   private:
     friend class detail::lab_core;
-    std::optional<span> timeout_, limit_;
+    std::uint64_t timeout_ = LAB_NEVER, limit_ = LAB_NEVER;
     std::string note_;
 };
 
@@ -70,4 +62,3 @@ struct standing {
 };
 
 } // namespace labrun
-#endif

@@ -1,6 +1,5 @@
 // What labrun throws, and what says who keeps somebody waiting.
-#ifndef LABRUN_ERRORS_HPP
-#define LABRUN_ERRORS_HPP
+#pragma once
 #include <algorithm>
 #include <chrono>
 #include <cstdint>
@@ -14,6 +13,16 @@
 
 namespace labrun {
 
+namespace detail {
+
+inline std::string joined(const std::vector<std::string> &all, const std::string &between) {
+    std::string text;
+    for (const std::string &it : all) text += (text.empty() ? "" : between) + it;
+    return text;
+}
+
+} // namespace detail
+
 // What went wrong; also a status of the library that its call doesn't have.
 struct error : std::runtime_error {
     using std::runtime_error::runtime_error;
@@ -24,7 +33,7 @@ struct invalid : error {
     using error::error;
 };
 
-// It may not be now: another thread has the session, say.
+// It may not be now: the job is in a session already.
 struct not_now : error {
     using error::error;
 };
@@ -42,14 +51,7 @@ struct taken_away : error {
 
 // Somebody asked for an instrument that he may not use.
 struct may_not_use : error {
-    may_not_use(const std::string &who, const std::string &wrong, const std::vector<std::string> &may) : error(text(who, wrong, may)) {}
-
-  private:
-    static std::string text(const std::string &who, const std::string &wrong, const std::vector<std::string> &may) {
-        std::string all;
-        for (const std::string &it : may) all += (all.empty() ? "" : ", ") + it;
-        return who + " may not use " + wrong + ": it may use " + (may.empty() ? "nothing" : all);
-    }
+    using error::error;
 };
 
 // So many sets of instruments are asked for that the line has no room for these.
@@ -87,50 +89,33 @@ struct refused : error {
     std::uint32_t cause;
 };
 
-// The session of a script was given up, because its patience ran out. The next begin() is about the one after it.
+// The session of a script was given up, by its patience or by give_up(). The next begin() is about the one after it.
 struct withdrawn : error {
     withdrawn() : error("the session was withdrawn") {}
 };
 
-// Where a journal is before a call returns: on the disk, or in the system's memory, which outlives the process and not the machine.
-enum class sync { data, none };
-
-// By how many sessions one that came before them is passed at most, unless said otherwise.
-inline constexpr std::uint32_t OVERTAKES = 64;
-
-// Who keeps an instrument from a session that waits: whoever holds it, and `held_for` says for how long; or whoever waits and comes first.
-// `job` is a station or a job, and `session` the number that lab::take_away takes (0 on a bench of a script, whose jobs have names).
-// `behind` says why one that comes first doesn't hold yet: what it waits for itself, and so on to one that holds. On a bench, `passed` is
-// there if the waiting session isn't in line yet: by how many sessions the other was passed before it came to stand there.
+// Who keeps an instrument from a session that waits: whoever holds it, and `held_for` says for how long; or whoever waits and comes first,
+// and `behind` says what that one waits for itself, and so on to one that holds. `job` is a station, or a guest; `session` is the number
+// that lab::take_away takes.
 struct keeper {
     std::string instrument, job;
+    std::uint64_t session = 0;
     bool holds = false;
     std::chrono::duration<double> held_for{};
-    std::optional<std::uint32_t> passed{};
     std::shared_ptr<const keeper> behind{};
-    std::uint64_t session = 0;
 
     // The end of the chain: who holds.
     const keeper &end() const { return behind ? behind->end() : *this; }
 
-    // In words: `held`; `in line before you`; or, to one that isn't in line yet, `kept for board, passed 16 times`.
-    std::string why() const {
-        if (holds) return "held";
-        return passed ? "kept for " + who() + ", passed " + std::to_string(*passed) + " times" : "in line before you";
-    }
+    // board (session 7)
+    std::string who() const { return job + " (session " + std::to_string(session) + ")"; }
 
-    // supply is kept for board, which waits for scope, held by radio for 125 s
-    std::string text() const {
-        std::string all = instrument + " is ";
-        for (const keeper *it = this;; it = it->behind.get()) {
-            all += (it->holds ? "held by " : "kept for ") + it->who() + it->for_long();
-            if (!it->behind) return all;
-            all += ", which waits for " + it->behind->instrument + ", ";
-        }
+    // supply is kept for board (session 7), which waits for scope, held by radio (session 5) for 125 s
+    std::string text() const { return instrument + " is " + chain(); }
+    std::string chain() const {
+        const std::string rest = behind ? ", which waits for " + behind->instrument + ", " + behind->chain() : "";
+        return (holds ? "held by " : "kept for ") + who() + for_long() + rest;
     }
-
-    // As `board`, or in a lab `board (session 7)`.
-    std::string who() const { return session ? job + " (session " + std::to_string(session) + ")" : job; }
 
     // As ` for 125 s`, of one that holds; with one decimal below ten seconds.
     std::string for_long() const {
@@ -140,29 +125,25 @@ struct keeper {
     }
 };
 
-// The time limit passed; `keepers` says who kept it waiting at that moment. A session of a lab is over. One of a script keeps its place,
-// and may come to its instruments meanwhile if it stands in line: begin again, or give_up(). The text names first who is at the end of a
-// chain.
+// The time limit passed, and the session is over; `keepers` says who kept it waiting at that moment. The text names first who is at the end
+// of a chain.
 struct timed_out : error {
-    explicit timed_out(std::vector<keeper> by, const std::string &else_why = "it holds by now, or is over")
-        : error("still waits" + because(by, else_why)), keepers(std::move(by)) {}
+    explicit timed_out(std::vector<keeper> by) : error("still waits" + because(by)), keepers(std::move(by)) {}
     std::vector<keeper> keepers;
 
   private:
-    static std::string because(const std::vector<keeper> &by, const std::string &else_why) {
-        std::vector<std::string> ends;
-        std::string all, last;
+    static std::string because(const std::vector<keeper> &by) {
+        std::vector<std::string> all, ends;
         bool is_chain = false;
         for (const keeper &it : by) {
-            all += (all.empty() ? "" : ", ") + it.text();
+            all.push_back(it.text());
             is_chain = is_chain || it.behind;
             const std::string end = it.end().who() + ", at " + it.end().instrument + it.end().for_long();
             if (std::find(ends.begin(), ends.end(), end) == ends.end()) ends.push_back(end);
         }
-        for (const std::string &end : ends) last += (last.empty() ? " for " : " and ") + end;
-        return (is_chain ? last : "") + ": " + (all.empty() ? else_why : all);
+        if (by.empty()) return "";
+        return (is_chain ? " for " + detail::joined(ends, " and ") : "") + ": " + detail::joined(all, ", ");
     }
 };
 
 } // namespace labrun
-#endif

@@ -11,10 +11,9 @@
 // asked first for the same goes first, and nobody is passed for ever. This file is tested: it has the mutex, the threads and the file.
 // Any thread may call a lab. A session may be used by one thread at a time, and by another than the one that asked for it. A lab outlives
 // the threads in its calls.
-#ifndef LABRUN_LAB_HPP
-#define LABRUN_LAB_HPP
+#pragma once
 #include "parts/lab_core.hpp"
-#include <tuple>
+#include <iterator>
 
 namespace labrun {
 
@@ -22,69 +21,49 @@ namespace labrun {
 // then it is written as soon as one succeeds, and only then somebody else is let in. To learn of that, call finish().
 class [[nodiscard]] held {
   public:
-    held(held &&other) noexcept = default;
-    held &operator=(held &&other) noexcept {
-        held before(std::move(*this));
-        std::tie(number_, needs_, kind_, has_let_go_) = std::tie(other.number_, other.needs_, other.kind_, other.has_let_go_);
-        core_ = std::move(other.core_);
-        return *this;
-    }
-    ~held() {
-        if (core_ && !has_let_go_) core_->forgets(number_);
-    }
+    explicit held(detail::owner mine) : mine_(std::move(mine)) {}
 
     // Its number, by which take_away() takes it. No other session of the lab has it, also after a restart.
-    std::uint64_t number() const { return number_; }
+    std::uint64_t number() const { return mine_ ? mine_->number : 0; }
     // The instruments that it came to hold, in the order of the lab's; of any_of() the ones of the choice that was free.
-    std::vector<std::string> instruments() const { return core_ ? core_->names().names(needs_) : std::vector<std::string>(); }
+    std::vector<std::string> instruments() const { return mine_ ? core().names().names(mine_->needs) : std::vector<std::string>(); }
     // Its station; nothing, of a guest.
-    std::string station() const { return core_ ? core_->names().station(kind_) : std::string(); }
+    std::string station() const { return mine_ ? core().names().station(mine_->kind) : std::string(); }
     // Whether it holds yet. No: it let go or was taken away, or this is a child of a fork.
-    bool is_held() const { return core_ && !has_let_go_ && core_->is_held(number_); }
+    bool is_held() const { return mine_ && core().is_held(*mine_); }
 
     // What it is at: sessions() shows it, and with a journal it is in the file when this returns. At most 500 bytes, no line feed or
     // carriage return, else invalid. journal_error: a write failed; the note stands in the file as soon as one succeeds, so don't write it
     // again.
-    void note(const std::string &text) { core().note(number_, text); }
+    void note(const std::string &text) { core().note(*mine_, text); }
 
     // Lets go; with a journal that is in the file when this returns. journal_error: a write failed, and it holds until one succeeds, but
     // may do nothing more than finish: call it again to wait for that. taken_away: it holds no longer, and finish() says so whenever it is
     // called.
-    void finish() {
-        core().finish(number_);
-        has_let_go_ = true;
-    }
+    void finish() { core().finish(*mine_); }
 
   private:
-    friend class lab;
-    friend class station;
-    held(std::shared_ptr<detail::lab_core> core, const detail::came &it)
-        : core_(std::move(core)), number_(it.number), needs_(it.needs), kind_(it.kind) {}
-
+    // (none of one that was moved away)
     detail::lab_core &core() const {
-        if (!core_ || has_let_go_) throw not_held(number_);
-        return *core_;
+        if (!mine_) throw not_held(0);
+        return *mine_.get_deleter().core;
     }
 
-    std::shared_ptr<detail::lab_core> core_;
-    std::uint64_t number_, needs_;
-    std::uint32_t kind_;
-    bool has_let_go_ = false;
+    detail::owner mine_;
 };
 
 // A station of a lab.
 class station {
   public:
+    station(std::shared_ptr<detail::lab_core> core, std::uint32_t kind) : core_(std::move(core)), kind_(kind) {}
+
     // As those of the lab, but one session at a time: a second one waits for its end.
     held hold(const std::vector<std::string> &instruments, const asking &how = asking()) const { return any_of({instruments}, how); }
     held any_of(const std::vector<std::vector<std::string>> &choices, const asking &how = asking()) const {
-        return {core_, core_->hold(kind_, choices, how)};
+        return held(core_->hold(kind_, choices, how));
     }
 
   private:
-    friend class lab;
-    station(std::shared_ptr<detail::lab_core> core, std::uint32_t kind) : core_(std::move(core)), kind_(kind) {}
-
     std::shared_ptr<detail::lab_core> core_;
     std::uint32_t kind_;
 };
@@ -93,16 +72,15 @@ class station {
 class lab {
   public:
     // At most 64 instruments. invalid: the names or stations make no sense. journal_error: see there; the file is as it was.
-    // (In a child of a fork all of it is left as it is: its threads aren't there, and its mutex may be held for ever.)
     explicit lab(const std::vector<std::string> &instruments, const lab_options &options = lab_options())
-        : core_(new detail::lab_core(instruments, options), [](detail::lab_core *it) {
-              if (it->is_here()) delete it;
-          }) {}
+        : core_(new detail::lab_core(instruments, options), detail::where_opened()) {}
     lab(lab &&other) noexcept = default;
-    lab &operator=(lab &&other) = delete;
     // Closes, if that wasn't done. What can't be written isn't waited for: see close().
     ~lab() {
-        if (core_ && core_->is_here()) core_->drops();
+        try {
+            if (core_) close();
+        } catch (const std::exception &) {
+        }
     }
 
     // A guest's session: waits until all these are free at once, and holds them. (One that is named twice counts once.)
@@ -111,7 +89,7 @@ class lab {
     held hold(const std::vector<std::string> &instruments, const asking &how = asking()) const { return any_of({instruments}, how); }
     // The same of several sets: whichever is free first, and of several that are free the first of them.
     held any_of(const std::vector<std::vector<std::string>> &choices, const asking &how = asking()) const {
-        return {core_, core_->hold(core_->names().guests(), choices, how)};
+        return held(core_->hold(core_->names().guests(), choices, how));
     }
     // A station by its name; invalid: there is none.
     labrun::station station(const std::string &name) const { return {core_, core_->names().station(name)}; }
@@ -119,9 +97,8 @@ class lab {
     // The sessions that held when the process before this one ended: they hold yet, and nobody else is let in until they let go. It gives
     // each once. One that nobody takes from here stays held, and comes back the next time.
     [[nodiscard]] std::vector<held> resumed() const {
-        std::vector<held> found;
-        for (const detail::came &it : core_->resumed()) found.push_back(held(core_, it));
-        return found;
+        std::vector<detail::owner> all = core_->resumed();
+        return {std::make_move_iterator(all.begin()), std::make_move_iterator(all.end())};
     }
 
     // Who holds and who waits, in the order of asking.
@@ -143,4 +120,3 @@ class lab {
 };
 
 } // namespace labrun
-#endif

@@ -1,13 +1,10 @@
 // The file of a journal.
-#ifndef LABRUN_FILE_HPP
-#define LABRUN_FILE_HPP
-#include "forks.hpp"
+#pragma once
+#include "shared.hpp"
 #include <cerrno>
 #include <cstring>
 #include <fcntl.h>
-#include <string_view>
 #include <sys/file.h>
-#include <sys/stat.h>
 
 namespace labrun::detail {
 
@@ -16,28 +13,23 @@ class file {
   public:
     file(const std::string &path, bool syncs) : path_(path), syncs_(syncs) {
         number_ = ::open(path.c_str(), O_RDWR | O_CREAT | O_CLOEXEC, 0666);
-        if (number_ < 0) throw journal_error(path_, std::strerror(errno));
         // (the lock goes with the process, however that ends)
-        if (flock(number_, LOCK_EX | LOCK_NB)) {
-            const int why = errno;
-            ::close(number_);
-            throw journal_error(path_, why == EWOULDBLOCK ? "another process has it open" : std::strerror(why));
+        if (number_ >= 0 && !flock(number_, LOCK_EX | LOCK_NB)) {
+            becomes(0, number_ + 1);
+            return;
         }
-        for (std::atomic<int> &it : files)
-            if (int none = 0; it.compare_exchange_strong(none, number_ + 1)) break;
+        const int why = errno;
+        if (number_ >= 0) ::close(number_);
+        throw journal_error(path_, why == EWOULDBLOCK ? "another process has it open" : std::strerror(why));
     }
     file(const file &) = delete;
     file &operator=(const file &) = delete;
-    // (in a child of a fork it is closed already)
     ~file() {
-        if (!birth_.is_here()) return;
-        for (std::atomic<int> &it : files)
-            if (int mine = number_ + 1; it.compare_exchange_strong(mine, 0)) break;
+        becomes(number_ + 1, 0);
         ::close(number_);
     }
 
     const std::string &path() const { return path_; }
-    std::size_t length() const { return length_; }
 
     // All that stands in it.
     std::string text() const {
@@ -50,17 +42,16 @@ class file {
         }
     }
 
-    // So much of it counts, and the rest is cut off before anything is written behind that.
+    // So much of it counts. That is on the disk, and so is its name (whoever began it may have died before that), and the rest is cut off.
     void counts(std::size_t length) {
         length_ = length;
-        is_torn_ = true;
+        if (!add("") || !syncs_name()) throw not_written(errno);
     }
 
     // This stands behind what counts, on the disk. No leaves the file as it was, and `errno` says why. (A sync that failed has to be called
     // again with all that was written: nobody knows what is on the disk, and a second sync alone would say that all is well.)
     bool add(std::string_view more) {
         if (is_torn_ && !cut()) return false;
-        is_torn_ = true;
         const bool is_good = writes(more) && (!syncs_ || !fdatasync(number_));
         const int why = errno;
         if (is_good) length_ += more.size();
@@ -69,17 +60,14 @@ class file {
         return is_good;
     }
 
-    // Its name is on the disk. (Also if the file was there: whoever began it may have died before that.)
-    bool sync_name() const {
-        if (!syncs_) return true;
-        const std::size_t slash = path_.rfind('/');
-        const int folder = ::open(slash == std::string::npos ? "." : path_.substr(0, slash + 1).c_str(), O_RDONLY | O_CLOEXEC);
-        const bool is_good = folder >= 0 && !fsync(folder);
-        if (folder >= 0) ::close(folder);
-        return is_good;
-    }
+    journal_error not_written(int why) const { return {path_, "a write failed (" + std::string(std::strerror(why)) + ")"}; }
 
   private:
+    void becomes(int old, int now) const {
+        for (std::atomic<int> &it : files)
+            if (int found = old; it.compare_exchange_strong(found, now)) return;
+    }
+
     bool cut() const { return !ftruncate(number_, static_cast<off_t>(length_)); }
 
     bool writes(std::string_view more) const {
@@ -91,13 +79,20 @@ class file {
         return true;
     }
 
+    bool syncs_name() const {
+        if (!syncs_) return true;
+        const std::size_t slash = path_.rfind('/');
+        const int folder = ::open(slash == std::string::npos ? "." : path_.substr(0, slash + 1).c_str(), O_RDONLY | O_CLOEXEC);
+        const bool is_good = folder >= 0 && !fsync(folder);
+        if (folder >= 0) ::close(folder);
+        return is_good;
+    }
+
     const std::string path_;
     const bool syncs_;
-    const birth birth_{};
     int number_;
     std::size_t length_ = 0;
     bool is_torn_ = true; // what is behind `length_` may be anything
 };
 
 } // namespace labrun::detail
-#endif
