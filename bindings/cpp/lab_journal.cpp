@@ -320,6 +320,19 @@ static void no_end() {
     expect("until it is written", late.get() == 4);
 }
 
+// Whoever couldn't let go, and comes back to that when it was written meanwhile, has let go.
+static void an_end_that_was_written_meanwhile() {
+    anew();
+    const lab bay = opened();
+    auto held = bay.hold({"scope"});
+    disk_is_full();
+    expect("it isn't written", throws<journal_error>([&] { held.finish(); }));
+    disk_is_well();
+    expect("others come to hold once it is", bay.hold({"scope"}, LONG).is_held());
+    held.finish();
+    same("it has let go", why<labrun::not_held>([&] { held.finish(); }), "session 1 has let go");
+}
+
 static void no_note() {
     anew();
     const lab bay = opened();
@@ -488,8 +501,8 @@ static void load(bool has_room) {
 
 int main(int, char **words) {
     path = std::string(words[1]) + "/bay.journal";
-    for (const auto &test :
-         {who_held_comes_back, killed_at_any_moment, cuts, changes, of_others, no_hold, no_end, no_note, a_disk_that_hangs})
+    for (const auto &test : {who_held_comes_back, killed_at_any_moment, cuts, changes, of_others, no_hold, no_end,
+                             an_end_that_was_written_meanwhile, no_note, a_disk_that_hangs})
         test();
     for (const auto how : {labrun::sync::none, labrun::sync::data}) the_name_is_on_the_disk(how);
     for (const auto &test : {what_is_synced, threads_go_together, a_clock_that_is_set}) test();
