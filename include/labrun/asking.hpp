@@ -36,12 +36,10 @@ struct lab_options {
 // How somebody asks: `asking().timeout(2s).limit(30s).note("ripple")`. Times are counted in milliseconds, and broken ones are rounded up.
 class asking {
   public:
-    using span = std::chrono::nanoseconds;
-
     // How long it waits: then timed_out says who held what it wanted. 0: it takes what is free, and doesn't wait.
-    asking &timeout(span most) { return timeout_ = detail::milliseconds(most), *this; }
+    asking &timeout(std::chrono::nanoseconds most) { return timeout_ = detail::milliseconds(most), *this; }
     // How long it may hold while somebody waits for what it has: then it is taken away. (What nobody wants is held for longer.)
-    asking &limit(span most) { return limit_ = detail::milliseconds(most), *this; }
+    asking &limit(std::chrono::nanoseconds most) { return limit_ = detail::milliseconds(most), *this; }
     // What it is for: see held::note. It is in the journal before the session begins.
     asking &note(std::string text) { return note_ = std::move(text), *this; }
 

@@ -141,8 +141,7 @@ struct timed_out : error {
             const std::string end = it.end().who() + ", at " + it.end().instrument + it.end().for_long();
             if (std::find(ends.begin(), ends.end(), end) == ends.end()) ends.push_back(end);
         }
-        if (by.empty()) return "";
-        return (is_chain ? " for " + detail::joined(ends, " and ") : "") + ": " + detail::joined(all, ", ");
+        return (is_chain ? " for " + detail::joined(ends, " and ") : "") + (by.empty() ? "" : ": ") + detail::joined(all, ", ");
     }
 };
 

@@ -26,9 +26,9 @@ class [[nodiscard]] held {
     // Its number, by which take_away() takes it. No other session of the lab has it, also after a restart.
     std::uint64_t number() const { return mine_ ? mine_->number : 0; }
     // The instruments that it came to hold, in the order of the lab's; of any_of() the ones of the choice that was free.
-    std::vector<std::string> instruments() const { return mine_ ? core().names().names(mine_->needs) : std::vector<std::string>(); }
+    std::vector<std::string> instruments() const { return mine_ ? core().names.names(mine_->needs) : std::vector<std::string>(); }
     // Its station; nothing, of a guest.
-    std::string station() const { return mine_ ? core().names().station(mine_->kind) : std::string(); }
+    std::string station() const { return mine_ ? core().names.station(mine_->kind) : std::string(); }
     // Whether it holds yet. No: it let go or was taken away, or this is a child of a fork.
     bool is_held() const { return mine_ && core().is_held(*mine_); }
 
@@ -44,10 +44,7 @@ class [[nodiscard]] held {
 
   private:
     // (none of one that was moved away)
-    detail::lab_core &core() const {
-        if (!mine_) throw not_held(0);
-        return *mine_.get_deleter().core;
-    }
+    detail::lab_core &core() const { return mine_ ? *mine_.get_deleter().core : throw not_held(0); }
 
     detail::owner mine_;
 };
@@ -77,10 +74,7 @@ class lab {
     lab(lab &&other) noexcept = default;
     // Closes, if that wasn't done. What can't be written isn't waited for: see close().
     ~lab() {
-        try {
-            if (core_) close();
-        } catch (const std::exception &) {
-        }
+        if (core_) detail::quietly([&] { close(); });
     }
 
     // A guest's session: waits until all these are free at once, and holds them. (One that is named twice counts once.)
@@ -89,10 +83,10 @@ class lab {
     held hold(const std::vector<std::string> &instruments, const asking &how = asking()) const { return any_of({instruments}, how); }
     // The same of several sets: whichever is free first, and of several that are free the first of them.
     held any_of(const std::vector<std::vector<std::string>> &choices, const asking &how = asking()) const {
-        return held(core_->hold(core_->names().guests(), choices, how));
+        return held(core_->hold(core_->names.guests(), choices, how));
     }
     // A station by its name; invalid: there is none.
-    labrun::station station(const std::string &name) const { return {core_, core_->names().station(name)}; }
+    labrun::station station(const std::string &name) const { return {core_, core_->names.station(name)}; }
 
     // The sessions that held when the process before this one ended: they hold yet, and nobody else is let in until they let go. It gives
     // each once. One that nobody takes from here stays held, and comes back the next time.

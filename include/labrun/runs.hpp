@@ -12,11 +12,11 @@ struct report {
 
 namespace detail {
 
-[[noreturn]] inline void fail(std::uint32_t status, const lab_told &told) {
+// As done(), of a call that reads a script.
+inline std::uint32_t read(std::uint32_t status, const lab_told &told, std::initializer_list<std::uint32_t> those = {}) {
     if (status == LAB_REFUSED) throw refused(told.line, told.cause);
     if (status == LAB_TOO_LONG) throw error("script longer than 16777216 bytes");
-    done(status);
-    throw error("the library gave no text");
+    return done(status, those);
 }
 
 // What a call writes, which is called with ever more room until that fits.
@@ -24,8 +24,8 @@ template <class Call, class... Given> report told_by(Call call, Given... given) 
     std::string room(16384, 0);
     for (;;) {
         lab_told told{};
-        const std::uint32_t status = call(given..., reinterpret_cast<std::uint8_t *>(room.data()), room.size(), &told);
-        if (status != LAB_DONE && status != LAB_UNFINISHED && status != LAB_NO_ROOM) fail(status, told);
+        const std::uint32_t status =
+            read(call(given..., reinterpret_cast<std::uint8_t *>(room.data()), room.size(), &told), told, {LAB_UNFINISHED, LAB_NO_ROOM});
         room.resize(told.written);
         if (status != LAB_NO_ROOM) return {status == LAB_DONE, std::move(room)};
     }

@@ -29,10 +29,7 @@ class session {
         : core_(std::exchange(other.core_, nullptr)), job_(other.job_), number_(other.number_), needs_(std::move(other.needs_)) {}
     // (nobody can be told here that the library did what it never should: whoever calls next is)
     ~session() {
-        try {
-            finish();
-        } catch (const error &) {
-        }
+        detail::quietly([&] { finish(); });
     }
 
     // Counted from 1, as the script has them.
@@ -67,9 +64,7 @@ class desk {
     std::optional<session> begin() {
         const auto [number, needs] = core_->begin(job_);
         if (!number) return std::nullopt;
-        std::vector<std::string> names;
-        detail::each(needs, [&](std::uint32_t at) { names.push_back(core_->instruments[at]); });
-        return session(core_, job_, number, std::move(names));
+        return session(core_, job_, number, detail::those_in(needs, core_->instruments));
     }
 
     // Gives up the session that a thread waits for in begin(), from any other: it logs nothing. No: nobody waits, or the session has no

@@ -20,7 +20,7 @@ class bench_core final : public shared {
     explicit bench_core(std::string_view script) {
         lab_told told{};
         lab_size size{};
-        if (const std::uint32_t status = lab_bench_open(bytes(script), script.size(), &bench_, &told)) fail(status, told);
+        read(lab_bench_open(bytes(script), script.size(), &bench_, &told), told);
         done(lab_bench_size(&bench_, &size));
         for (std::uint32_t job = 0; job < size.jobs; job++) jobs.push_back(name(lab_job_name, job));
         for (std::uint32_t at = 0; at < size.instruments; at++) instruments.push_back(name(lab_instrument_name, at));
@@ -35,7 +35,15 @@ class bench_core final : public shared {
         me.is = stage::waits;
         waiting_ |= 1u << job;
         settle();
-        if (me.is == stage::waits) sleeps(guard, me, session_of(job).second.has_patience);
+        const bool is_patient = me.is == stage::waits && session_of(job).second.has_patience;
+        while (me.is == stage::waits && !is_over()) {
+            // (a patience runs out by the calls of `lab_settle`, so one of those that wait makes one now and then)
+            if (!is_patient) me.woken.wait(guard);
+            else if (me.woken.wait_for(guard, TICK) == std::cv_status::timeout && clock::now() - ticked_ >= TICK / 2) {
+                ticked_ = clock::now();
+                settle();
+            }
+        }
         if (is_over()) throw_over();
         if (me.is == stage::holds) return {session_of(job).first, session_of(job).second.needs};
         if (std::exchange(me.is, stage::outside) == stage::withdrawn) throw withdrawn();
@@ -69,7 +77,11 @@ class bench_core final : public shared {
     report close() {
         belongs_here();
         const lock guard(mutex_);
-        if (!is_over()) retire_all();
+        lab_turned turned{};
+        // Jobs that have no session left retire. (One may owe a meal, for which it needs forks that others give as they retire.)
+        for (std::size_t times = 0; times < seats_.size() && !is_over(); times++)
+            for (std::uint32_t job = 0; job < seats_.size(); job++)
+                answered(lab_retire(&bench_, job, 1, &turned), {LAB_NOT_YET, LAB_SESSIONS_LEFT});
         is_closed_ = true;
         wake_all();
         if (fault_) throw_over();
@@ -111,25 +123,6 @@ class bench_core final : public shared {
             seats_[job].woken.notify_one();
         });
         waiting_ &= ~those;
-    }
-
-    // (a patience runs out by the calls of `lab_settle`, so one of those that wait makes one now and then)
-    void sleeps(lock &guard, seat &me, bool is_patient) {
-        while (me.is == stage::waits && !is_over()) {
-            if (!is_patient) me.woken.wait(guard);
-            else if (me.woken.wait_for(guard, TICK) == std::cv_status::timeout && clock::now() - ticked_ >= TICK / 2) {
-                ticked_ = clock::now();
-                settle();
-            }
-        }
-    }
-
-    // Jobs that have no session left retire. (One may owe a meal, for which it needs forks that others give as they retire.)
-    void retire_all() {
-        lab_turned turned{};
-        for (std::size_t times = 0; times < seats_.size(); times++)
-            for (std::uint32_t job = 0; job < seats_.size(); job++)
-                answered(lab_retire(&bench_, job, 1, &turned), {LAB_NOT_YET, LAB_SESSIONS_LEFT});
     }
 
     void wake_all() noexcept override {

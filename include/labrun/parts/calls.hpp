@@ -32,9 +32,20 @@ template <class Act> void each(std::uint64_t set, Act act) {
     for (; set; set &= set - 1) act(static_cast<std::uint32_t>(__builtin_ctzll(set)));
 }
 
+// Those of these that are in a set.
+inline std::vector<std::string> those_in(std::uint64_t set, const std::vector<std::string> &all) {
+    std::vector<std::string> found;
+    each(set, [&](std::uint32_t at) { found.push_back(all[at]); });
+    return found;
+}
+
 // Never less than the span: a moment is cut to whole milliseconds, and so is this one's end.
 inline std::uint64_t milliseconds(std::chrono::nanoseconds span) {
     return span.count() <= 0 ? 0 : static_cast<std::uint64_t>(std::chrono::ceil<std::chrono::milliseconds>(span).count()) + 1;
+}
+
+// Does this where nobody can be told of what it throws.
+template <class Act> void quietly(Act act) noexcept try { act(); } catch (const std::exception &) {
 }
 
 // What C keeps of something that was opened. It is freed when it goes.

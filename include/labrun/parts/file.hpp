@@ -14,16 +14,14 @@ class file {
     file(const std::string &path, bool syncs) : path_(path), syncs_(syncs) {
         number_ = ::open(path.c_str(), O_RDWR | O_CREAT | O_CLOEXEC, 0666);
         // (the lock goes with the process, however that ends)
-        if (number_ >= 0 && !flock(number_, LOCK_EX | LOCK_NB)) {
-            becomes(0, number_ + 1);
-            return;
+        if (number_ < 0 || flock(number_, LOCK_EX | LOCK_NB)) {
+            const int why = errno;
+            ::close(number_);
+            throw journal_error(path_, why == EWOULDBLOCK ? "another process has it open" : std::strerror(why));
         }
-        const int why = errno;
-        if (number_ >= 0) ::close(number_);
-        throw journal_error(path_, why == EWOULDBLOCK ? "another process has it open" : std::strerror(why));
+        becomes(0, number_ + 1);
     }
     file(const file &) = delete;
-    file &operator=(const file &) = delete;
     ~file() {
         becomes(number_ + 1, 0);
         ::close(number_);

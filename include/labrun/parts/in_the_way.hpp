@@ -27,7 +27,6 @@ struct in_the_way {
         return found.empty() ? seated(kind) : found;
     }
 
-  private:
     template <class Act> void each_kept(std::uint64_t number, std::uint64_t instruments, Act act) const {
         each(instruments, [&](std::uint32_t at) {
             lab_standing by{};

@@ -15,7 +15,7 @@ class lab_core final : public shell, public std::enable_shared_from_this<lab_cor
   public:
     lab_core(const std::vector<std::string> &instruments, const lab_options &options) : shell(instruments, options) {
         lab_terms terms{{}, options.line, LAB_NEVER, milliseconds(options.disk), options.overtakes, !options.journal.empty()};
-        names_.hashes(terms.bay);
+        names.hashes(terms.bay);
         if (options.journal.empty()) opens(terms, "");
         else comes_back(options, terms);
     }
@@ -24,7 +24,7 @@ class lab_core final : public shell, public std::enable_shared_from_this<lab_cor
     owner hold(std::uint32_t kind, const std::vector<std::vector<std::string>> &choices, const asking &how) {
         std::vector<std::uint64_t> sets;
         sets.reserve(choices.size() + 1); // (a call wants a pointer, also to none)
-        for (const std::vector<std::string> &it : choices) sets.push_back(names_.bits(it));
+        for (const std::vector<std::string> &it : choices) sets.push_back(names.bits(it));
         owner mine; // (goes without the mutex)
         lock guard = open();
         const std::uint64_t number = next_number_++, moment = now(), wait = how.timeout_;
@@ -64,22 +64,17 @@ class lab_core final : public shell, public std::enable_shared_from_this<lab_cor
         pump(lab_bay_durable(&bay_, position));
     }
 
-    void finish(session_state &mine) {
-        lock guard = open();
-        if (mine.has_let_go) throw not_held(mine.number);
-        lets_it_go(guard, mine);
-        mine.has_let_go = true;
-    }
+    void finish(session_state &mine) { lets_it_go(open(), mine); }
 
     // Nobody comes for the session any more, and nobody can be told here. While a write fails, it lets go once that can be written.
     void forgets(session_state &mine) noexcept {
         if (!is_here()) return;
         lock guard(mutex_);
-        if (!is_over() && !mine.has_let_go) try {
-                if (mine.what == LAB_HOLDS) lets_it_go(guard, mine);
-                else pump(lab_bay_leave(&bay_, mine.number, now()));
-            } catch (const std::exception &) {
-            }
+        quietly([&] {
+            if (is_over() || mine.has_let_go) return;
+            if (mine.what == LAB_HOLDS) lets_it_go(std::move(guard), mine);
+            else pump(lab_bay_leave(&bay_, mine.number, now()));
+        });
         sessions_.erase(mine.number);
     }
 
@@ -102,14 +97,12 @@ class lab_core final : public shell, public std::enable_shared_from_this<lab_cor
     std::vector<standing> sessions() {
         const lock guard = open();
         std::vector<standing> all;
-        const std::uint64_t moment = now();
-        const auto clock = std::chrono::system_clock::now();
+        const auto zero = std::chrono::system_clock::now() - std::chrono::milliseconds(now());
         for (const lab_standing &it : standings(&bay_)) {
             const auto at = sessions_.find(it.number);
             const bool holds = it.what == LAB_HOLDS, is_known = at != sessions_.end();
-            const std::chrono::milliseconds since(moment - std::min(moment, it.since));
-            all.push_back({it.number, names_.station(it.kind), names_.names(is_known && !holds ? at->second.wants : it.needs), holds,
-                           clock - since, is_known ? at->second.note : ""});
+            all.push_back({it.number, names.station(it.kind), names.names(is_known && !holds ? at->second.wants : it.needs), holds,
+                           zero + std::chrono::milliseconds(it.since), is_known ? at->second.note : ""});
         }
         return all;
     }
@@ -146,13 +139,13 @@ class lab_core final : public shell, public std::enable_shared_from_this<lab_cor
     // The lab is as its file has it, or new: how many bytes have whole lines. (A process that was killed in its first write left a file
     // without a whole line, in which nobody was told anything.)
     std::size_t opens(const lab_terms &terms, const std::string &text) {
-        const std::vector<lab_class> &classes = names_.classes;
         std::size_t used = 0;
         std::uint64_t fault = 0;
         const auto wrong = [&](const std::string &why, std::size_t line = 0) { return journal_error(file_->path(), why, line); };
-        if (text.find('\n') == std::string::npos) return done(lab_bay_open(classes.data(), classes.size(), &terms, &bay_));
-        switch (done(lab_bay_resume(classes.data(), classes.size(), &terms, bytes(text), text.size(), began_, &bay_, &used, &fault),
-                     {LAB_BAY_MAY_NOT, LAB_BAY_ANOTHER, LAB_BAY_UNSOUND})) {
+        if (text.find('\n') == std::string::npos) return done(lab_bay_open(names.classes.data(), names.classes.size(), &terms, &bay_));
+        switch (
+            done(lab_bay_resume(names.classes.data(), names.classes.size(), &terms, bytes(text), text.size(), began_, &bay_, &used, &fault),
+                 {LAB_BAY_MAY_NOT, LAB_BAY_ANOTHER, LAB_BAY_UNSOUND})) {
         case LAB_BAY_MAY_NOT: throw wrong("session " + std::to_string(fault) + " held, and in this lab it may not");
         case LAB_BAY_ANOTHER: throw wrong("it is the journal of another lab");
         case LAB_BAY_UNSOUND: throw wrong("line " + std::to_string(fault) + " was changed, or isn't in its place", fault);
@@ -172,6 +165,7 @@ class lab_core final : public shell, public std::enable_shared_from_this<lab_cor
         // What a process wrote just before it was killed may be in memory alone, and a power cut would take it after somebody was told: so
         // it is on the disk first. And what hangs over isn't left in front of the next line.
         file_->counts(used);
+        const lock guard(mutex_);
         begins_writer();
         begins_timer();
     }
@@ -188,7 +182,7 @@ class lab_core final : public shell, public std::enable_shared_from_this<lab_cor
         if (is_over()) throw_over();
         switch (why) {
         case LAB_BAY_EMPTY: throw invalid("a session needs an instrument");
-        case LAB_BAY_MAY_NOT: throw names_.may_not(mine.kind, mine.wants);
+        case LAB_BAY_MAY_NOT: throw names.may_not(mine.kind, mine.wants);
         case LAB_BAY_LINE_FULL: throw full();
         case LAB_BAY_STOPPED:
         case LAB_STOPPED: is_closing_ ? throw closed() : throw stopped();
@@ -198,7 +192,8 @@ class lab_core final : public shell, public std::enable_shared_from_this<lab_cor
         }
     }
 
-    void lets_it_go(lock &guard, session_state &mine) {
+    void lets_it_go(lock &&guard, session_state &mine) {
+        if (mine.has_let_go) throw not_held(mine.number);
         if (!mine.lets_go) {
             if (mine.what != LAB_HOLDS) throw taken_away();
             pump(lab_bay_let_go(&bay_, mine.number, now()));
@@ -206,6 +201,7 @@ class lab_core final : public shell, public std::enable_shared_from_this<lab_cor
         }
         // (it doesn't hold if that was written by now)
         if (mine.what == LAB_HOLDS) is_written(guard);
+        mine.has_let_go = true;
     }
 
     std::mutex closes_;              // one thread at a time closes

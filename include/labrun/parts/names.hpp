@@ -29,11 +29,7 @@ struct lab_names {
         for (const std::string &it : those) set |= std::uint64_t(1) << place("instrument", instruments, it);
         return set;
     }
-    std::vector<std::string> names(std::uint64_t set) const {
-        std::vector<std::string> found;
-        each(set, [&](std::uint32_t at) { found.push_back(instruments[at]); });
-        return found;
-    }
+    std::vector<std::string> names(std::uint64_t set) const { return those_in(set, instruments); }
 
     // Why a class may not use one of these.
     may_not_use may_not(std::uint32_t kind, std::uint64_t those) const {
@@ -57,7 +53,6 @@ struct lab_names {
         }
     }
 
-  private:
     static std::uint32_t place(const std::string &what, const std::vector<std::string> &those, const std::string &name) {
         const auto at = std::find(those.begin(), those.end(), name);
         if (at == those.end()) throw invalid("there is no " + what + " " + name);

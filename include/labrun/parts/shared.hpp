@@ -24,14 +24,10 @@ inline const int at_forks = pthread_atfork(nullptr, nullptr, [] {
 // A mutex, and what stands behind it, until that is closed or the library did what it never should.
 class shared {
   public:
-    shared(const shared &) = delete;
-    shared &operator=(const shared &) = delete;
-
     bool is_here() const noexcept { return forks_ == forks.load(std::memory_order_relaxed); }
 
   protected:
     using lock = std::unique_lock<std::mutex>;
-    shared() = default;
 
     // (before the mutex is taken: in a child nobody may be there to let it go)
     void belongs_here() const {

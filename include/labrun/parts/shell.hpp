@@ -24,17 +24,16 @@ struct session_state {
 // All that stands here is used with the mutex held, but for the file, which the writer has.
 class shell : public shared {
   public:
-    const lab_names &names() const { return names_; }
+    const lab_names names;
 
   protected:
-    shell(const std::vector<std::string> &instruments, const lab_options &options) : names_(instruments, options) {}
+    shell(const std::vector<std::string> &instruments, const lab_options &options) : names(instruments, options) {}
     ~shell() { ends(); }
 
     // Milliseconds. With a journal those of the clock on the wall, as it was at the open: they stand in the file, and go on after a
     // restart. From then on a clock counts that nobody sets.
     std::uint64_t now() const {
-        using namespace std::chrono;
-        return began_ + static_cast<std::uint64_t>(duration_cast<std::chrono::milliseconds>(steady_clock::now() - opened_).count());
+        return began_ + static_cast<std::uint64_t>((std::chrono::steady_clock::now() - opened_) / std::chrono::milliseconds(1));
     }
 
     // What a call of the bay answered; what follows from it is told, and whoever has to do something is woken.
@@ -63,8 +62,7 @@ class shell : public shared {
     }
     [[noreturn]] void throw_unwritten() const {
         if (is_over()) throw_over();
-        if (why_) throw file_->not_written(why_);
-        throw journal_error(file_->path(), "the disk took too long");
+        throw why_ ? file_->not_written(why_) : journal_error(file_->path(), "the disk took too long");
     }
 
     // A thread writes, from the open on if there is a journal, and another one looks at the clock, once anybody has a time limit: so times
@@ -74,11 +72,10 @@ class shell : public shared {
 
     // They end, whatever isn't written.
     void ends() noexcept {
-        {
-            const lock guard(mutex_);
-            is_closed_ = true;
-            wake_all();
-        }
+        lock guard(mutex_);
+        is_closed_ = true;
+        wake_all();
+        guard.unlock();
         for (std::thread *it : {&writer_, &timer_})
             if (it->joinable()) it->join();
     }
@@ -90,20 +87,16 @@ class shell : public shared {
         return {reinterpret_cast<const char *>(room_.data()), length};
     }
 
-    const lab_names names_;
     owned<lab_bay, lab_bay_free> bay_;
     std::unordered_map<std::uint64_t, session_state> sessions_;
     std::uint64_t began_ = 0;
     std::optional<file> file_; // of the journal, if there is one
 
   private:
-    static constexpr std::chrono::milliseconds PAUSE{20}; // after a write that failed
-    static constexpr std::uint64_t HOUR = 3600000;        // nobody sleeps for longer, because no clock counts for ever
-
     void tell(session_state &of, const lab_outcome &it) {
         if (it.what == LAB_HOLDS) of.needs = it.needs;
         if (it.what == LAB_LAPSED) try {
-                of.late.emplace(in_the_way{&bay_, names_, now()}.of(it.number, of.wants, of.kind));
+                of.late.emplace(in_the_way{&bay_, names, now()}.of(it.number, of.wants, of.kind));
             } catch (const std::bad_alloc &) {
                 // (then it isn't said who was in the way)
             }
@@ -154,13 +147,15 @@ class shell : public shared {
         written_.notify_all();
     }
     void pauses(lock &guard) {
-        writer_looks_.wait_for(guard, PAUSE, [&] { return is_over(); });
+        writer_looks_.wait_for(guard, std::chrono::milliseconds(20), [&] { return is_over(); });
     }
 
     void waits(lock &guard) {
         timer_wakes_ = LAB_NEVER;
         pump();
-        timer_looks_.wait_for(guard, std::chrono::milliseconds(std::min(timer_wakes_ - std::min(timer_wakes_, now()), HOUR)));
+        // (an hour at most, because no clock counts for ever)
+        const std::uint64_t left = timer_wakes_ - std::min(timer_wakes_, now());
+        timer_looks_.wait_for(guard, std::chrono::milliseconds(std::min<std::uint64_t>(left, 3600000)));
     }
 
     void wake_all() noexcept override {
