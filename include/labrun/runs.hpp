@@ -13,7 +13,7 @@ struct report {
 namespace detail {
 
 // As done(), of a call that reads a script.
-inline std::uint32_t read(std::uint32_t status, const lab_told &told, std::initializer_list<std::uint32_t> those = {}) {
+inline std::uint32_t done_reading(std::uint32_t status, const lab_told &told, std::initializer_list<std::uint32_t> those = {}) {
     if (status == LAB_REFUSED) throw refused(told.line, told.cause);
     if (status == LAB_TOO_LONG) throw error("script longer than 16777216 bytes");
     return done(status, those);
@@ -24,8 +24,8 @@ template <class Call, class... Given> report told_by(Call call, Given... given) 
     std::string room(16384, 0);
     for (;;) {
         lab_told told{};
-        const std::uint32_t status =
-            read(call(given..., reinterpret_cast<std::uint8_t *>(room.data()), room.size(), &told), told, {LAB_UNFINISHED, LAB_NO_ROOM});
+        const std::uint32_t status = done_reading(call(given..., reinterpret_cast<std::uint8_t *>(room.data()), room.size(), &told), told,
+                                                  {LAB_UNFINISHED, LAB_NO_ROOM});
         room.resize(told.written);
         if (status != LAB_NO_ROOM) return {status == LAB_DONE, std::move(room)};
     }

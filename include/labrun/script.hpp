@@ -23,10 +23,10 @@ namespace labrun {
 // A session that holds all its instruments. When it goes, it logs the commands that are left and lets go.
 class session {
   public:
-    session(detail::bench_core *core, std::uint32_t job, std::uint32_t number, std::vector<std::string> needs)
-        : core_(core), job_(job), number_(number), needs_(std::move(needs)) {}
+    session(detail::bench_core *core, std::uint32_t job, std::uint32_t number, std::uint64_t needs)
+        : core_(core), job_(job), number_(number), needs_(needs) {}
     session(session &&other) noexcept
-        : core_(std::exchange(other.core_, nullptr)), job_(other.job_), number_(other.number_), needs_(std::move(other.needs_)) {}
+        : core_(other.core_), job_(other.job_), number_(other.number_), needs_(other.needs_), holds_(std::exchange(other.holds_, false)) {}
     // (nobody can be told here that the library did what it never should: whoever calls next is)
     ~session() {
         detail::quietly([&] { finish(); });
@@ -34,21 +34,22 @@ class session {
 
     // Counted from 1, as the script has them.
     std::uint32_t number() const { return number_; }
-    const std::vector<std::string> &instruments() const { return needs_; }
+    std::vector<std::string> instruments() const { return detail::those_in(needs_, core_->instruments); }
 
     // Does its next command, and gives its entry in the log; nothing if no command is left, or it has let go.
-    std::optional<lab_entry> command() { return core_ ? core_->command(job_) : std::nullopt; }
+    std::optional<lab_entry> command() { return holds_ ? core_->command(job_) : std::nullopt; }
 
     // Lets go now.
     void finish() {
-        if (core_) core_->end(job_);
-        core_ = nullptr;
+        if (holds_) core_->end(job_);
+        holds_ = false;
     }
 
   private:
     detail::bench_core *core_;
     std::uint32_t job_, number_;
-    std::vector<std::string> needs_;
+    std::uint64_t needs_;
+    bool holds_ = true;
 };
 
 // What the owner of a job calls, from whatever thread it is on.
@@ -62,9 +63,9 @@ class desk {
     // because its patience ran out, which the script counts in turns (a thread that waits takes ten a second), or by give_up().
     // not_now: another thread has the session, or waits for it. closed, other_process.
     std::optional<session> begin() {
-        const auto [number, needs] = core_->begin(job_);
+        const auto [number, what] = core_->begin(job_);
         if (!number) return std::nullopt;
-        return session(core_, job_, number, detail::those_in(needs, core_->instruments));
+        return session(core_, job_, number, what.needs);
     }
 
     // Gives up the session that a thread waits for in begin(), from any other: it logs nothing. No: nobody waits, or the session has no

@@ -20,15 +20,15 @@ class bench_core final : public shared {
     explicit bench_core(std::string_view script) {
         lab_told told{};
         lab_size size{};
-        read(lab_bench_open(bytes(script), script.size(), &bench_, &told), told);
+        done_reading(lab_bench_open(bytes(script), script.size(), &bench_, &told), told);
         done(lab_bench_size(&bench_, &size));
         for (std::uint32_t job = 0; job < size.jobs; job++) jobs.push_back(name(lab_job_name, job));
         for (std::uint32_t at = 0; at < size.instruments; at++) instruments.push_back(name(lab_instrument_name, at));
         seats_ = std::vector<seat>(size.jobs);
     }
 
-    // Waits until the next session of a job is held: its number, or 0 if none is left, and its instruments.
-    std::pair<std::uint32_t, std::uint64_t> begin(std::uint32_t job) {
+    // Waits until the next session of a job is held: its number, or 0 if none is left, and what it is.
+    std::pair<std::uint32_t, lab_session> begin(std::uint32_t job) {
         lock guard = open();
         seat &me = seats_[job];
         if (me.is != stage::outside) throw not_now(jobs[job] + " is in a session, or waits for one");
@@ -45,7 +45,7 @@ class bench_core final : public shared {
             }
         }
         if (is_over()) throw_over();
-        if (me.is == stage::holds) return {session_of(job).first, session_of(job).second.needs};
+        if (me.is == stage::holds) return session_of(job);
         if (std::exchange(me.is, stage::outside) == stage::withdrawn) throw withdrawn();
         return {};
     }

@@ -45,7 +45,9 @@ inline std::uint64_t milliseconds(std::chrono::nanoseconds span) {
 }
 
 // Does this where nobody can be told of what it throws.
-template <class Act> void quietly(Act act) noexcept try { act(); } catch (const std::exception &) {
+template <class Act> void quietly(Act act) noexcept try {
+    act();
+} catch (const std::exception &) {
 }
 
 // What C keeps of something that was opened. It is freed when it goes.
