@@ -42,7 +42,8 @@ static void what_a_script_says() {
     expect("b reads what they left", of.desks()[1].begin()->command()->value == 10);
     expect("none left", !of.desks()[0].begin() && !of.desks()[1].begin() && !of.desks()[1].begin());
     const labrun::report report = of.close();
-    expect("finished", report.finished && of.close().text == report.text && report.text == labrun::run(two).text);
+    const std::string log = "instrument scale 3\na 1 1/1 add 5 = 5\na 2 1/1 add 5 = 10\nb 1 1/1 read = 10\n";
+    expect("finished", report.finished && of.close().text == report.text && report.text.find(log) != std::string::npos);
     expect("closed", throws<labrun::closed>([&] { of.desks()[0].begin(); }) && throws<labrun::closed>([&] { of.desks()[0].give_up(); }));
 }
 
@@ -117,7 +118,8 @@ static void given_up() {
     expect("without a patience it can't leave the line", !b.give_up() && is_waiting(third));
     held.reset();
     expect("and comes to hold", third.get() == 3);
-    expect("the rest", a.begin() && !a.begin() && !b.begin());
+    expect("the rest", a.begin().has_value());
+    expect("none left", !a.begin() && !b.begin());
     const labrun::report report = of.close();
     expect("nothing is logged of what was given up",
            report.finished && report.text.find("withdrawn 2") != std::string::npos && report.text.find("b 1 ") == std::string::npos);
