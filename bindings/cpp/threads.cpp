@@ -125,6 +125,21 @@ static void given_up() {
            report.finished && report.text.find("withdrawn 2") != std::string::npos && report.text.find("b 1 ") == std::string::npos);
 }
 
+// Whoever waits behind one that is given up is woken by that, though the first one holds on.
+static void behind_one_that_is_given_up() {
+    bench of("lab 2\njob radio\nsession\nscope read\nend\njob board\nsession patience 999999\nscope read\nsupply read\nend\n"
+             "job drive\nsession\nsupply read\nend\n");
+    auto held = of.desks()[0].begin();
+    auto board = begins(of.desks()[1]);
+    expect("board waits", is_waiting(board));
+    auto drive = begins(of.desks()[2]);
+    expect("drive waits behind it", is_waiting(drive));
+    expect("given up", of.desks()[1].give_up() && throws<labrun::withdrawn>([&] { board.get(); }));
+    expect("drive is woken", drive.wait_for(60s) == std::future_status::ready);
+    held.reset();
+    expect("its session", drive.get() == 1);
+}
+
 static void close() {
     bench of(two);
     auto held = of.desks()[0].begin();
@@ -182,8 +197,7 @@ static void whole_runs() {
     for (const auto &call : {labrun::check, labrun::upgrade})
         expect("refused",
                throws<labrun::refused>([&] { return call("lab 1\njob A\n"); }) && throws<labrun::refused>([&] { return call(""); }));
-    expect("refused",
-           throws<labrun::refused>([] { return labrun::run(""); }));
+    expect("refused", throws<labrun::refused>([] { return labrun::run(""); }));
     same("too long", why([] { return labrun::check(std::string(16777217, '\n')); }), "script longer than 16777216 bytes");
     same("no file", why([] {
              bench::open("/nowhere");
@@ -238,8 +252,8 @@ static void load(int wanted) {
 }
 
 int main(int count, char **words) {
-    for (const auto &test :
-         {what_a_script_says, an_exception_lets_go, who_waits_is_woken, a_ring, one_thread_at_a_desk, given_up, close, a_fork, whole_runs})
+    for (const auto &test : {what_a_script_says, an_exception_lets_go, who_waits_is_woken, a_ring, one_thread_at_a_desk, given_up,
+                             behind_one_that_is_given_up, close, a_fork, whole_runs})
         test();
     load(count > 1 ? std::stoi(words[1]) : 20000);
     return ended();
