@@ -1,10 +1,9 @@
 -- For readers: by how many somebody is passed while it waits in line.
 use Rattle.std.specs.Prelude.{◌≡◌, ◌≢◌, ◌⊎◌, ℕ, zero, suc, ◌+◌, ◌<◌, ◌≤◌, Bool, if◌then◌else◌, true, List, ◌∷◌, ◌++◌, length, Option, Some, None}
 use Rattle.std.proofs.Common.{inl, inr}
-use Rattle.std.specs.Int.Bits.{bit_and}
 use Rattle.bay_line.specs.declared.wish.Wish.{Wish}
 use Rattle.bay_line.specs.declared.going_in.Seated.{Seated}
-use Rattle.bay_line.specs.Wishes.{wish_at, is_kept, passes}
+use Rattle.bay_line.specs.Wishes.{wish_at, is_kept, passes, WantsNoMore}
 use Rattle.bay_line.specs.Turns.{MayGoIn}
 use Rattle.bay_line.specs.Lines.{LineView, IsInOrder, Below, IsNext, GoIn, LetsIn, asking, leaving}
 
@@ -82,11 +81,6 @@ abbrev pub IsFirstComeFirstServed : Type 0
 IsFirstComeFirstServed =
     (in_use free : ℕ) (x : LineView) (place : ℕ) (s : Seated) → IsInOrder x → IsNext x.most in_use free x.wishes place s
     → (i : ℕ) → i < place → WantTheSame (wish_at x.wishes i) (wish_at x.wishes place) → ⊥
-
--- it wants no instrument that the other doesn't, and may have a place wherever the other may
-pub record WantsNoMore (w other : Wish) : Type 0 where
-  pub needs : bit_and w.needs other.needs ≡ w.needs
-  pub classes : bit_and other.classes w.classes ≡ other.classes
 
 -- Whoever is let in: nobody that stood before it wants no more, and may have a place wherever it may, unless the one was passed by as often as may be and the
 -- other wasn't
