@@ -4,7 +4,7 @@ use Rattle.std.proofs.lemmas.Bool.{cases_eq, cases_lt, cases_Bool, false≢true,
 use Rattle.bay_line.specs.declared.wish.Wish.{Wish}
 use Rattle.bay_line.specs.Wishes.{wish_at, common, is_ready, is_kept}
 use Rattle.bay_line.specs.Lines.{Rises}
-use Rattle.bay_line.specs.Turns.{HasElder, HasReason, MayGoIn, AreKept, IsKeptBelow, MayKeep, holds_back, SaysHeldBack, SaysElder, SaysAlone, SaysFirst, SaysLast, SaysMayGo, SaysItsTurn}
+use Rattle.bay_line.specs.Turns.{HasElder, HasReason, MayGoIn, AreKept, IsKeptBelow, MayKeep, holds_back, SaysHeldBack, SaysElder, SaysOnlyItsOwn, SaysAlone, SaysFirst, SaysLast, SaysMayGo, SaysItsTurn}
 use Rattle.bay_line.proofs.Keepers.{rises_at}
 
 -- ---- the wishes of an ask stand next to one another
@@ -59,7 +59,7 @@ kept_reason most in_use free ws k n kept m are shares from = elim (are.why (wish
       inr (inr (one.0, (omega (arith, one.1.0, few), one.1.1, m.only one.0 one.1.0, from one.0 one.1.0 one.1.1), one.2))
 ]
 
-pub alone_reason : (most in_use free : ℕ) (ws : List Wish) (k n kept : ℕ) → MayKeep most free ws k n → AreKept in_use ws (IsKeptBelow most free ws n) kept
+alone_reason : (most in_use free : ℕ) (ws : List Wish) (k n kept : ℕ) → MayKeep most free ws k n → AreKept in_use ws (IsKeptBelow most free ws n) kept
     → common (wish_at ws k).needs kept ≡ true → SaysAlone ws k true → HasReason most in_use free ws k
 alone_reason most in_use free ws k n kept m are shares alone = kept_reason most in_use free ws k n kept m are shares (λ i below it.
     let few = m.few in
@@ -72,7 +72,7 @@ elder_reason : (most in_use free : ℕ) (ws : List Wish) (k n kept : ℕ) → Ma
     → common (wish_at ws k).needs kept ≡ true → HasElder most free ws k → HasReason most in_use free ws k
 elder_reason most in_use free ws k n kept m are shares elder = kept_reason most in_use free ws k n kept m are shares (λ i below it. inr elder)
 
-pub held_reason : (most in_use free : ℕ) (ws : List Wish) (k n : ℕ) → MayKeep most free ws k n → SaysHeldBack most free ws k n true
+held_reason : (most in_use free : ℕ) (ws : List Wish) (k n : ℕ) → MayKeep most free ws k n → SaysHeldBack most free ws k n true
     → HasReason most in_use free ws k
 held_reason most in_use free ws k n m held =
     let few = m.few in let i = held.0 in let v = wish_at ws k in let w = wish_at ws i in
@@ -116,12 +116,22 @@ own_kept most in_use free ws k n m ready unused held none = record {
   ];
 }
 
-pub says_may_go : (most in_use free : ℕ) (ws : List Wish) (k n kept : ℕ) (elder : Bool) → MayKeep most free ws k n
+pub says_only_its_own : (most free : ℕ) (ws : List Wish) (k n : ℕ) (elder : Bool) → SaysHeldBack most free ws k n false → SaysElder most free ws k elder
+    → SaysOnlyItsOwn most free ws k n (not elder)
+says_only_its_own most free ws k n true held elder = inr (inr elder)
+says_only_its_own most free ws k n false held none = (held, none)
+
+pub says_may_go : (most in_use free : ℕ) (ws : List Wish) (k n kept : ℕ) (own : Bool) → MayKeep most free ws k n
     → AreKept in_use ws (IsKeptBelow most free ws n) kept → is_ready free (wish_at ws k) ≡ true → common (wish_at ws k).needs kept ≡ true
-    → common (wish_at ws k).needs in_use ≡ false → SaysHeldBack most free ws k n false → SaysElder most free ws k elder
-    → SaysMayGo most in_use free ws k (not elder)
-says_may_go most in_use free ws k n kept true m are ready shares unused held elder = elder_reason most in_use free ws k n kept m are shares elder
-says_may_go most in_use free ws k n kept false m are ready shares unused held none = own_kept most in_use free ws k n m ready unused held none
+    → common (wish_at ws k).needs in_use ≡ false → SaysOnlyItsOwn most free ws k n own → SaysMayGo most in_use free ws k own
+says_may_go most in_use free ws k n kept true m are ready shares unused own = own_kept most in_use free ws k n m ready unused own.0 own.1
+says_may_go most in_use free ws k n kept false m are ready shares unused own = elim own [
+  | inl alone ↦ alone_reason most in_use free ws k n kept m are shares alone
+  | inr more ↦ elim more [
+    | inl held ↦ held_reason most in_use free ws k n m held
+    | inr elder ↦ elder_reason most in_use free ws k n kept m are shares elder
+  ]
+]
 
 -- ---- its turn
 

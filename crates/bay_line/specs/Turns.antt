@@ -147,6 +147,12 @@ abbrev pub SaysAlone : List Wish → ℕ → Bool → Type 0
 SaysAlone wishes k true = (i : ℕ) → i < length wishes → i ≢ k → (wish_at wishes i).ask ≢ (wish_at wishes k).ask
 SaysAlone wishes k false = Unit {0}
 
+-- none of the first n holds it back but those of its own ask, and nobody else stands before it and wants no more; or else it says which isn't so, or no
+-- other wish of its ask is in line
+abbrev pub SaysOnlyItsOwn : ℕ → ℕ → List Wish → ℕ → ℕ → Bool → Type 0
+SaysOnlyItsOwn most free wishes k n true = SaysHeldBack most free wishes k n false × (HasElder most free wishes k → ⊥)
+SaysOnlyItsOwn most free wishes k n false = SaysAlone wishes k true ⊎ SaysHeldBack most free wishes k n true ⊎ HasElder most free wishes k
+
 -- the answer says whether it may be let in; if not, it has a reason
 abbrev pub SaysMayGo : ℕ → ℕ → ℕ → List Wish → ℕ → Bool → Type 0
 SaysMayGo most in_use free wishes k true = MayGoIn most in_use free wishes k

@@ -2,7 +2,7 @@
 ghost use Rattle.std.specs.Prelude.{◌≡◌, ◌<◌, ◌≤◌, length};
 ghost use Rattle.bay_line.specs.Wishes.{common};
 ghost use Rattle.bay_line.specs.Lines.{Rises};
-ghost use Rattle.bay_line.specs.Turns.{holds_back, is_elder, MayKeep, SaysFirst, SaysLast, SaysAlone, SaysElder, SaysHeldBack, SaysMayGo, AreKept, IsKeptBelow};
+ghost use Rattle.bay_line.specs.Turns.{holds_back, is_elder, MayKeep, SaysFirst, SaysLast, SaysAlone, SaysElder, SaysHeldBack, SaysOnlyItsOwn, SaysMayGo, AreKept, IsKeptBelow};
 
 use crate::wish::{Wish, is_kept, is_ready};
 
@@ -93,6 +93,23 @@ fn is_alone(wishes: &[Wish], place: usize) -> bool
     is_last(wishes, place)
 }
 
+/// Whether none of the first so many holds it back but those of its own ask, and nobody else stands before it and wants no more.
+fn only_its_own(wishes: &[Wish], place: usize, end: usize, most: u32, free: u32) -> bool
+    requires inside { place < length wishes.now }
+    requires few { end ≤ length wishes.now }
+    requires rises { Rises wishes.now }
+    ensures { SaysOnlyItsOwn most free wishes.now place end result }
+{
+    // (most asks have one set)
+    if is_alone(wishes, place) {
+        return false;
+    }
+    if is_held_back(wishes, place, end, most, free) {
+        return false;
+    }
+    !has_elder(wishes, place, most, free)
+}
+
 /// Whether it may be let in, where this is in use or kept by any of the first so many.
 pub(crate) fn may_go_in(
     wishes: &[Wish],
@@ -119,12 +136,5 @@ pub(crate) fn may_go_in(
     if common(wish.needs, in_use) {
         return false;
     }
-    // (so what is kept is kept by another; most asks have one set)
-    if is_alone(wishes, place) {
-        return false;
-    }
-    if is_held_back(wishes, place, end, most, free) {
-        return false;
-    }
-    !has_elder(wishes, place, most, free)
+    only_its_own(wishes, place, end, most, free)
 }
