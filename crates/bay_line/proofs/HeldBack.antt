@@ -1,10 +1,10 @@
 -- What of a wish is kept by its own ask alone.
 use Rattle.std.proofs.Common.{◌≡◌, ◌≢◌, ◌⊎◌, ℕ, ◌+◌, ◌-◌, ◌<◌, Bool, true, false, ◌&&◌, not, nat_eq, List, length, sym, ap, ◌∙◌, subst, inl, inr, arith}
-use Rattle.std.proofs.lemmas.Bool.{cases_eq, cases_lt, cases_Bool, false≢true, true≢false, and_parts, and_from, not-true, eq-eqb, ne_eqb}
+use Rattle.std.proofs.lemmas.Bool.{cases_eq, cases_Bool, false≢true, true≢false, and_parts, and_from, not-true, eq-eqb, ne_eqb}
 use Rattle.bay_line.specs.declared.wish.Wish.{Wish}
 use Rattle.bay_line.specs.Wishes.{wish_at, common, is_ready, is_kept}
 use Rattle.bay_line.specs.Lines.{Rises}
-use Rattle.bay_line.specs.Turns.{HasElder, HasReason, MayGoIn, AreKept, IsKeptBelow, MayKeep, holds_back, SaysHeldBack, SaysElder, SaysOnlyItsOwn, SaysAlone, SaysFirst, SaysLast, SaysMayGo, SaysItsTurn}
+use Rattle.bay_line.specs.Turns.{HasElder, HasReason, MayGoIn, AreKept, IsKeptBelow, MayKeep, is_free, holds_back, SaysHeldBack, SaysElder, SaysOnlyItsOwn, SaysAlone, SaysFirst, SaysLast, SaysMayGo}
 use Rattle.bay_line.proofs.Keepers.{rises_at}
 
 -- ---- the wishes of an ask stand next to one another
@@ -37,13 +37,6 @@ pub says_last : (ws : List Wish) (k : ℕ) (b : Bool) → Rises ws → k + 1 < l
     → SaysLast ws k b
 says_last ws k true rises more h = none_behind ws k rises more (differ (wish_at ws (k + 1)).ask (wish_at ws k).ask h)
 says_last ws k false rises more h = tt
-
-pub alone : (ws : List Wish) (k : ℕ) (b : Bool) → SaysFirst ws k true → SaysLast ws k b → SaysAlone ws k b
-alone ws k true first last = λ i inside apart. elim (cases_lt i k) [
-  | inl below ↦ first i below
-  | inr above ↦ last i inside (omega (arith, above, apart))
-]
-alone ws k false first last = tt
 
 -- ---- reasons
 
@@ -92,9 +85,9 @@ held_reason most in_use free ws k n m held =
 -- ---- and none
 
 pub nothing_kept : (most in_use free : ℕ) (ws : List Wish) (k n kept : ℕ) → MayKeep most free ws k n → AreKept in_use ws (IsKeptBelow most free ws n) kept
-    → is_ready free (wish_at ws k) ≡ true → common (wish_at ws k).needs kept ≡ false → MayGoIn most in_use free ws k
-nothing_kept most in_use free ws k n kept m are ready none = record {
-  ready = ready;
+    → is_free in_use free (wish_at ws k) ≡ true → common (wish_at ws k).needs kept ≡ false → MayGoIn most in_use free ws k
+nothing_kept most in_use free ws k n kept m are is_free none = record {
+  ready = (and_parts (is_ready free (wish_at ws k)) _ is_free).0;
   unused = are.unused (wish_at ws k).needs none;
   not_kept = λ i keeps. are.apart (wish_at ws k).needs none i (m.each i keeps.0 keeps.2, keeps.1);
 }
@@ -105,16 +98,18 @@ no_share most free v w kept other h = elim (cases_Bool (common v.needs w.needs))
   | inl shares ↦ absurd (false≢true (sym h ∙ and_from _ _ (and_from _ _ kept (ap not (ne_eqb w.ask v.ask other))) shares))
 ]
 
-own_kept : (most in_use free : ℕ) (ws : List Wish) (k n : ℕ) → MayKeep most free ws k n → is_ready free (wish_at ws k) ≡ true
-    → common (wish_at ws k).needs in_use ≡ false → SaysHeldBack most free ws k n false → (HasElder most free ws k → ⊥) → MayGoIn most in_use free ws k
-own_kept most in_use free ws k n m ready unused held none = record {
-  ready = ready;
-  unused = unused;
-  not_kept = λ i keeps. elim keeps.3 [
-    | inl other ↦ no_share most free (wish_at ws k) (wish_at ws i) keeps.1 other (held i (m.each i keeps.0 keeps.2))
-    | inr elder ↦ absurd (none elder)
-  ];
-}
+own_kept : (most in_use free : ℕ) (ws : List Wish) (k n : ℕ) → MayKeep most free ws k n → is_free in_use free (wish_at ws k) ≡ true
+    → SaysHeldBack most free ws k n false → (HasElder most free ws k → ⊥) → MayGoIn most in_use free ws k
+own_kept most in_use free ws k n m is_free held none =
+    let parts = and_parts (is_ready free (wish_at ws k)) (not (common (wish_at ws k).needs in_use)) is_free in
+    record {
+      ready = parts.0;
+      unused = not-true (common (wish_at ws k).needs in_use) parts.1;
+      not_kept = λ i keeps. elim keeps.3 [
+        | inl other ↦ no_share most free (wish_at ws k) (wish_at ws i) keeps.1 other (held i (m.each i keeps.0 keeps.2))
+        | inr elder ↦ absurd (none elder)
+      ];
+    }
 
 pub says_only_its_own : (most free : ℕ) (ws : List Wish) (k n : ℕ) (elder : Bool) → SaysHeldBack most free ws k n false → SaysElder most free ws k elder
     → SaysOnlyItsOwn most free ws k n (not elder)
@@ -122,33 +117,13 @@ says_only_its_own most free ws k n true held elder = inr (inr elder)
 says_only_its_own most free ws k n false held none = (held, none)
 
 pub says_may_go : (most in_use free : ℕ) (ws : List Wish) (k n kept : ℕ) (own : Bool) → MayKeep most free ws k n
-    → AreKept in_use ws (IsKeptBelow most free ws n) kept → is_ready free (wish_at ws k) ≡ true → common (wish_at ws k).needs kept ≡ true
-    → common (wish_at ws k).needs in_use ≡ false → SaysOnlyItsOwn most free ws k n own → SaysMayGo most in_use free ws k own
-says_may_go most in_use free ws k n kept true m are ready shares unused own = own_kept most in_use free ws k n m ready unused own.0 own.1
-says_may_go most in_use free ws k n kept false m are ready shares unused own = elim own [
+    → AreKept in_use ws (IsKeptBelow most free ws n) kept → is_free in_use free (wish_at ws k) ≡ true → common (wish_at ws k).needs kept ≡ true
+    → SaysOnlyItsOwn most free ws k n own → SaysMayGo most in_use free ws k own
+says_may_go most in_use free ws k n kept true m are is_free shares own = own_kept most in_use free ws k n m is_free own.0 own.1
+says_may_go most in_use free ws k n kept false m are is_free shares own = elim own [
   | inl alone ↦ alone_reason most in_use free ws k n kept m are shares alone
   | inr more ↦ elim more [
     | inl held ↦ held_reason most in_use free ws k n m held
     | inr elder ↦ elder_reason most in_use free ws k n kept m are shares elder
   ]
 ]
-
--- ---- its turn
-
-pub its_turn : (kept : Bool) (most in_use free : ℕ) (ws : List Wish) (k : ℕ) (b : Bool) → is_kept most free (wish_at ws k) ≡ kept
-    → SaysMayGo most in_use free ws k b → SaysItsTurn kept most in_use free ws k b
-its_turn kept most in_use free ws k true is x = (is, x)
-its_turn kept most in_use free ws k false is x = λ h. x
-
-pub those_before : (most free : ℕ) (ws : List Wish) (k : ℕ) → k < length ws → is_kept most free (wish_at ws k) ≡ true → MayKeep most free ws k k
-those_before most free ws k inside kept = record {
-  few = omega (arith, inside);
-  each = λ i within h. elim h [
-    | inl less ↦ less
-    | inr isnt ↦ absurd (false≢true (sym isnt ∙ kept))
-  ];
-  only = λ i below. inl below;
-}
-
-pub all_others : (most free : ℕ) (ws : List Wish) (k : ℕ) → is_kept most free (wish_at ws k) ≡ false → MayKeep most free ws k (length ws)
-all_others most free ws k isnt = record { few = omega arith; each = λ i within h. within; only = λ i below. inr isnt }

@@ -108,6 +108,10 @@ IsFirstOther most in_use free wishes None = OthersHaveReasons most in_use free w
 
 -- ---- how it is seen of one
 
+-- a place is free for it, and all its instruments are
+abbrev pub is_free : ℕ → ℕ → Wish → Bool
+is_free in_use free w = is_ready free w && not (common w.needs in_use)
+
 -- the first n are those that may keep their instruments from wish k: those before it; or all, if its own aren't kept
 pub record MayKeep (most free : ℕ) (wishes : List Wish) (k n : ℕ) : Type 0 where
   pub few : n ≤ length wishes

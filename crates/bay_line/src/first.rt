@@ -4,7 +4,7 @@ ghost use Rattle.bay_line.specs.Wishes.{common, is_ready, is_kept};
 ghost use Rattle.bay_line.specs.Lines.{Rises};
 ghost use Rattle.bay_line.specs.Turns.{AreKept, IsKeptBelow, SaysItsTurn, IsFirst, IsFirstKept, IsFirstOther, IsFreeClass};
 
-use crate::held_back::may_go_in;
+use crate::held_back::{is_free, may_go_in};
 use crate::wish::{Wish, is_kept};
 
 /// Whether it is one of those for which their instruments are kept, and may be let in.
@@ -17,6 +17,9 @@ fn goes_first(wishes: &[Wish], place: usize, most: u32, in_use: u64, kept: u64, 
     if !is_kept(wishes[place], most, free) {
         return false;
     }
+    if !is_free(wishes[place], in_use, free) {
+        return false;
+    }
     may_go_in(wishes, place, place, most, in_use, kept, free)
 }
 
@@ -27,6 +30,9 @@ fn goes_then(wishes: &[Wish], place: usize, most: u32, in_use: u64, kept: u64, f
     requires kept { AreKept in_use wishes.now (IsKeptBelow most free wishes.now (length wishes.now)) kept }
     ensures { SaysItsTurn false most in_use free wishes.now place result }
 {
+    if !is_free(wishes[place], in_use, free) {
+        return false;
+    }
     if is_kept(wishes[place], most, free) {
         return false;
     }

@@ -1,8 +1,8 @@
 //! Whether a wish may be let in, or what holds it back.
-ghost use Rattle.std.specs.Prelude.{◌≡◌, ◌<◌, ◌≤◌, length};
-ghost use Rattle.bay_line.specs.Wishes.{common};
+ghost use Rattle.std.specs.Prelude.{◌≡◌, ◌<◌, ◌≤◌, true, length};
+ghost use Rattle.bay_line.specs.Wishes.{wish_at, common};
 ghost use Rattle.bay_line.specs.Lines.{Rises};
-ghost use Rattle.bay_line.specs.Turns.{holds_back, is_elder, MayKeep, SaysFirst, SaysLast, SaysAlone, SaysElder, SaysHeldBack, SaysOnlyItsOwn, SaysMayGo, AreKept, IsKeptBelow};
+ghost use Rattle.bay_line.specs.Turns.{is_free, holds_back, is_elder, MayKeep, SaysFirst, SaysLast, SaysAlone, SaysElder, SaysHeldBack, SaysOnlyItsOwn, SaysMayGo, AreKept, IsKeptBelow};
 
 use crate::wish::{Wish, is_kept, is_ready};
 
@@ -110,6 +110,13 @@ fn only_its_own(wishes: &[Wish], place: usize, end: usize, most: u32, free: u32)
     !has_elder(wishes, place, most, free)
 }
 
+/// Whether a place is free for it, and all its instruments are.
+pub(crate) fn is_free(wish: Wish, in_use: u64, free: u32) -> bool
+    ensures { result ≡ is_free in_use free wish }
+{
+    is_ready(wish, free) && !common(wish.needs, in_use)
+}
+
 /// Whether it may be let in, where this is in use or kept by any of the first so many.
 pub(crate) fn may_go_in(
     wishes: &[Wish],
@@ -122,19 +129,13 @@ pub(crate) fn may_go_in(
 ) -> bool
     requires inside { place < length wishes.now }
     requires rises { Rises wishes.now }
+    requires free { is_free in_use free (wish_at wishes.now place) ≡ true }
     requires others { MayKeep most free wishes.now place end }
     requires kept { AreKept in_use wishes.now (IsKeptBelow most free wishes.now end) kept }
     ensures { SaysMayGo most in_use free wishes.now place result }
 {
-    let wish = wishes[place];
-    if !is_ready(wish, free) {
-        return false;
-    }
-    if !common(wish.needs, kept) {
+    if !common(wishes[place].needs, kept) {
         return true;
-    }
-    if common(wish.needs, in_use) {
-        return false;
     }
     only_its_own(wishes, place, end, most, free)
 }
