@@ -108,5 +108,6 @@ abbrev pub NobodyWaitsForItself : Type 0
 NobodyWaitsForItself =
     (most in_use free : ℕ) (wishes : List Wish) → IsChosen most in_use free wishes None → (k : ℕ) → k < length wishes
     → (is_ready free (wish_at wishes k) ≡ false) ⊎ (common (wish_at wishes k).needs in_use ≡ true)
-    ⊎ ((i : ℕ) × KeepsFrom most free wishes i k × ((wish_at wishes i).ask ≢ (wish_at wishes k).ask) × (common (wish_at wishes k).needs (wish_at wishes i).needs ≡ true))
+    ⊎ ((i : ℕ) × KeepsFrom most free wishes i k × ((wish_at wishes i).ask ≢ (wish_at wishes k).ask)
+    × (common (wish_at wishes k).needs (wish_at wishes i).needs ≡ true))
     ⊎ HasElder most free wishes k

@@ -2,7 +2,8 @@
 ghost use Rattle.std.specs.Prelude.{◌≡◌, ◌<◌, ◌≤◌, true, length};
 ghost use Rattle.bay_line.specs.Wishes.{wish_at, common};
 ghost use Rattle.bay_line.specs.Lines.{Rises};
-ghost use Rattle.bay_line.specs.Turns.{is_free, holds_back, is_elder, MayKeep, SaysFirst, SaysLast, SaysAlone, SaysElder, SaysHeldBack, SaysOnlyItsOwn, SaysMayGo, AreKept, IsKeptBelow};
+ghost use Rattle.bay_line.specs.Turns.{is_free, holds_back, is_elder, AreKept, IsKeptBelow, MayKeep};
+ghost use Rattle.bay_line.specs.Turns.{SaysFirst, SaysLast, SaysAlone, SaysElder, SaysHeldBack, SaysOnlyItsOwn, SaysMayGo};
 
 use crate::wish::{Wish, is_kept, is_ready};
 
