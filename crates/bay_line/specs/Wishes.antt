@@ -27,7 +27,7 @@ is_past now None = false
 abbrev pub is_late : ℕ → Wish → Bool
 is_late now w = is_past now w.deadline
 
--- it was passed by as often as may be, and a place is free for it: so its instruments are kept for it from all but those before it
+-- it was passed by as often as may be, and a place is free for it: so its instruments are kept for it from all but its own ask and those before it
 -- of which the same is true
 abbrev pub is_kept : ℕ → ℕ → Wish → Bool
 is_kept most free w = is_ready free w && nat_le most w.passed
