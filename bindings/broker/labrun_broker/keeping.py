@@ -398,3 +398,7 @@ class Keeping:
 
     def status(self) -> dict[str, Any]:
         return Standings(self).status()
+
+    def disk_is(self) -> str:
+        """What is wrong with the disk, behind a sentence; mostly nothing."""
+        return f" ({wrong})" if (wrong := self._shell.is_wrong()) else ""

@@ -14,7 +14,6 @@ from typing import Any, AsyncIterator, Awaitable, Callable, Coroutine, Optional
 
 import grpc
 import labrun
-from google.protobuf import json_format
 
 from . import broker_pb2 as pb
 from .bay import BadAddress
@@ -183,7 +182,7 @@ class Client:
             async with self._writing:
                 if self._waiting is waiting and asks and (for_whom != said or now > said_at + AGAIN):
                     said, said_at = for_whom, now
-                    await self.context.write(json_format.ParseDict({"waits": {"text": why, "waits_for": keepers}}, pb.Told()))
+                    await self.context.write(pb.Told(waits=pb.Waits(text=why, waits_for=keepers)))
             span = NEXT_WORD
 
     async def _note(self, asked: Any) -> None:
@@ -251,17 +250,14 @@ class Service:
 
     async def Status(self, _: Any, context: Any) -> Any:
         await self._paces(context)
-        return self._status()
-
-    def _status(self) -> Any:
-        return json_format.ParseDict(self.keeping.status(), pb.Bay())
+        return pb.Bay(**self.keeping.status())
 
     async def Watch(self, _: Any, context: Any) -> AsyncIterator[Any]:
         await self._paces(context)
-        yield self._status()
+        yield pb.Bay(**self.keeping.status())
         async for _ in self.keeping.changes():
             await asyncio.sleep(WATCH)
-            yield self._status()
+            yield pb.Bay(**self.keeping.status())
 
     async def Release(self, wish: Any, context: Any) -> Any:
         await self._paces(context)

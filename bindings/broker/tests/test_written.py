@@ -294,7 +294,8 @@ class FullDisk(OnFolder):
         waits = asyncio.create_task(keeping.hold(Wish(("scope",), station="board"), self.owner, asks.append))
         await asyncio.sleep(1)
         self.assertFalse(waits.done())
-        self.assertEqual(Standings(keeping).for_whom(asks[0])[:2], ([], "it is its turn, and it holds once that is on the disk"))
+        why = "it is its turn, and it holds once that is on the disk (a write failed (No space left on device))"
+        self.assertEqual(Standings(keeping).for_whom(asks[0])[:2], ([], why))
         self.breaks("")
         self.assertEqual((await waits).name, "board")
 
