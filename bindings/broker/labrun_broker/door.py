@@ -3,10 +3,12 @@
 from __future__ import annotations
 
 import asyncio
+import collections
 import os
 import socket
 import ssl
 import stat
+import time
 from dataclasses import dataclass
 from typing import Any, Optional
 
@@ -66,25 +68,33 @@ def is_loopback(address: str) -> bool:
     return is_here(host.strip("[]"))
 
 
-class Complaints:
-    """What nobody catches is told, with its traceback, once in a while: a client can't fill the log. That a stream was over before gRPC
-    could say how it ended is no fault."""
+class Seldom:
+    """What may be told, of each kind once in so many seconds: a client can't fill the log."""
 
-    PAUSE = 10.0
+    def __init__(self, pause: float) -> None:
+        self._pause, self._next, self._passed = pause, dict[str, float](), collections.Counter[str]()
+
+    def text(self, kind: str, text: str) -> Optional[str]:
+        """The text, and how many of its kind weren't told before it; None: it isn't told."""
+        now = time.monotonic()
+        if now < self._next.get(kind, 0.0):
+            self._passed[kind] += 1
+            return None
+        self._next[kind] = now + self._pause
+        return f"{text} (and {passed} before it)" if (passed := self._passed.pop(kind, 0)) else text
+
+
+class Complaints:
+    """What nobody catches is told, with its traceback, once in a while. That a stream was over before gRPC could say how it ended is no
+    fault."""
 
     def __init__(self) -> None:
-        self.next, self.passed = 0.0, 0
+        self._seldom = Seldom(10.0)
 
     def __call__(self, loop: asyncio.AbstractEventLoop, context: dict[str, Any]) -> None:
-        if type(context.get("exception")).__name__ == "ExecuteBatchError":
-            return
-        if loop.time() < self.next:
-            self.passed += 1
-            return
-        if self.passed:
-            context = {**context, "message": f"{context.get('message')} (and {self.passed} before it)"}
-        self.next, self.passed = loop.time() + self.PAUSE, 0
-        loop.default_exception_handler(context)
+        if type(context.get("exception")).__name__ != "ExecuteBatchError":
+            if (text := self._seldom.text("", str(context.get("message")))) is not None:
+                loop.default_exception_handler({**context, "message": text})
 
 
 def check_free(address: str) -> None:

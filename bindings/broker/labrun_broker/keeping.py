@@ -225,6 +225,7 @@ class Keeping:
     def _is_taken(self, session: Session, how: int) -> None:
         what = f"by {session.taken_by or 'the broker'}" + (f", because its client was gone for {self.grace:g} s" if how == GRACE else "")
         owner, held = session.owner, ", ".join(session.instruments)
+        self.says(f"session {session.number} of {session.name} was taken away {what}: {held}")
         self._over(session, "taken", what, ("taken", what))
         if not session.told.done():
             session.told.set_exception(Ended("taken", "the session was taken away before its client was told that it holds"))
@@ -399,6 +400,10 @@ class Keeping:
     def status(self) -> dict[str, Any]:
         return Standings(self).status()
 
-    def disk_is(self) -> str:
-        """What is wrong with the disk, behind a sentence; mostly nothing."""
-        return f" ({wrong})" if (wrong := self._shell.is_wrong()) else ""
+    def disk_fault(self) -> str:
+        """What is wrong with the disk; mostly nothing."""
+        return self._shell.is_wrong()
+
+    @property
+    def write_failures(self) -> int:
+        return self._shell.failures

@@ -17,7 +17,7 @@ import labrun
 
 from . import broker_pb2 as pb
 from .bay import BadAddress
-from .door import Complaints, Door, check_free
+from .door import Complaints, Door, Seldom, check_free
 from .keeping import Keeping
 from .sockets import for_the_group, give
 from .standing import Session, Standings
@@ -215,7 +215,7 @@ class Service:
 
     def __init__(self, keeping: Keeping, token: Optional[str]) -> None:
         self.keeping, self.token = keeping, token
-        self.clients = 0
+        self.clients, self._seldom = 0, Seldom(60.0)
         self._pace = collections.defaultdict[str, Pace](lambda: Pace(keeping.bay.limits.requests))
 
     async def _lets_in(self, context: Any) -> None:
@@ -223,9 +223,15 @@ class Service:
         if self.token is not None and not context.peer().startswith("unix:"):
             given = next((value for key, value in context.invocation_metadata() if key == "authorization"), "")
             if not given:
-                await context.abort(grpc.StatusCode.UNAUTHENTICATED, "this broker asks for its token: give its file by --token-file")
+                await self._refuses(context, "UNAUTHENTICATED", "this broker asks for its token: give its file by --token-file")
             if not hmac.compare_digest(str(given).encode(), f"Bearer {self.token}".encode()):
-                await context.abort(grpc.StatusCode.UNAUTHENTICATED, "this isn't its token")
+                await self._refuses(context, "UNAUTHENTICATED", "this isn't its token")
+
+    async def _refuses(self, context: Any, code: str, why: str) -> None:
+        """Also whoever looks after the broker is told, now and then."""
+        if (text := self._seldom.text(why, f"{context.peer()} isn't let in: {why}")) is not None:
+            self.keeping.says(text)
+        await context.abort(getattr(grpc.StatusCode, code), why)
 
     async def _paces(self, context: Any) -> None:
         await self._lets_in(context)
@@ -234,12 +240,12 @@ class Service:
         pace = self._pace[context.peer()]
         if pace.span(DEAR) > 1:
             pace.left += DEAR
-            await context.abort(grpc.StatusCode.RESOURCE_EXHAUSTED, f"more than {pace.rate} requests a second")
+            await self._refuses(context, "RESOURCE_EXHAUSTED", f"more than {pace.rate} requests a second")
 
     async def Hold(self, _: Any, context: Any) -> None:
         await self._lets_in(context)
         if self.clients >= self.keeping.bay.limits.clients:
-            await context.abort(grpc.StatusCode.RESOURCE_EXHAUSTED, f"{self.clients} clients are here, and no more may come")
+            await self._refuses(context, "RESOURCE_EXHAUSTED", f"{self.clients} clients are here, and no more may come")
         self.clients += 1
         try:
             # (so that the client knows that it is in)

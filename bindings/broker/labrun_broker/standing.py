@@ -115,7 +115,8 @@ class Standings:
     def why(self, session: Session) -> str:
         """The same as a text; also if there is no place, or the disk keeps it waiting."""
         if self._holds(session):
-            return f"it is its turn, and it holds once that is on the disk{self._keeping.disk_is()}"
+            wrong = self._keeping.disk_fault()
+            return "it is its turn, and it holds once that is on the disk" + (f" ({wrong})" if wrong else "")
         if self.is_full(session.kind):
             return self._is_taken(session)
         return ", ".join(it["text"] for it in self.keepers(session)) or "nobody keeps it any more"
@@ -124,7 +125,7 @@ class Standings:
         """Whom a session waits for, as a text, too; and what of that has to change before it is told again."""
         keepers, why = self.keepers(session), self.why(session)
         who = tuple((it["instrument"], it["station"], it["holds"]) for it in keepers)
-        return keepers, why, (who, self.is_full(session.kind), self._holds(session), why.count(GONE))
+        return keepers, why, (who, self.is_full(session.kind), self._holds(session) and why, why.count(GONE))
 
     def _name(self, bit: int) -> str:
         return self._keeping.places.instruments[bit]

@@ -192,10 +192,17 @@ class WithBroker(OnBroker):
         _, said = runs.communicate(timeout=LIMIT)
         self.assertEqual(runs.returncode, 76)
         self.assertIn("board: the session was taken away by", said)
+        with self.lab(broker, "board").hold("scope"):
+            done = broker.ran("release", "board", "--session", "1")
+            self.assertEqual((done.returncode, done.stderr), (1, "labrun-broker: board is in session 2, and not in 1 any more\n"))
+            self.assertEqual(station(lab, "board")["state"], "holding")
         for name, text in (("board", "board holds nothing"), ("moon", "moon is no station of this bay")):
             done = broker.ran("release", name)
             self.assertEqual((done.returncode, done.stdout), (1, ""))
             self.assertIn(text, done.stderr)
+
+        broker.end()
+        self.assertRegex(broker.said, "^labrun-broker: session 1 of board was taken away by .*: scope\n$")
 
     def test_one_broker_at_a_socket(self) -> None:
         broker = self.broker()

@@ -1,6 +1,7 @@
 """The keeping of the bay, on a loop and without a network."""
 
 import asyncio
+import json
 import os
 import random
 import tempfile
@@ -11,11 +12,12 @@ from typing import Any, Optional
 from unittest import mock
 
 import labrun
+from labrun_broker import broker_pb2 as pb
 from labrun_broker import keeping as kept
 from labrun_broker.bay import bay_of
 from labrun_broker.keeping import Keeping
 from labrun_broker.places import Places
-from labrun_broker.standing import Session
+from labrun_broker.standing import Session, Standings
 from labrun_broker.wishes import BadWish, Ended, TimedOut, Wish
 from tests.brokers import BAY
 
@@ -101,6 +103,29 @@ class Sessions(OnKeeping):
         await keeping.let_go(radio, self.owner)
         await keeping.let_go(await board, self.owner)
         await keeping.let_go(await guest, self.owner)
+
+    async def test_a_status_holds_up_nobody(self) -> None:
+        """Of two hundred clients at as many instruments as may be: all of it is done on the loop, in less than 5 ms of its time."""
+        names, chance = [f"i-{at}" for at in range(64)], random.Random(1)
+        keeping = await self.keeping(f"instruments = {json.dumps(names)}\n[guests]\ncount = 200\n")
+        asks = [asyncio.create_task(self.holds(keeping, *chance.sample(names, chance.randint(1, 3)), by=f"ann@bench-{at} 471")) for at in range(200)]
+        await asyncio.sleep(0.05)
+
+        def cost() -> float:
+            begun = time.thread_time()
+            self.assertEqual(len(pb.Bay(**keeping.status()).SerializeToString()) > 40000, True)
+            return time.thread_time() - begun
+
+        self.assertLess(min(cost() for _ in range(20)), 0.005)
+        self.assertLess(min(self.cost_of_a_line(keeping) for _ in range(20)), 0.001)
+        for task in asks:
+            task.cancel()
+
+    def cost_of_a_line(self, keeping: Keeping) -> float:
+        """What whoever waits is told."""
+        session, begun = next(it for it in keeping.by_number.values() if it.state == "waiting"), time.thread_time()
+        self.assertIn("is held by", Standings(keeping).for_whom(session)[1])
+        return time.thread_time() - begun
 
     async def test_timeout(self) -> None:
         keeping = await self.keeping()
