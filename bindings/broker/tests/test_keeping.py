@@ -14,6 +14,7 @@ from unittest import mock
 import labrun
 from labrun_broker import broker_pb2 as pb
 from labrun_broker import keeping as kept
+from labrun_broker import wishes
 from labrun_broker.bay import bay_of
 from labrun_broker.keeping import Keeping
 from labrun_broker.places import Places
@@ -256,6 +257,19 @@ class Gone(OnKeeping):
         self.assertEqual(whats(keeping, seat.name), ["asked", "held", "gone", "back", "let_go"])
         with self.assertRaisesRegex(Ended, "the session has let go"):
             await keeping.hold(Wish(ticket=TICKET, comes_back=True), other)
+
+    async def test_a_ticket_of_another(self) -> None:
+        """It opens nothing, and the session's owner keeps it."""
+        keeping, other = await self.keeping(), Owner()
+        seat = await self.holds(keeping, "scope", ticket=TICKET)
+        for ticket in ("a ticket of another test", "", wishes.digits_of(seat.key)):
+            with self.subTest(ticket), self.assertRaisesRegex(Ended, "no session has this ticket"):
+                await keeping.hold(Wish(ticket=ticket, comes_back=True), other)
+        for call in (keeping.let_go(seat, other), keeping.note(seat, other, "5 V")):
+            with self.assertRaises(labrun.NotHeld):
+                await call
+        self.assertEqual((seat.owner, self.owner.told, whats(keeping)[1:]), (self.owner, [], ["asked", "held"]))
+        await keeping.let_go(seat, self.owner)
 
     async def test_the_newer_connection_counts(self) -> None:
         keeping, other = await self.keeping(), Owner()

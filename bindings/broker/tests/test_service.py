@@ -148,6 +148,22 @@ class Clients(OnBroker):
         lab.release("guest-1")
         thread.join(LIMIT)
 
+    def test_whose_client_is_gone(self) -> None:
+        """Who waits is told so at once, though nothing else has changed."""
+        broker = self.broker()
+        one = self.program(broker, "scope")
+        assert one.stdout is not None
+        one.stdout.readline()
+        lab, told = self.lab(broker), list[str]()
+        thread = threading.Thread(target=lambda: lab.hold("scope", timeout=LIMIT, waits=told.append).acquire())
+        thread.start()
+        until(lambda: told)
+        one.kill()
+        until(lambda: len(told) == 2)
+        self.assertEqual(["gone for" in line for line in told], [False, True])
+        lab.release("guest-1")
+        thread.join(LIMIT)
+
     def test_released_after_the_grace(self) -> None:
         broker = self.broker('gone = "release"\n' + BAY, "--grace", "1")
         lab = self.lab(broker)

@@ -210,6 +210,15 @@ class OnDisk(OnFolder):
                     self.assertIn(b" let_go ", on_disk["bay.journal"], "though nobody waits for it")
                     await keeping.close()
 
+    async def test_a_let_go_is_written_before_it_is_answered(self) -> None:
+        """Whoever is told that it let go has let go, also if the broker is killed right then."""
+        folder, owner = self.folder(), Owner()
+        keeping = await self.keeping(folder)
+        session = await keeping.hold(Wish(("scope",), station="radio", ticket=TICKET), owner)
+        await keeping.let_go(session, owner)
+        with open(f"{folder}/bay.journal", "rb") as file:
+            self.assertEqual(file.read().count(b" let_go "), 1)
+
     async def test_who_comes_during_a_sync_shares_the_next(self) -> None:
         folder, owner, may, syncs = self.folder(), Owner(), threading.Event(), list[int]()
         self.addCleanup(may.set)
