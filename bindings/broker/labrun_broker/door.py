@@ -15,7 +15,7 @@ from typing import Any, Optional
 import grpc
 
 from .bay import BadAddress, is_here
-from .sockets import check_group, clear
+from .sockets import check_group, clear, family_of, parsed
 
 
 @dataclass(frozen=True)
@@ -62,10 +62,8 @@ class Door:
 
 
 def is_loopback(address: str) -> bool:
-    host, colon, port = address.rpartition(":")
-    if not colon or not port.isdigit():
-        raise BadAddress(f"{address}: unix:PATH or HOST:PORT is wanted")
-    return is_here(host.strip("[]"))
+    at = parsed(address)
+    return not isinstance(at, str) and is_here(at[0])
 
 
 class Seldom:
@@ -99,11 +97,10 @@ class Complaints:
 
 def check_free(address: str) -> None:
     """Nobody listens there. A socket that a broker left which is gone is taken away."""
-    if address.startswith("unix:"):
-        return clear(address.removeprefix("unix:"))
-    host, _, port = address.rpartition(":")
+    at = parsed(address)
+    if isinstance(at, str):
+        return clear(at)
     try:
-        kind = socket.AF_INET6 if ":" in host else socket.AF_INET
-        socket.create_server((host.strip("[]"), int(port)), family=kind).close()
-    except (OSError, OverflowError) as fault:
+        socket.create_server(at, family=family_of(at[0])).close()
+    except OSError as fault:
         raise BadAddress(f"{address}: it can't listen there: {getattr(fault, 'strerror', None) or fault}") from None

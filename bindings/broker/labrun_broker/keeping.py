@@ -8,7 +8,7 @@ from __future__ import annotations
 import asyncio
 import math
 import time
-from typing import Any, AsyncIterator, Callable, Optional, Protocol
+from typing import Any, AsyncIterator, Callable, Optional
 
 import labrun
 from labrun import LabrunError, NotHeld
@@ -16,13 +16,15 @@ from labrun.machine import GRACE, HOLDS, LAPSED, NEVER, NOT_WRITTEN, WAS_STOPPED
 
 from . import mending, wishes
 from .bay import Bay
+from .errors import BadWish
+from .errors import TimeoutError as TimedOut
 from .folder import Folder, State
 from .journals import Left, notes_of
 from .opening import Opened
 from .records import News, Record
 from .shell import Shell
-from .standing import Session, Standings, free_label
-from .wishes import Ended, Ends, TimedOut, Wish
+from .standing import Owner, Session, Standings, free_label
+from .wishes import Ended, Ends, Wish
 
 # who comes back for a session again within so many seconds waits until they are over
 BACK = 1.0
@@ -36,12 +38,8 @@ BACK = 1.0
 #   - The grace is never shorter than a client was told whose session holds: it stands beside the journal, for a broker that begins again.
 LEASE, SILENT = 0.75, 1 / 3
 
-
-class Owner(Protocol):
-    """Whoever acts for a session."""
-
-    def taken(self, why: str) -> None:
-        """The session was ended for its owner, or is another's now."""
+UNTOLD = "the session was taken away before its client was told that it holds"
+ANOTHER = "another connection came for the session"
 
 
 class Keeping:
@@ -83,7 +81,7 @@ class Keeping:
         """What was held is held, and its clients are awaited."""
         for one in it.left.values():
             if one.how == "let_go" or one.what == "taken":
-                self._ends.add(one.owner, "let_go" if one.how == "let_go" else "taken", f"by {one.taken or 'the broker'}")
+                self._ends.add(one.owner, "" if one.how == "let_go" else f"by {one.taken or 'the broker'}")
         for record in mending.missing(it.left, it.recent, self.places):
             self._news.add(record)
         self._record("opened", text="as it was left" if it.left else "")
@@ -107,7 +105,7 @@ class Keeping:
             return
         self._is_closed = True
         for session in self.by_number.values():
-            self._stops_looking(session)
+            session.stops_looking()
         self._shell.machine.stop(self.now())
         self._shell.pump()
         self._record("closed")
@@ -154,7 +152,7 @@ class Keeping:
                 self._leaves(session, fault)
             raise
         if session.owner is not owner:
-            raise Ended("taken", "the session was taken away before its client was told that it holds")
+            raise Ended("TakenAway", UNTOLD)
         return session
 
     async def _session_of(self, key: tuple[int, int]) -> Optional[Session]:
@@ -172,7 +170,7 @@ class Keeping:
         if before is not None:
             # (its stream has ended, and that isn't seen here yet)
             before.owner = None
-            self._leaves(before, Ended("taken", "another connection came for the session"))
+            self._leaves(before, Ended("TakenAway", ANOTHER))
         number, now = self._next, self.now()
         self._next += 1
         kind, sets = self.places.kind(wish.station), tuple(self.places.bits(choice) for choice in wish.choices)
@@ -195,8 +193,8 @@ class Keeping:
         if session is None:
             return
         if told.what == HOLDS:
-            return self._holds(session, told.needs)
-        if told.what == LAPSED:
+            self._holds(session, told.needs)
+        elif told.what == LAPSED:
             why = f"session {session.number} of {session.name} was given up when its time was over: {Standings(self).why(session)}"
             self._fails(session, "gave_up", TimedOut(why))
         elif told.what == NOT_WRITTEN:
@@ -226,9 +224,10 @@ class Keeping:
         what = f"by {session.taken_by or 'the broker'}" + (f", because its client was gone for {self.grace:g} s" if how == GRACE else "")
         owner, held = session.owner, ", ".join(session.instruments)
         self.says(f"session {session.number} of {session.name} was taken away {what}: {held}")
-        self._over(session, "taken", what, ("taken", what))
+        self._over(session, "taken", what)
+        self._ends.add(session.key, what)
         if not session.told.done():
-            session.told.set_exception(Ended("taken", "the session was taken away before its client was told that it holds"))
+            session.told.set_exception(Ended("TakenAway", UNTOLD))
         elif owner is not None:
             owner.taken(f"{session.name}: the session was taken away {what}" + ("" if how == GRACE else f": {held}"))
 
@@ -243,13 +242,12 @@ class Keeping:
             session.told.set_exception(fault)
         self._shell.pump()
 
-    def _over(self, session: Session, what: str, text: str, end: tuple[str, str] = ("", "")) -> None:
-        self._stops_looking(session)
+    def _over(self, session: Session, what: str, text: str) -> None:
+        session.stops_looking()
         session.state = "over"
         self.by_number.pop(session.number, None)
         if self._by_key.get(session.key) is session:
             del self._by_key[session.key]
-        self._ends.add(session.key, *end)
         self.idle_since[session.name] = self.now()
         self._record(what, session, text=text)
         session.owner = session.gone_at = None
@@ -267,7 +265,8 @@ class Keeping:
             self._shell.machine.let_go(session.number, self.now())
         except Refusal:
             raise NotHeld("the session is over") from None
-        self._over(session, "let_go" if failed is None else "failed", failed or "", ("let_go", ""))
+        self._over(session, "let_go" if failed is None else "failed", failed or "")
+        self._ends.add(session.key)
         self._shell.pump()
         self._news.write()
 
@@ -292,7 +291,7 @@ class Keeping:
     async def release(self, station: str, by: str, number: int = 0) -> tuple[str, ...]:
         """Ends the session that a station holds, for its owner; its instruments. With its number, no other session of the station."""
         if station not in self.bay.jobs and all(it.name != station for it in self.by_number.values()):
-            raise wishes.BadWish(f"{station} is no station of this bay: there are {', '.join(self.bay.jobs)}")
+            raise BadWish(f"{station} is no station of this bay: there are {', '.join(self.bay.jobs)}")
         session = next((it for it, _, _ in Standings(self).holders if it.name == station), None)
         if session is None:
             raise NotHeld(f"{station} holds nothing")
@@ -342,7 +341,7 @@ class Keeping:
         if session.owner is not owner or not session.holds or self._is_closed:
             return
         session.owner = None
-        self._stops_looking(session)
+        session.stops_looking()
         self._is_gone(session)
 
     def _is_gone(self, session: Session) -> None:
@@ -364,17 +363,12 @@ class Keeping:
         else:
             self._is_gone(session)
 
-    def _stops_looking(self, session: Session) -> None:
-        if session.timer is not None:
-            session.timer.cancel()
-            session.timer = None
-
     def _comes_back(self, session: Session, wish: Wish, owner: Owner) -> Session:
         if not self._is_back(session):
             raise self._ends.why(session.key)
         if session.owner is not None and session.owner is not owner:
-            session.owner.taken("another connection came for the session")
-        self._stops_looking(session)
+            session.owner.taken(ANOTHER)
+        session.stops_looking()
         session.owner, session.heard_at, session.back_at = owner, None, asyncio.get_running_loop().time()
         self.heard(session, owner, wish.pings)
         return session
@@ -382,16 +376,9 @@ class Keeping:
     # ---- what is told
 
     def _record(self, what: str, session: Optional[Session] = None, text: str = "", **more: Any) -> None:
-        record: Record = {
-            "t": round(time.time(), 6),
-            "what": what,
-            "station": None if session is None else session.name,
-            "session": None if session is None else session.number,
-            "instruments": [] if session is None else list(session.instruments),
-            "by": None if session is None else session.by,
-            "text": text,
-        }
-        self._news.add(record, **more)
+        name, number, its, by = (None, None, (), None) if session is None else (session.name, session.number, session.instruments, session.by)
+        about = {"station": name, "session": number, "instruments": list(its), "by": by, "text": text}
+        self._news.add({"t": round(time.time(), 6), "what": what, **about}, **more)
 
     def changes(self) -> AsyncIterator[None]:
         """Wakes whenever something has changed; once for all that changed meanwhile."""

@@ -6,7 +6,6 @@ generator is too old to write, are at the end."""
 from __future__ import annotations
 
 import asyncio
-import builtins
 import collections
 import hmac
 import time
@@ -18,10 +17,11 @@ import labrun
 from . import broker_pb2 as pb
 from .bay import BadAddress
 from .door import Complaints, Door, Seldom, check_free
+from .errors import KINDS, BadWish
 from .keeping import Keeping
 from .sockets import for_the_group, give
 from .standing import Session, Standings
-from .wishes import BadWish, Ended, Wish, check_form, wish_of
+from .wishes import Ended, Wish, check_form, wish_of
 
 # when a client that waits is told for whom, when again if that has changed, and when again if it hasn't
 FIRST_WORD, NEXT_WORD, AGAIN = 0.3, 1.0, 60.0
@@ -41,29 +41,13 @@ OPTIONS = [
     ("grpc.so_reuseport", 0),
 ]
 
-# each exception by the name that clients know it by; the first that fits
-KINDS: tuple[tuple[type[BaseException], str], ...] = (
-    (builtins.TimeoutError, "TimeoutError"),
-    (labrun.TakenAway, "TakenAway"),
-    (labrun.NotHeld, "NotHeld"),
-    (labrun.MayNotUse, "MayNotUse"),
-    (labrun.JournalError, "JournalError"),
-    (labrun.Stopped, "Stopped"),
-    (labrun.Closed, "Stopped"),
-    (ValueError, "BadWish"),
-    (labrun.LabrunError, "LabrunError"),
-)
-
-
-FAULTS = (labrun.LabrunError, ValueError, builtins.TimeoutError)
 GONE = pb.Told(gone=pb.Gone())
 
 
-def fault_of(fault: BaseException) -> Any:
-    if isinstance(fault, Ended) and fault.how:
-        return pb.Fault(kind={"let_go": "LetGo", "taken": "TakenAway"}[fault.how], text=str(fault))
-    kind = next((name for kinds, name in KINDS if isinstance(fault, kinds)), "LabrunError")
-    return pb.Fault(kind=kind, text=str(fault))
+def fault_of(fault: labrun.LabrunError) -> Any:
+    """It is called as its class is, or the first that a client knows of those that it comes from."""
+    its = fault.kind if isinstance(fault, Ended) else next((it.__name__ for it in type(fault).__mro__ if it.__name__ in KINDS), "LabrunError")
+    return pb.Fault(kind=its, text=str(fault))
 
 
 class Pace:
@@ -106,7 +90,7 @@ class Client:
                     if self._waiting is not None and kind not in ("let_go", "ping"):
                         raise BadWish("this stream waits: only let_go may come meanwhile, which gives up")
                     await answers[kind](getattr(ask, kind))
-                except FAULTS as fault:
+                except labrun.LabrunError as fault:
                     await self._tell(pb.Told(fault=fault_of(fault)))
                 # (a client whose word took long, as on a slow disk, wasn't silent meanwhile)
                 self._is_heard()
@@ -167,7 +151,7 @@ class Client:
             if (lease := self.keeping.lease) is not None:
                 held.grace, held.lease = self.keeping.grace, lease
             told = pb.Told(held=held)
-        except FAULTS as fault:
+        except labrun.LabrunError as fault:
             told = pb.Told(fault=fault_of(fault))
         finally:
             self._waiting = None

@@ -10,7 +10,7 @@ import math
 import operator
 import time
 from dataclasses import dataclass
-from typing import TYPE_CHECKING, Any, Iterable, Optional
+from typing import TYPE_CHECKING, Any, Iterable, Optional, Protocol
 
 from labrun.machine import HOLDS, WAITS
 
@@ -21,11 +21,18 @@ from .wishes import Wish
 if TYPE_CHECKING:
     import asyncio
 
-    from .keeping import Keeping, Owner
+    from .keeping import Keeping
 
 
 GONE = "gone for"
 SHOWN = 8  # guests in a text
+
+
+class Owner(Protocol):
+    """Whoever acts for a session."""
+
+    def taken(self, why: str) -> None:
+        """The session was ended for its owner, or is another's now."""
 
 
 @dataclass(eq=False)
@@ -56,6 +63,12 @@ class Session:
     def holds(self) -> bool:
         """And its client was told so."""
         return self.state in ("holding", "gone")
+
+    def stops_looking(self) -> None:
+        """Whether its client is silent doesn't matter any more."""
+        if self.timer is not None:
+            self.timer.cancel()
+            self.timer = None
 
     @property
     def wanted(self) -> int:

@@ -16,10 +16,12 @@ from labrun_broker import broker_pb2 as pb
 from labrun_broker import keeping as kept
 from labrun_broker import wishes
 from labrun_broker.bay import bay_of
+from labrun_broker.errors import BadWish
+from labrun_broker.errors import TimeoutError as TimedOut
 from labrun_broker.keeping import Keeping
 from labrun_broker.places import Places
 from labrun_broker.standing import Session, Standings
-from labrun_broker.wishes import BadWish, Ended, TimedOut, Wish
+from labrun_broker.wishes import Ended, Wish
 from tests.brokers import BAY
 
 TICKET = "a ticket of a test"

@@ -13,6 +13,7 @@ from unittest import mock
 import labrun
 import labrun_broker
 from labrun_broker.keeping import Keeping
+from labrun_broker.service import fault_of
 from labrun_broker.wishes import Ended, Wish
 from tests.brokers import BAY, COMMAND, LIMIT, Broker, OnBroker, station, until
 from tests.test_keeping import TICKET, OnFolder, Owner, how
@@ -226,11 +227,11 @@ class TakenUp(OnFolder):
         again = await keeping.hold(Wish(("supply",), station="board", ticket="the ticket of one untold"), owner)
         self.assertEqual((again.name, again.instruments), ("board", ("supply",)))
         for ticket, ended, text in (
-            ("another ticket of it", "let_go", "has let go"), ("the ticket of a third", "taken", "taken away by eve"), ("a ticket of nobody", "", "no session"),
+            ("another ticket of it", "LetGo", "has let go"), ("the ticket of a third", "TakenAway", "taken away by eve"), ("a ticket of nobody", "NotHeld", "no session"),
         ):  # fmt: skip
             with self.assertRaisesRegex(Ended, text) as caught:
                 await keeping.hold(Wish(ticket=ticket, comes_back=True), owner)
-            self.assertEqual(caught.exception.how, ended)
+            self.assertEqual(fault_of(caught.exception).kind, ended)
 
     async def test_a_guest_is_the_same(self) -> None:
         """It has the name that it had, and nobody else gets that meanwhile."""
