@@ -94,7 +94,7 @@ class Keeping:
     def _takes_up_one(self, row: Standing, it: Left, name: str) -> None:
         told: asyncio.Future[None] = asyncio.get_running_loop().create_future()
         told.set_result(None)
-        session = Session(row.number, name, row.kind, row.owner, told, state="gone", gone_at=self.now(), by=it.by or None)
+        session = Session(row.number, name, row.kind, row.owner, told, state="gone", gone_at=self.now(), since=row.since, by=it.by or None)
         session.instruments, session.note = self.places.names(row.needs), it.notes[-1] if it.notes else None
         self.by_number[row.number] = self._by_key[row.owner] = session
         self._record("gone", session)
@@ -180,7 +180,7 @@ class Keeping:
         except Refusal as it:
             raise LabrunError(f"the bay doesn't take it: {it}") from None
         name, told = wish.station or free_label(self.by_number.values()), asyncio.get_running_loop().create_future()
-        session = Session(number, name, kind, key, told, wish, sets)
+        session = Session(number, name, kind, key, told, wish, sets, since=now)
         session.owner, session.by, session.instruments = owner, wish.by or None, wish.names
         self.by_number[number] = self._by_key[key] = session
         self._record("asked", session)
@@ -209,7 +209,8 @@ class Keeping:
         session.state = "holding"
         self.sessions += 1
         self._notes(session, "by", f"{session.name} {session.by or ''}")
-        self._record("held", session, ticket=wishes.digits_of(session.key) if session.wish.ticket else "")
+        self._record("held", session, ticket=wishes.digits_of(session.key) if session.wish.ticket else "", after=self._span(session))
+        session.since = self.now()
         if not session.told.done():
             session.told.set_result(None)
         if session.owner is not None:
@@ -249,7 +250,7 @@ class Keeping:
         if self._by_key.get(session.key) is session:
             del self._by_key[session.key]
         self.idle_since[session.name] = self.now()
-        self._record(what, session, text=text)
+        self._record(what, session, text=text, after=self._span(session))
         session.owner = session.gone_at = None
 
     def _is_of(self, session: Session, owner: Owner) -> None:
@@ -375,13 +376,16 @@ class Keeping:
 
     # ---- what is told
 
+    def _span(self, session: Session) -> float:
+        """For how many seconds it has waited, or held, by a clock that doesn't jump."""
+        return (self.now() - session.since) / 1000
+
     def _record(self, what: str, session: Optional[Session] = None, text: str = "", **more: Any) -> None:
         name, number, its, by = (None, None, (), None) if session is None else (session.name, session.number, session.instruments, session.by)
         about = {"station": name, "session": number, "instruments": list(its), "by": by, "text": text}
         self._news.add({"t": round(time.time(), 6), "what": what, **about}, **more)
 
     def changes(self) -> AsyncIterator[None]:
-        """Wakes whenever something has changed; once for all that changed meanwhile."""
         return self._news.changes()
 
     def status(self) -> dict[str, Any]:

@@ -18,8 +18,10 @@ def parsed(text: str) -> Union[str, tuple[str, int]]:
     if text.startswith("unix:"):
         return text.removeprefix("unix:")
     host, colon, port = text.rpartition(":")
-    if not colon or not port.isascii() or not port.isdigit() or int(port) > 65535:
+    if not colon or not port.isascii() or not port.isdigit():
         raise BadAddress(f"{text}: unix:PATH or HOST:PORT is wanted")
+    if int(port) > 65535:
+        raise BadAddress(f"{text}: it can't listen there: a port is 65535 at most")
     return host.strip("[]"), int(port)
 
 

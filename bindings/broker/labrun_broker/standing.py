@@ -54,6 +54,8 @@ class Session:
     note: Optional[str] = None
     taken_by: str = ""
     gone_at: Optional[int] = None
+    # since when it waits, or holds
+    since: int = 0
     # when its client was last heard, if it says again and again that it is there; and when it came back
     heard_at: Optional[int] = None
     back_at: float = -math.inf

@@ -20,6 +20,7 @@ from labrun_broker.errors import BadWish
 from labrun_broker.errors import TimeoutError as TimedOut
 from labrun_broker.keeping import Keeping
 from labrun_broker.places import Places
+from labrun_broker.sessions import Past, read_records
 from labrun_broker.standing import Session, Standings
 from labrun_broker.wishes import Ended, Wish
 from tests.brokers import BAY
@@ -425,6 +426,25 @@ class Gone(OnKeeping):
             self.assertEqual(status["at"], round(now + jump, 3))
             guest = next(it for it in status["stations"] if it["name"] == seat.name)
             self.assertTrue(0 <= status["at"] - guest["gone_since"] < 5 and 0 <= status["at"] - guest["since"] < 5)
+
+
+class Jumps(OnFolder):
+    async def test_spans_of_records(self) -> None:
+        """They are right though the wall clock is set back meanwhile."""
+        folder, owner, now = self.folder(), Owner(), time.time()
+        keeping = await self.keeping(folder)
+        board = await keeping.hold(Wish(("scope",), station="board"), owner)
+        radio = asyncio.create_task(keeping.hold(Wish(("scope",), station="radio"), owner))
+        await asyncio.sleep(0.2)
+        with mock.patch("time.time", return_value=now - 7200):
+            await keeping.let_go(board, owner)
+            await keeping.let_go(await radio, owner)
+        await keeping.close()
+        past = Past()
+        for record in read_records(folder)[0]:
+            past.take(record)
+        board_was, radio_was = past.ended
+        self.assertTrue(0.19 < board_was.worked(now) < 5 and 0.19 < radio_was.waited(now) < 5, past.ended)
 
 
 class Memory:

@@ -55,6 +55,12 @@ class Clients(OnBroker):
         with lab.hold(any_of=["scope", ("scope", "supply")]) as held:
             self.assertEqual(held.instruments, ("scope",))
 
+    def test_timeouts(self) -> None:
+        lab = self.lab(self.broker())
+        for timeout in (-1, float("nan")):
+            with self.assertRaisesRegex(labrun_broker.BadWish, "it is 0 or more"):
+                lab.hold("scope", timeout=timeout)
+
     def test_errors_are_the_packages(self) -> None:
         lab = self.lab(self.broker())
         with lab.hold("scope", station="board"):
