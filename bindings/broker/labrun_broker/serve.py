@@ -7,6 +7,7 @@ import asyncio
 import contextlib
 import os
 import resource
+import select
 import signal
 import socket
 import sys
@@ -21,6 +22,7 @@ if TYPE_CHECKING:
     from .keeping import Keeping
 
 LEAST_GRACE = 1.0
+MOST_TOLD = 2000  # characters of a line: a pipe that can take any takes as much
 
 
 def add_serve(parser: argparse.ArgumentParser) -> None:
@@ -72,7 +74,7 @@ async def serve(args: argparse.Namespace) -> int:
         say(f"bay {bay.name}: {len(bay.instruments)} instruments, at {' '.join(its_door.addresses)}")
         for it in (*keeping.complaints, *begins):
             say(plain(it))
-        keeping.says = lambda text: say(plain(text))
+        keeping.says = tells
         tell_systemd("READY=1")
         await until_the_end()
         return 0
@@ -92,6 +94,12 @@ async def web(args: argparse.Namespace, keeping: Keeping) -> list[Any]:
 
         runners.append(await serve_metrics(keeping, args.metrics, args.group))
     return runners
+
+
+def tells(text: str) -> None:
+    """A line on standard error. If that is a pipe which is full, because nobody reads it, the line is lost, and not the bay."""
+    if select.select((), (sys.stderr,), (), 0)[1]:
+        say(plain(text)[:MOST_TOLD])
 
 
 async def until_the_end() -> None:

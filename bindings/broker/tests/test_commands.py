@@ -1,6 +1,7 @@
 """The command: its words, what they say, and their statuses."""
 
 import contextlib
+import fcntl
 import io
 import json
 import os
@@ -203,6 +204,21 @@ class WithBroker(OnBroker):
 
         broker.end()
         self.assertRegex(broker.said, "^labrun-broker: session 1 of board was taken away by .*: scope\n$")
+
+    def test_nobody_reads_what_is_told(self) -> None:
+        """The pipe of its standard error is full: the broker goes on."""
+        broker = self.broker(BAY + "[limits]\nrequests = 100000\n")
+        assert broker.process is not None and broker.process.stderr is not None
+        fcntl.fcntl(broker.process.stderr, fcntl.F_SETPIPE_SZ, 4096)
+        with self.lab(broker, "board") as lab:
+            for _ in range(120):
+                held = lab.hold("scope", timeout=LIMIT)
+                held.acquire()
+                lab.release("board")
+                with self.assertRaises(labrun_broker.TakenAway):
+                    held.release()
+        broker.end()
+        self.assertIn(len(broker.said.splitlines()), range(20, 100))
 
     def test_one_broker_at_a_socket(self) -> None:
         broker = self.broker()
