@@ -296,6 +296,8 @@ class Held:
             try:
                 kind, told = await stream.asks(**what)
             except Lost as lost:
+                # (it may be lost because the session was taken away just now)
+                self._raises_taken()
                 self._is_cut()
                 if self._returns is None:
                     raise NotHeld("the lab is closed") from None
