@@ -14,7 +14,7 @@ import labrun
 from labrun import LabrunError, NotHeld
 from labrun.machine import GRACE, HOLDS, LAPSED, NEVER, NOT_WRITTEN, WAS_STOPPED, Machine, Refusal, Standing, Told
 
-from . import mending, wishes
+from . import leases, mending, wishes
 from .bay import Bay
 from .errors import BadWish
 from .errors import TimeoutError as TimedOut
@@ -25,18 +25,6 @@ from .records import News, Record
 from .shell import Shell
 from .standing import Owner, Session, Standings, free_label
 from .wishes import Ended, Ends, Wish
-
-# who comes back for a session again within so many seconds waits until they are over
-BACK = 1.0
-
-# Where `gone = "release"`, two clients are never told that they hold one instrument:
-#   - A client is gone once its stream has ended, or it has been silent for SILENT of the grace, if it says again and again that it is there
-#     (by a ping). From then on the bay keeps its session for the grace.
-#   - The client holds for LEASE of the grace, from when it *sent* the last word that the broker answered, which is before the broker heard
-#     it. Its program is told at that moment, whatever is known of the connection; the rest of the grace is the margin, in which it leaves
-#     the instruments.
-#   - The grace is never shorter than a client was told whose session holds: it stands beside the journal, for a broker that begins again.
-LEASE, SILENT = 0.75, 1 / 3
 
 UNTOLD = "the session was taken away before its client was told that it holds"
 ANOTHER = "another connection came for the session"
@@ -158,7 +146,7 @@ class Keeping:
     async def _session_of(self, key: tuple[int, int]) -> Optional[Session]:
         """The session of this ticket. Who came back for it just now waits here."""
         while (session := self._by_key.get(key)) is not None:
-            span = session.back_at + min(BACK, self.grace / 8) - asyncio.get_running_loop().time()
+            span = session.back_at + leases.pause_of(self.grace) - asyncio.get_running_loop().time()
             if span <= 0:
                 return session
             await asyncio.sleep(span)
@@ -311,8 +299,7 @@ class Keeping:
 
     @property
     def lease(self) -> Optional[float]:
-        """For how many seconds a client holds from a word on that was answered; None: without an end."""
-        return None if math.isinf(self.grace) else LEASE * self.grace
+        return leases.lease_of(self.grace)
 
     def heard(self, session: Session, owner: Owner, says_so: bool = False) -> bool:
         """A word of a client came now. Whether the session is its own, and holds. `says_so`: that it is there, as it will again and
@@ -358,8 +345,7 @@ class Keeping:
         session.timer = None
         if session.heard_at is None or math.isinf(self.grace) or session.state != "holding":
             return
-        span = session.heard_at / 1000 + SILENT * self.grace - self.now() / 1000
-        if span > 0:
+        if (span := leases.patience_of(self.grace, session.heard_at, self.now())) > 0:
             session.timer = asyncio.get_running_loop().call_later(span, self._looks_at, session)
         else:
             self._is_gone(session)

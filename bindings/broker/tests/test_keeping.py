@@ -13,8 +13,7 @@ from unittest import mock
 
 import labrun
 from labrun_broker import broker_pb2 as pb
-from labrun_broker import keeping as kept
-from labrun_broker import wishes
+from labrun_broker import leases, wishes
 from labrun_broker.bay import bay_of
 from labrun_broker.errors import BadWish
 from labrun_broker.errors import TimeoutError as TimedOut
@@ -354,7 +353,7 @@ class Gone(OnKeeping):
     async def test_who_comes_back_again_at_once_waits(self) -> None:
         keeping = await self.keeping()
         seat = await self.holds(keeping, "scope", ticket=TICKET)
-        with mock.patch.object(kept, "BACK", 0.3):
+        with mock.patch.object(leases, "BACK", 0.3):
             begun, owners = time.monotonic(), [Owner() for _ in range(4)]
             for owner in owners[:3]:
                 keeping.gone(seat, seat.owner)

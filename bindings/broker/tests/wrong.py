@@ -39,7 +39,7 @@ WRONG = {
         "test_cuts.Deadlines.test_from_what_was_sent", "held.py", (("self._until = max(self._until, sent + self._lease)", "self._until = clock() + self._lease"),)
     ),
     "a grace that ends before the client's deadline": Wrong(
-        "test_cuts.Programs.test_its_program_is_told_before_another_holds", "keeping.py", (("LEASE, SILENT = 0.75, 1 / 3", "LEASE, SILENT = 1.5, 1 / 3"),)
+        "test_cuts.Programs.test_its_program_is_told_before_another_holds", "leases.py", (("LEASE, SILENT = 0.75, 1 / 3", "LEASE, SILENT = 1.5, 1 / 3"),)
     ),
     "a let-go answered and not written": Wrong(
         "test_written.OnDisk.test_a_let_go_is_written_before_it_is_answered",
