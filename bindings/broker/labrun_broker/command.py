@@ -6,31 +6,17 @@ from __future__ import annotations
 
 import argparse
 import contextlib
+import importlib
 import json
 import os
 import sys
 import time
 from typing import Any, Callable, Optional, Sequence
 
-import labrun
-
-from .bay import BadAddress, BayFault, read_bay
-from .client import user
-from .errors import Unreachable
+from .quick import user
 from .run import add_hold, run_hold
-from .serve import add_serve, run_serve
 from .texts import aligned, last, plain, span
 from .words import ABOUT, INTERRUPTED, MAY_NOT, NO_BAY, NOT_WRITTEN, PROGRAM, STATUSES, TAKEN, TIMED_OUT, UNREACHABLE, USAGE, Word, add_client, lab_of, say
-
-ENDS: tuple[tuple[type[BaseException], int], ...] = (
-    (labrun.TimeoutError, TIMED_OUT),
-    (labrun.TakenAway, TAKEN),
-    (labrun.MayNotUse, MAY_NOT),
-    (Unreachable, UNREACHABLE),
-    (labrun.JournalError, NOT_WRITTEN),
-    (BayFault, NO_BAY),
-    (BadAddress, NO_BAY),
-)
 
 
 # ---- how it stands
@@ -98,6 +84,8 @@ def add_bay(parser: argparse.ArgumentParser) -> None:
 
 
 def run_bay(args: argparse.Namespace) -> int:
+    from .bay import BayFault, read_bay
+
     try:
         bay = read_bay(args.bay)
     except BayFault as fault:
@@ -134,13 +122,9 @@ def add_report(parser: argparse.ArgumentParser) -> None:
     add_last(parser)
 
 
-def of_past(name: str) -> Callable[[argparse.Namespace], int]:
-    def run(args: argparse.Namespace) -> int:
-        from . import past
-
-        return int(getattr(past, name)(args))
-
-    return run
+def later(module: str, name: str) -> Callable[[Any], Any]:
+    """What a module does, which is imported only then: `hold` begins sooner without the others."""
+    return lambda given: getattr(importlib.import_module(f".{module}", __package__), name)(given)
 
 
 # ---- the words
@@ -158,14 +142,14 @@ def run_help(args: argparse.Namespace) -> int:
 
 
 WORDS = (
-    Word("serve", "keeps the bay: the one process that all others ask", add_serve, run_serve),
+    Word("serve", "keeps the bay: the one process that all others ask", later("serve", "add_serve"), later("serve", "run_serve")),
     Word("hold", "waits for instruments, runs a command while it holds them, and lets go", add_hold, run_hold),
     Word("status", "who holds what since when, and who waits for whom", add_status, run_status),
     Word("top", "the same, again whenever it has changed", add_status, run_top),
     Word("release", "ends the session of a station whose client doesn't come back", add_release, run_release),
-    Word("report", "what each station and instrument did, from a state folder", add_report, of_past("run_report")),
-    Word("gantt", "a picture of what was: who held what, and who waited, from a state folder", add_gantt, of_past("run_gantt")),
-    Word("table", "each session of a state folder, with times and notes", add_table, of_past("run_table")),
+    Word("report", "what each station and instrument did, from a state folder", add_report, later("past", "run_report")),
+    Word("gantt", "a picture of what was: who held what, and who waited, from a state folder", add_gantt, later("past", "run_gantt")),
+    Word("table", "each session of a state folder, with times and notes", add_table, later("past", "run_table")),
     Word("bay", "bay check: is the bay's file sound", add_bay, run_bay),
     Word("manual", "writes the man page and the completions", add_help, run_help),
 )
@@ -186,7 +170,7 @@ def parser_of(table: Sequence[Word]) -> argparse.ArgumentParser:
 def main(given: Optional[Sequence[str]] = None) -> int:
     line = list(sys.argv[1:] if given is None else given)
     at = line.index("--") if "--" in line else len(line)
-    args = parser_of(WORDS).parse_args(line[:at])
+    args = parser_of([it for it in WORDS if line[:1] == [it.name]] or WORDS).parse_args(line[:at])
     if "command" in args:
         args.command = line[at + 1 :]
     elif at < len(line):
@@ -199,12 +183,37 @@ def main(given: Optional[Sequence[str]] = None) -> int:
     except BrokenPipeError:
         os.dup2(os.open(os.devnull, os.O_WRONLY), 1)
         return 0
-    except (labrun.LabrunError, OSError, ValueError) as fault:
+    except Exception as fault:
+        status = status_of(fault)
+        if status is None:
+            raise
         say(told(fault))
-        return next((status for kind, status in ENDS if isinstance(fault, kind)), 1)
+        return status
 
 
-def told(fault: BaseException) -> str:
+def status_of(fault: Exception) -> Optional[int]:
+    """None: nobody expects this one."""
+    import labrun
+
+    from .bay import BadAddress, BayFault
+    from .errors import Unreachable
+
+    ends: tuple[tuple[type[BaseException], int], ...] = (
+        (labrun.TimeoutError, TIMED_OUT),
+        (labrun.TakenAway, TAKEN),
+        (labrun.MayNotUse, MAY_NOT),
+        (Unreachable, UNREACHABLE),
+        (labrun.JournalError, NOT_WRITTEN),
+        (BayFault, NO_BAY),
+        (BadAddress, NO_BAY),
+        (labrun.LabrunError, 1),
+        (OSError, 1),
+        (ValueError, 1),
+    )
+    return next((status for kind, status in ends if isinstance(fault, kind)), None)
+
+
+def told(fault: Exception) -> str:
     if isinstance(fault, OSError) and fault.filename is not None:
         return f"{plain(fault.filename)}: {fault.strerror}"
     return f"\n{PROGRAM}: ".join(plain(line) for line in str(fault).split("\n"))

@@ -4,18 +4,21 @@ from __future__ import annotations
 
 import argparse
 import contextlib
-import ctypes
 import os
 import signal
 import subprocess
-from typing import Callable, Iterator, Optional
+import time
+from typing import TYPE_CHECKING, Callable, Iterator, Optional, Union
 
-import labrun
-
-from .client import user
-from .held import Held
+from .quick import DEFAULT, Odd, Quick, Wish, user
 from .texts import plain, seconds
 from .words import CANT_RUN, NOT_FOUND, PROGRAM, TAKEN, USAGE, add_client, lab_of, say
+
+if TYPE_CHECKING:
+    from .client import Lab
+    from .held import Held
+
+Waits = Optional[Callable[[str], None]]
 
 
 def add_hold(parser: argparse.ArgumentParser) -> None:
@@ -35,37 +38,57 @@ def run_hold(args: argparse.Namespace) -> int:
         say("hold: say what to run, behind `--`: labrun-broker hold scope -- ./measure.sh")
         return USAGE
     what = os.path.basename(args.command[0])
-    with lab_of(args, station=args.station, by=args.by or f"{user()} {os.getpid()} {what}"[:64]) as lab:
-        waits = None if args.quiet else lambda text: say(f"waits: {plain(text)}")
-        if args.any:
-            held = lab.hold(any_of=[it.split(",") for it in args.instruments], timeout=args.timeout, waits=waits)
-        else:
-            held = lab.hold(*args.instruments, timeout=args.timeout, waits=waits)
-        with passing_on() as signals, held:
-            status = runs(args.command, held, signals)
-            if held.held:
-                held.release(f"status {status}" if status else None)
+    its = tuple(args.instruments)
+    any_of = tuple(tuple(it.split(",")) for it in its) if args.any else ()
+    wish = Wish(() if any_of else its, any_of, args.station, args.by or f"{user()} {os.getpid()} {what}"[:64], args.timeout)
+    waits: Waits = None if args.quiet else lambda text: say(f"waits: {plain(text)}")
+    with passing_on() as signals, contextlib.ExitStack() as ends:
+        held = holds(args, wish, waits, ends)
+        status = runs(args.command, held, signals)
+        if held.held:
+            held.release(f"status {status}" if status else None)
     return status
 
 
-def runs(command: list[str], held: Held, signals: Signals) -> int:
+def holds(args: argparse.Namespace, wish: Wish, waits: Waits, ends: contextlib.ExitStack) -> Union[Quick, Held]:
+    """A session that holds, until the end of `ends`."""
+
+    def connects(was_there: bool) -> Lab:
+        lab = lab_of(args, station=wish.station, by=wish.by)
+        lab._was_there = was_there
+        return lab
+
+    began, was_there = time.monotonic(), False
+    address = args.broker or os.environ.get("LABRUN_BROKER") or DEFAULT
+    if address.startswith("unix:") and not address.startswith("unix://"):
+        quick = Quick(address.removeprefix("unix:"), wish, waits, connects)
+        try:
+            return ends.enter_context(quick)
+        except Odd:
+            was_there = quick.was_there
+    lab = ends.enter_context(connects(was_there))
+    left = wish.timeout and max(0.0, wish.timeout + began - time.monotonic())
+    return ends.enter_context(lab.hold(*wish.instruments, any_of=wish.any_of, timeout=left, waits=waits))
+
+
+def runs(command: list[str], held: Union[Quick, Held], signals: Signals) -> int:
     """Runs a command, and gives its status. A session that is taken away ends it."""
     environment = {**os.environ, "LABRUN_HELD": " ".join(held.instruments), "LABRUN_STATION": held.station}
-    taken: list[Exception] = []
+    taken: list[object] = []
     try:
         process = signals.starts(command, environment, held.is_released_if_gone)
     except OSError as fault:
         say(f"{command[0]}: {fault.strerror}")
         return NOT_FOUND if isinstance(fault, FileNotFoundError) else CANT_RUN
 
-    def ends(fault: Exception) -> None:
+    def ends(fault: object) -> None:
         taken.append(fault)
         say(f"{plain(fault)}; the command is ended")
         process.terminate()
 
     held.on_taken = ends
     if not held.held and not taken:
-        ends(labrun.NotHeld("the session is over"))
+        ends("the session is over")
     status = process.wait()
     return TAKEN if taken else status if status >= 0 else 128 - status
 
@@ -75,6 +98,8 @@ PR_SET_PDEATHSIG = 1
 
 def ends_with(parent: int) -> Callable[[], None]:
     """What a child does before it becomes the command: it asks for SIGTERM once its parent is dead, however that died."""
+    import ctypes
+
     prctl = ctypes.CDLL(None).prctl
 
     def asks() -> None:
