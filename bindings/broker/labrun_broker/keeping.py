@@ -400,3 +400,12 @@ class Keeping:
 
     def status(self) -> dict[str, Any]:
         return Standings(self).status()
+
+    def disk_fault(self) -> str:
+        """What is wrong with the disk; mostly nothing."""
+        return self._shell.is_wrong()
+
+    @property
+    def notice(self) -> str:
+        """What whoever looks has to know: that the machine isn't the proved one."""
+        return str(getattr(self.machine, "notice", ""))

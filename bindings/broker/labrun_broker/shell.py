@@ -196,6 +196,10 @@ class Shell:
         it = self._last_fault
         return "the disk is slow" if it is None else f"a write failed ({getattr(it, 'strerror', None) or it})"
 
+    def is_wrong(self) -> str:
+        """What is wrong with the disk; mostly nothing."""
+        return self._because() if self._last_fault is not None else ""
+
     async def close(self) -> None:
         """All is on the disk, as far as that can be. Nobody is told anything any more."""
         if self._is_closed:
