@@ -206,4 +206,7 @@ def connect(
 
 
 def _who() -> str:
-    return f"{user()} {os.getpid()} {os.path.basename(sys.argv[0]) or 'python'}"[:64]
+    folder, name = os.path.split(sys.argv[0])
+    # (of `python3 -m pytest` it is pytest)
+    name = os.path.basename(folder) if name == "__main__.py" else name
+    return f"{user()} {os.getpid()} {name or 'python'}"[:64]

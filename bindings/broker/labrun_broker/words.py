@@ -3,6 +3,7 @@
 from __future__ import annotations
 
 import argparse
+import os
 import sys
 from typing import TYPE_CHECKING, Any, Callable, NamedTuple
 
@@ -52,7 +53,8 @@ def add_client(parser: argparse.ArgumentParser) -> None:
 
 
 def lab_of(args: argparse.Namespace, **more: Any) -> Lab:
-    # (what a `hold` does without)
+    # (what a `hold` does without; gRPC's own lines say no more than ours)
+    os.environ.setdefault("GRPC_VERBOSITY", "NONE")
     from .client import connect
 
     return connect(args.broker, token_file=args.token_file, certificate_file=args.certificate, **more)

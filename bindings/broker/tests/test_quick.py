@@ -72,10 +72,10 @@ class Quick(OnBroker):
 
     def test_where_it_has_to_say_that_it_is_there(self) -> None:
         """With `gone = "release"` it holds for longer than the grace; and while the broker doesn't answer its command is ended in time."""
-        broker = self.broker(RELEASES, "--state", "FOLDER/state", "--grace", "1")
+        broker = self.broker(RELEASES, "--state", "FOLDER/state", "--grace", "3")
         runs = self.holds(broker, "exit 0")
-        time.sleep(2.5)
-        self.assertEqual((self.state(broker), self.records(broker)), ("holding", ["opened", "asked", "held"]))
+        time.sleep(5)
+        self.assertEqual((self.state(broker), set(self.records(broker)) & {"taken", "failed", "let_go"}), ("holding", set()))
         self.ends(broker, runs, 0)
         os.unlink(f"{broker.folder}/go")
         runs = self.holds(broker, "exit 0")
@@ -83,7 +83,7 @@ class Quick(OnBroker):
         broker.process.send_signal(signal.SIGSTOP)
         try:
             self.assertEqual(runs.wait(LIMIT), 76)
-            self.assertIn("the broker hasn't answered for 0.75 s", runs.communicate()[1])
+            self.assertIn("the broker hasn't answered for 2.25 s", runs.communicate()[1])
         finally:
             broker.process.send_signal(signal.SIGCONT)
 
