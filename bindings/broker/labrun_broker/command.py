@@ -19,6 +19,10 @@ from .texts import aligned, last, plain, span
 from .words import ABOUT, INTERRUPTED, MAY_NOT, NO_BAY, NOT_WRITTEN, PROGRAM, STATUSES, TAKEN, TIMED_OUT, UNREACHABLE, USAGE, Word, add_client, lab_of, say
 
 
+# the status of each error, by its name, or by that of the first of its kinds: it is looked up without importing what has it
+ENDS = {"TimeoutError": TIMED_OUT, "TakenAway": TAKEN, "MayNotUse": MAY_NOT, "Unreachable": UNREACHABLE, "JournalError": NOT_WRITTEN}
+ENDS |= {"BayFault": NO_BAY, "BadAddress": NO_BAY, "LabrunError": 1, "OSError": 1, "ValueError": 1}
+
 # ---- how it stands
 
 
@@ -45,12 +49,10 @@ def run_top(args: argparse.Namespace) -> int:
 
 def lines_of(status: dict[str, Any]) -> list[str]:
     """How the bay stands, for people."""
-    at = status["at"]
-    since = time.strftime("%Y-%m-%d %H:%M", time.localtime(status["since"]))
+    at, since = status["at"], time.strftime("%Y-%m-%d %H:%M", time.localtime(status["since"]))
     rows = [["INSTRUMENT", "HELD BY", "FOR", "WAITING"]]
     for one in status["instruments"]:
-        is_held = one["holder"] is not None
-        rows.append([one["name"], one["holder"] or "-", span(at - one["since"]) if is_held else "", " ".join(one["waiting"])])
+        rows.append([one["name"], one["holder"] or "-", span(at - one["since"]) if one["holder"] else "", " ".join(one["waiting"])])
     lines = [f"bay {plain(status['bay'])}, {status['sessions']} sessions since {since}", "", *aligned(rows), ""]
     rows = [["STATION", "", "FOR", "INSTRUMENTS", "BY"]]
     for one in status["stations"]:
@@ -100,26 +102,20 @@ def run_bay(args: argparse.Namespace) -> int:
 FOLDER = "the state folder of labrun-broker serve --state FOLDER; or the journal of a bench, a file"
 
 
-def add_last(parser: argparse.ArgumentParser) -> None:
+def add_past(parser: argparse.ArgumentParser) -> None:
+    parser.add_argument("folder", metavar="FOLDER", help=FOLDER)
     parser.add_argument("--last", metavar="SPAN", type=last, help="of a folder: only the last 30s, 15min, 4h or 2d before the last record")
 
 
 def add_table(parser: argparse.ArgumentParser) -> None:
-    parser.add_argument("folder", metavar="FOLDER", help=FOLDER)
-    add_last(parser)
+    add_past(parser)
     parser.add_argument("--csv", action="store_true", help="as CSV, with times in UTC")
     parser.add_argument("--notes", action="store_true", help="a row for each note instead of each session; as CSV")
 
 
 def add_gantt(parser: argparse.ArgumentParser) -> None:
-    parser.add_argument("folder", metavar="FOLDER", help=FOLDER)
-    add_last(parser)
+    add_past(parser)
     parser.add_argument("--to", metavar="FILE", help="where the SVG is written; the standard output unless said")
-
-
-def add_report(parser: argparse.ArgumentParser) -> None:
-    parser.add_argument("folder", metavar="FOLDER", help=FOLDER)
-    add_last(parser)
 
 
 def later(module: str, name: str) -> Callable[[Any], Any]:
@@ -147,7 +143,7 @@ WORDS = (
     Word("status", "who holds what since when, and who waits for whom", add_status, run_status),
     Word("top", "the same, again whenever it has changed", add_status, run_top),
     Word("release", "ends the session of a station whose client doesn't come back", add_release, run_release),
-    Word("report", "what each station and instrument did, from a state folder", add_report, later("past", "run_report")),
+    Word("report", "what each station and instrument did, from a state folder", add_past, later("past", "run_report")),
     Word("gantt", "a picture of what was: who held what, and who waited, from a state folder", add_gantt, later("past", "run_gantt")),
     Word("table", "each session of a state folder, with times and notes", add_table, later("past", "run_table")),
     Word("bay", "bay check: is the bay's file sound", add_bay, run_bay),
@@ -184,33 +180,11 @@ def main(given: Optional[Sequence[str]] = None) -> int:
         os.dup2(os.open(os.devnull, os.O_WRONLY), 1)
         return 0
     except Exception as fault:
-        status = status_of(fault)
+        status = next((ENDS[kind.__name__] for kind in type(fault).__mro__ if kind.__name__ in ENDS), None)
         if status is None:
             raise
         say(told(fault))
         return status
-
-
-def status_of(fault: Exception) -> Optional[int]:
-    """None: nobody expects this one."""
-    import labrun
-
-    from .bay import BadAddress, BayFault
-    from .errors import Unreachable
-
-    ends: tuple[tuple[type[BaseException], int], ...] = (
-        (labrun.TimeoutError, TIMED_OUT),
-        (labrun.TakenAway, TAKEN),
-        (labrun.MayNotUse, MAY_NOT),
-        (Unreachable, UNREACHABLE),
-        (labrun.JournalError, NOT_WRITTEN),
-        (BayFault, NO_BAY),
-        (BadAddress, NO_BAY),
-        (labrun.LabrunError, 1),
-        (OSError, 1),
-        (ValueError, 1),
-    )
-    return next((status for kind, status in ends if isinstance(fault, kind)), None)
 
 
 def told(fault: Exception) -> str:

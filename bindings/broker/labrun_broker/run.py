@@ -83,8 +83,7 @@ def around(address: str, held: Union[Quick, Held]) -> str:
 
 def looks_around(args: argparse.Namespace, wanted: tuple[tuple[str, ...], ...]) -> bool:
     """No: it would wait for a hold that waits for it."""
-    for line in filter(None, os.environ.get("LABRUN_AROUND", "").split("\n")):
-        process, address, station, *its = line.split("\t")
+    for process, address, station, *its in (line.split("\t") for line in os.environ.get("LABRUN_AROUND", "").split("\n") if line.count("\t") > 2):
         if address != address_of(args) or not os.path.exists(f"/proc/{process}"):
             continue
         if args.station == station or all(set(its) & set(one) for one in wanted):
@@ -110,7 +109,7 @@ def holds(args: argparse.Namespace, wish: Wish, waits: Waits, ends: contextlib.E
         try:
             return ends.enter_context(quick)
         except Odd:
-            was_there = quick.was_there
+            was_there = quick.wire.was_there
     lab = ends.enter_context(connects(was_there))
     left = wish.timeout and max(0.0, wish.timeout + began - time.monotonic())
     return ends.enter_context(lab.hold(*wish.instruments, any_of=wish.any_of, timeout=left, waits=waits))

@@ -87,6 +87,13 @@ class Quick(OnBroker):
         finally:
             broker.process.send_signal(signal.SIGCONT)
 
+    def test_one_whose_time_is_over_has_asked_once(self) -> None:
+        broker = self.broker(BAY, "--state", "FOLDER/state")
+        runs = self.holds(broker, "exit 0")
+        self.assertEqual(broker.ran("hold", "scope", "--timeout", "0.3", "--", "true").returncode, 75)
+        self.assertEqual(self.records(broker), ["opened", "asked", "held", "asked", "gave_up"])
+        self.ends(broker, runs, 0)
+
     def test_what_is_refused(self) -> None:
         broker = self.broker(BAY + "[limits]\nclients = 1\n")
         done = broker.ran("hold", "scope", "--by", "x" * 30000, "--", "true")
