@@ -144,15 +144,16 @@ class Quick:
 
     def _watches(self) -> None:
         try:
-            while (told := self.wire.told())[0] != TAKEN:
-                self._answers.put(told)
-            self._is_taken(_fault(told[1]))
-        except Odd:
             try:
+                while (told := self.wire.told())[0] != TAKEN:
+                    if told[0] in (GONE, FAULT):
+                        self._answers.put(told)
+                self._is_taken(_fault(told[1]))
+            except Odd:
                 if not self._is_over:
                     self._comes_back(False)
-            except Exception as fault:
-                self._taken = fault
+        except Exception as fault:
+            self._taken = fault
         self._answers.put((GONE, {}))
 
     def _is_taken(self, fault: Exception) -> None:

@@ -2,6 +2,7 @@
 
 from __future__ import annotations
 
+import asyncio
 import json
 import os
 import tempfile
@@ -13,12 +14,13 @@ from labrun_broker.keeping import Keeping
 from labrun_broker.past import read_past
 from labrun_broker.wishes import Wish
 
+from . import test_written
 from .brokers import BAY
 
 try:
     from aiohttp import ClientSession
 
-    from labrun_broker.page import serve_page
+    from labrun_broker.page import Watch, serve_page
 except ImportError as lacking:
     raise unittest.SkipTest(str(lacking)) from None
 
@@ -68,6 +70,25 @@ class OfABay(unittest.IsolatedAsyncioTestCase):
                 news = {"status": more["status"], **{it: news[it] + more[it] for it in ("records", "ended")}}
                 if len(news["records"]) >= count:
                     return news
+
+
+class OfAFullDisk(test_written.FullDisk):
+    async def test_the_page_says_so(self) -> None:
+        keeping = await self.on_disk()
+        watch = Watch(keeping)
+        disk = lambda: watch.news(0)["status"]["disk"]
+        self.assertEqual(disk(), "")
+        self.breaks("full")
+        waits = asyncio.create_task(keeping.hold(Wish(("scope",), station="board"), self.owner))
+        await asyncio.sleep(1.1)
+        self.assertEqual(disk(), "a write failed (No space left on device)")
+        self.breaks("")
+        await waits
+        await asyncio.sleep(1.1)
+        self.assertEqual(disk(), "")
+
+    # (those of the disk are run where they stand)
+    test_who_asks = test_who_asks_without_a_time = test_who_lets_go = test_who_notes = test_a_broker_begins = test_grace_that_ends_meanwhile = None
 
 
 class WhatWas(unittest.IsolatedAsyncioTestCase):

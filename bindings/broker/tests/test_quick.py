@@ -48,11 +48,11 @@ class Quick(OnBroker):
         self.assertEqual(modules & heavy, set())
 
     def test_a_broker_that_is_killed_while_the_command_runs(self) -> None:
-        for bay in (BAY, RELEASES):
-            with self.subTest(bay):
+        for bay, number in ((BAY, signal.SIGKILL), (BAY, signal.SIGTERM), (RELEASES, signal.SIGKILL)):
+            with self.subTest(bay, number=number):
                 broker = self.broker(bay, "--state", "FOLDER/state")
                 runs = self.holds(broker, "exit 5")
-                broker.kill()
+                broker.end(number)
                 broker.begin()
                 until(lambda: self.state(broker) == "holding", "that it is back")
                 self.ends(broker, runs, 5)
