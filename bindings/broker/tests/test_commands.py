@@ -8,11 +8,13 @@ import re
 import signal
 import socket
 import subprocess
+import sys
 import tempfile
 import unittest
 from typing import Any
 from unittest import mock
 
+from labrun_broker.client import _who
 from labrun_broker.command import main
 from labrun_broker.run import Signals
 from tests.brokers import BAY, COMMAND, LIMIT, OnBroker, station, until
@@ -250,3 +252,11 @@ class WithBroker(OnBroker):
         broker.begin()
         self.assertEqual(broker.ran("status").returncode, 0)
         self.assertEqual(broker.end(), 0)
+
+
+class Names(unittest.TestCase):
+    def test_who_it_is(self) -> None:
+        """Of `python3 -m pytest` it is pytest, and not its file's name."""
+        for program, name in (("/usr/lib/python3/dist-packages/pytest/__main__.py", "pytest"), ("./measure.py", "measure.py"), ("", "python")):
+            with mock.patch.object(sys, "argv", [program]):
+                self.assertEqual(_who().split(" ")[1:], [str(os.getpid()), name])
