@@ -5,6 +5,7 @@ from __future__ import annotations
 import asyncio
 import json
 import os
+import re
 import tempfile
 import unittest
 from typing import Any
@@ -15,7 +16,7 @@ from labrun_broker.past import read_past
 from labrun_broker.wishes import Wish
 
 from . import test_written
-from .brokers import BAY
+from .brokers import BAY, TOP
 
 try:
     from aiohttp import ClientSession
@@ -60,6 +61,22 @@ class OfABay(unittest.IsolatedAsyncioTestCase):
             self.assertEqual([(it["station"], it["instruments"], it["how"]) for it in third["ended"]], [("board", ["scope"], "done")])
         self.assertIn('labrun_sessions_total{end="done",station="board"} 1.0', await self.get("/metrics"))
         self.assertIn('labrun_wait_seconds_count{instrument="scope"} 1.0', await self.get("/metrics"))
+
+    async def test_formats_has_each_key(self) -> None:
+        with open(f"{TOP}/docs/FORMATS.md", encoding="utf-8") as file:
+            text = file.read()
+        tables = {head: text.partition(f"## {head}")[2].partition("\n## ")[0] for head in ("How a bay stands", "The broker's records")}
+        rows = {name: set(re.findall(r"`(\w+)`", names)) for name, names in ((it, "".join(re.findall(r"(?m)^\| ([^|]*) \|", part))) for it, part in tables.items())}
+        await self.keeping.hold(Wish(("scope",), station="board"), Owner())
+        waits = asyncio.create_task(self.keeping.hold(Wish(("scope",), station="radio"), Owner()))
+        await asyncio.sleep(0.1)
+        status = json.loads(await self.get("/status"))
+        self.assertEqual({*status, "waits_for"}, rows["How a bay stands"])
+        parts = [status["instruments"][0], status["stations"][0], next(it["waits_for"][0] for it in status["stations"] if it["waits_for"])]
+        for it in (name for part in parts for name in part):
+            self.assertIn(f"`{it}`", tables["How a bay stands"])
+        self.assertEqual({*self.keeping._news.history[-1], "ticket"}, rows["The broker's records"])
+        waits.cancel()
 
     async def told(self, events: Any, count: int = 1) -> Any:
         """What is told until there are so many records, in one."""
