@@ -12,7 +12,7 @@ import grpc
 import labrun
 
 from . import broker_pb2 as pb
-from .errors import BadWish, NotHeld, TakenAway, raised, why_lost
+from .errors import BadWish, NotHeld, TakenAway, Unreachable, raised, why_lost
 from .stream import AGAIN, Lost, Stream
 from .work import clock
 
@@ -228,6 +228,19 @@ class Held:
         """The stream ended. A session that is held comes back on another one, while its owner works."""
         if self.state == "held" and self._returns is None and not self.lab._has_left:
             self._returns = asyncio.create_task(self._comes_back(asyncio.get_running_loop()))
+
+    async def _resumes(self, waits: bool) -> None:
+        """It held before, by another client. With `waits` it does so here, too, when this returns."""
+        self.state = "held"
+        self.lab._held.add(self)
+        self._is_cut()
+        if waits and (returns := self._returns) is not None:
+            await asyncio.wait({returns}, timeout=GRACE)
+            self._raises_taken()
+            if not returns.done():
+                raise Unreachable(f"the broker at {self.lab.address} doesn't answer any more")
+            if self._lease is not None:
+                self._beats = asyncio.create_task(self._stays_sure(self._lease))
 
     async def _comes_back(self, loop: asyncio.AbstractEventLoop) -> None:
         """The session goes on to hold, on another stream, or is over. It is tried while the broker keeps the session, or for so long as an

@@ -319,8 +319,10 @@ class Keeping:
             self._shell.machine.back(session.number, session.key, self.now())
         except Refusal:
             return False  # (its time is over, and that is told just now)
-        session.state, session.gone_at = "holding", None
-        self._record("back", session)
+        # (another connection may come before the broker has seen that the first one ended)
+        was_gone, session.state, session.gone_at = session.state == "gone", "holding", None
+        if was_gone:
+            self._record("back", session)
         self._shell.pump()
         return session.holds
 
@@ -384,3 +386,8 @@ class Keeping:
     @property
     def write_failures(self) -> int:
         return self._shell.failures
+
+    @property
+    def notice(self) -> str:
+        """What whoever looks has to know: that the machine isn't the proved one."""
+        return str(getattr(self.machine, "notice", ""))

@@ -14,7 +14,7 @@ import sys
 from typing import TYPE_CHECKING, Any
 
 from .bay import read_bay
-from .client import DEFAULT
+from .quick import DEFAULT
 from .texts import plain, seconds
 from .words import USAGE, say
 

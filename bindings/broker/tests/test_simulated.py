@@ -1,0 +1,46 @@
+"""The broker over a machine that isn't the library's, as `./preview broker` has it: its own tests, once more."""
+
+import os
+import sys
+import unittest
+from unittest import mock
+
+from tests import test_keeping, test_state, test_written
+from tests.brokers import TOP
+
+BAY = os.path.join(TOP, "bench", "bay")
+
+
+class Simulated(unittest.IsolatedAsyncioTestCase):
+    """Before each test the machine is the model."""
+
+    def setUp(self) -> None:
+        super().setUp()
+        with mock.patch.object(sys, "path", [BAY, *sys.path]):
+            import simulated
+        self.enterContext(mock.patch("labrun_broker.opening.Machine", simulated.Machine))
+
+
+class Sessions(Simulated, test_keeping.Sessions): ...
+
+
+class Gone(Simulated, test_keeping.Gone): ...
+
+
+class Chance(Simulated, test_keeping.Chance): ...
+
+
+class OnDisk(Simulated, test_written.OnDisk): ...
+
+
+class FullDisk(Simulated, test_written.FullDisk): ...
+
+
+class TakenUp(Simulated, test_state.TakenUp): ...
+
+
+class Damaged(Simulated, test_state.Damaged): ...
+
+
+if __name__ == "__main__":
+    unittest.main()
