@@ -76,16 +76,20 @@ class Keeping:
         rows, named = {row.number: row for row in self.machine.standings() if row.what == HOLDS}, mending.labels(it.recent)
         names = {number: self.places.station(row.kind) or it.left[number].station or named.get(number, "") for number, row in rows.items()}
         # (those whose names are known come first, so that no other gets one of them)
+        # (where a grace ends they are gone from now on: it begins anew)
+        gone = mending.gone_since(it.recent) if math.isinf(self.grace) else {}
         for number in sorted(rows, key=lambda number: (not names[number], number)):
-            self._takes_up_one(rows[number], it.left[number], names[number] or free_label(self.by_number.values()))
+            self._takes_up_one(rows[number], it.left[number], names[number] or free_label(self.by_number.values()), gone.get(number))
 
-    def _takes_up_one(self, row: Standing, it: Left, name: str) -> None:
+    def _takes_up_one(self, row: Standing, it: Left, name: str, gone: Optional[float]) -> None:
         told: asyncio.Future[None] = asyncio.get_running_loop().create_future()
         told.set_result(None)
-        session = Session(row.number, name, row.kind, row.owner, told, state="gone", gone_at=self.now(), since=row.since, by=it.by or None)
+        session = Session(row.number, name, row.kind, row.owner, told, state="gone", since=row.since, by=it.by or None)
+        session.gone_at = self.now() - (0 if gone is None else max(0, wishes.milliseconds(time.time() - gone)))
         session.instruments, session.note = self.places.names(row.needs), it.notes[-1] if it.notes else None
         self.by_number[row.number] = self._by_key[row.owner] = session
-        self._record("gone", session)
+        if gone is None:
+            self._record("gone", session)
 
     async def close(self) -> None:
         """Nobody comes to hold any more; what is held stays held, in the journal."""

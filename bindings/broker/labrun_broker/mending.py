@@ -18,6 +18,17 @@ def labels(records: Iterable[Record]) -> dict[int, str]:
     return {it["session"]: it["station"] for it in records if it.get("session") and it.get("station")}
 
 
+def gone_since(records: Iterable[Record]) -> dict[int, float]:
+    """Since when the client of each session is gone, of those whose client was when the last broker ended."""
+    found: dict[int, float] = {}
+    for it in records:
+        if it["what"] == "gone" and it.get("session"):
+            found.setdefault(it["session"], it["t"])
+        elif it["what"] == "back":
+            found.pop(it.get("session") or 0, None)
+    return found
+
+
 def missing(left: dict[int, Left], records: list[Record], places: Places) -> list[Record]:
     """The records that aren't there, of sessions that held; `left` has them as they came to hold."""
     held = {it["session"] for it in records if it["what"] == "held"}

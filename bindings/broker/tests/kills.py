@@ -150,7 +150,7 @@ def kills(times: int, seed: int, brokers_too: bool = True, pause: float = 0.3) -
                 else:
                     broker.kill()
                     broker.begin()
-                killed["released"] += release_who_is_gone(lab, 2.0)
+                killed["released"] += release_who_is_gone(lab, 5.0)
                 if programs.ended():
                     break
             # all who were only cut off come back

@@ -283,6 +283,25 @@ class Hanging(OnFolder):
 
 
 class Since(OnFolder):
+    async def test_gone_since_before_a_restart(self) -> None:
+        """Also if the broker begins again and again; and not if the client came back meanwhile."""
+        folder, owner = self.folder(), Owner()
+        keeping = await self.keeping(folder)
+        board = await keeping.hold(Wish(("scope",), station="board", ticket=TICKET), owner)
+        radio = await keeping.hold(Wish(("supply",), ticket="a ticket of another test"), owner)
+        keeping.gone(board, owner)
+        keeping.gone(radio, owner)
+        since = how(keeping, "board")["gone_since"]
+        await keeping.hold(Wish(ticket="a ticket of another test", comes_back=True), owner)
+        for _ in range(2):
+            await asyncio.sleep(0.6)
+            await keeping.close()
+            keeping = await self.keeping(folder)
+        self.assertAlmostEqual(how(keeping, "board")["gone_since"], since, delta=0.1)
+        self.assertGreater(how(keeping, "guest-1")["gone_since"], since + 0.5)
+        with self.assertRaisesRegex(labrun.TimeoutError, r"gone for [1-5]\.\d s: see to it"):
+            await keeping.hold(Wish(("scope",), timeout=0), owner)
+
     async def test_spans_after_a_restart(self) -> None:
         """Who holds has held since before it."""
         folder, owner = self.folder(), Owner()
