@@ -105,7 +105,14 @@ class Machine:
         serial, number, what = it
         return Told(serial, number, WHAT.index(what), next((one.needs for one in self._bay.asks if one.number == number), 0))
 
+    def told(self, done: int) -> Optional[tuple[int, int, int, int]]:
+        it = self.tell(done)
+        return None if it is None else (it.serial, it.number, it.needs, it.what)
+
     # who looks on
+
+    def look(self, place: int) -> Optional[Standing]:
+        return (self.standings()[place : place + 1] or [None])[0]
 
     def keeper(self, number: int, instrument: int) -> Optional[Standing]:
         it = self._bay.keeper(number, instrument)

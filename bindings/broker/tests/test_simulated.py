@@ -21,6 +21,15 @@ class Simulated(unittest.IsolatedAsyncioTestCase):
         self.enterContext(mock.patch("labrun_broker.opening.Machine", simulated.Machine))
 
 
+class Calls(Simulated):
+    def test_each_call_is_there(self) -> None:
+        import labrun.machine
+        import labrun_broker.opening
+
+        calls = {name for name, it in vars(labrun.machine.Machine).items() if not name.startswith("_")}
+        self.assertEqual(calls - set(vars(labrun_broker.opening.Machine)), set())
+
+
 class Sessions(Simulated, test_keeping.Sessions): ...
 
 
