@@ -118,8 +118,9 @@ def release_who_is_gone(lab: labrun_broker.Lab, running: set[int]) -> int:
     """As an operator who sees to it: the talk of a program that was killed is over. One whose broker was killed comes back by itself."""
     status, count = patiently(lab.status), 0
     for one in status["stations"]:
-        # (who holds is USER@HOST PROCESS NAME)
-        if one["state"] == "gone" and int(one["by"].split()[1]) not in running:
+        # (who holds is USER@HOST PROCESS NAME; of one that was let in as its broker was killed that may be in no file)
+        is_dead = int(one["by"].split()[1]) not in running if one["by"] else status["at"] - (one["gone_since"] or status["at"]) > 5
+        if one["state"] == "gone" and is_dead:
             try:
                 patiently(lab.release, one["name"])
                 count += 1
