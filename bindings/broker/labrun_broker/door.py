@@ -5,9 +5,11 @@ from __future__ import annotations
 import asyncio
 import collections
 import os
+import select
 import socket
 import ssl
 import stat
+import sys
 import time
 from dataclasses import dataclass
 from typing import Any, Optional
@@ -82,6 +84,11 @@ class Seldom:
         return f"{text} (and {passed} before it)" if (passed := self._passed.pop(kind, 0)) else text
 
 
+def is_read() -> bool:
+    """Whether a line on standard error is taken. Into a pipe that is full, because nobody reads it, the broker would wait to write."""
+    return bool(select.select((), (sys.stderr,), (), 0)[1])
+
+
 class Complaints:
     """What nobody catches is told, with its traceback, once in a while. That a stream was over before gRPC could say how it ended is no
     fault."""
@@ -91,7 +98,7 @@ class Complaints:
 
     def __call__(self, loop: asyncio.AbstractEventLoop, context: dict[str, Any]) -> None:
         if type(context.get("exception")).__name__ != "ExecuteBatchError":
-            if (text := self._seldom.text("", str(context.get("message")))) is not None:
+            if (text := self._seldom.text("", str(context.get("message")))) is not None and is_read():
                 loop.default_exception_handler({**context, "message": text})
 
 

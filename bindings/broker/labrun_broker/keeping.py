@@ -67,14 +67,15 @@ class Keeping:
 
     def _takes_up(self, it: Opened) -> None:
         """What was held is held, and its clients are awaited."""
+        mending.names_them(it.left, it.recent)
         for one in it.left.values():
             if one.how == "let_go" or one.what == "taken":
                 self._ends.add(one.owner, "" if one.how == "let_go" else f"by {one.taken or 'the broker'}")
         for record in mending.missing(it.left, it.recent, self.places):
             self._news.add(record)
         self._record("opened", text="as it was left" if it.left else "")
-        rows, named = {row.number: row for row in self.machine.standings() if row.what == HOLDS}, mending.labels(it.recent)
-        names = {number: self.places.station(row.kind) or it.left[number].station or named.get(number, "") for number, row in rows.items()}
+        rows = {row.number: row for row in self.machine.standings() if row.what == HOLDS}
+        names = {number: self.places.station(row.kind) or it.left[number].station for number, row in rows.items()}
         # (those whose names are known come first, so that no other gets one of them)
         # (where a grace ends they are gone from now on: it begins anew)
         gone = mending.gone_since(it.recent) if math.isinf(self.grace) else {}

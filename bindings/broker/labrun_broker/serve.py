@@ -7,7 +7,6 @@ import asyncio
 import contextlib
 import os
 import resource
-import select
 import signal
 import socket
 import sys
@@ -74,7 +73,7 @@ async def serve(args: argparse.Namespace) -> int:
         say(f"bay {bay.name}: {len(bay.instruments)} instruments, at {' '.join(its_door.addresses)}")
         for it in (*keeping.complaints, *begins):
             say(plain(it))
-        keeping.says = tells
+        keeping.says = lambda text: say(plain(text)[:MOST_TOLD]) if door.is_read() else None
         tell_systemd("READY=1")
         await until_the_end()
         return 0
@@ -94,12 +93,6 @@ async def web(args: argparse.Namespace, keeping: Keeping) -> list[Any]:
 
         runners.append(await serve_metrics(keeping, args.metrics, args.group))
     return runners
-
-
-def tells(text: str) -> None:
-    """A line on standard error. If that is a pipe which is full, because nobody reads it, the line is lost, and not the bay."""
-    if select.select((), (sys.stderr,), (), 0)[1]:
-        say(plain(text)[:MOST_TOLD])
 
 
 async def until_the_end() -> None:

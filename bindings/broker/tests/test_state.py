@@ -212,7 +212,7 @@ class TakenUp(OnFolder):
         gone = await keeping.hold(Wish(("load-2",), ticket="the ticket of a third"), owner)
         await keeping.release(gone.name, "eve")
         with mock.patch("os.fdatasync", lambda file: may.wait(5)):
-            untold = asyncio.create_task(keeping.hold(Wish(("supply",), station="board", ticket="the ticket of one untold"), owner))
+            untold = asyncio.create_task(keeping.hold(Wish(("supply",), station="board", by="bob", ticket="the ticket of one untold"), owner))
             await asyncio.sleep(0.1)
             self.assertFalse(untold.done())
             subprocess.run(["cp", "-a", f"{folder}/.", copy], check=True)
@@ -221,7 +221,7 @@ class TakenUp(OnFolder):
         keeping = await self.keeping(copy)
         status = {it["name"]: it for it in keeping.status()["stations"]}
         told = [(it["name"], it["by"], it["note"]) for it in status.values() if it["state"] != "idle"]
-        self.assertEqual(told, [("board", None, None), ("radio", "ann", "5 V")])
+        self.assertEqual(told, [("board", "bob", None), ("radio", "ann", "5 V")])
         back = await keeping.hold(Wish(ticket="a ticket of a test", comes_back=True), owner)
         self.assertEqual((back.name, back.instruments), ("radio", ("scope",)))
         again = await keeping.hold(Wish(("supply",), station="board", ticket="the ticket of one untold"), owner)
