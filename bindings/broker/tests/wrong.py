@@ -44,12 +44,7 @@ WRONG = {
     "a let-go answered and not written": Wrong(
         "test_written.OnDisk.test_a_let_go_is_written_before_it_is_answered",
         "keeping.py",
-        (
-            (
-                '("let_go", ""))\n        self._shell.pump()\n',
-                '("let_go", ""))\n        asyncio.get_running_loop().call_later(0.1, self._shell.pump)\n',
-            ),
-        ),
+        (("self._ends.add(session.key)\n        self._shell.pump()\n", "self._ends.add(session.key)\n        asyncio.get_running_loop().call_later(0.1, self._shell.pump)\n"),),
     ),
     "a hold told before its line is on the disk": Wrong(
         "test_disk.Disks.test_nobody_is_told_before_it_is_durable",
@@ -60,7 +55,7 @@ WRONG = {
         "test_written.Records.test_killed_behind_the_journals_line", "mending.py", (("if it.how and it.number not in over:", "if it.how == \"left\":"),)
     ),
     "an end without its record": Wrong(
-        "test_keeping.Sessions.test_one_after_another", "keeping.py", (("        self._record(what, session, text=text)\n        session.owner", "        session.owner"),)
+        "test_keeping.Sessions.test_one_after_another", "keeping.py", (("        self._record(what, session, text=text, after=self._span(session))\n", ""),)
     ),
     "a ticket of another": Wrong(
         "test_keeping.Gone.test_a_ticket_of_another",
