@@ -123,6 +123,7 @@ class Sessions(OnKeeping):
         self.assertLess(min(self.cost_of_a_line(keeping) for _ in range(20)), 0.001)
         for task in asks:
             task.cancel()
+        await asyncio.gather(*asks, return_exceptions=True)
 
     def cost_of_a_line(self, keeping: Keeping) -> float:
         """What whoever waits is told."""
@@ -321,7 +322,7 @@ class Gone(OnKeeping):
         for pings, words, gone in ((True, 0, 1.0), (True, 1, 1.5), (False, 1, None)):
             with self.subTest((pings, words)):
                 session = await self.holds(keeping, "scope", pings=pings)
-                begun = keeping.now()
+                begun = keeping.now() if session.heard_at is None else session.heard_at
                 await asyncio.sleep(0.5)
                 for _ in range(words):
                     self.assertTrue(keeping.heard(session, self.owner))
