@@ -46,6 +46,8 @@ class Held:
         # what its owner asks now, and since when; and who looks for another stream
         self._asked: dict[str, Any] = {}
         self._asked_at = 0.0
+        # since when the broker can't be reached, while it waits
+        self._lost_at: Optional[float] = None
         self._returns: Optional[asyncio.Task[None]] = None
         # it is called, on another thread, if the session was taken away while its owner works
         self.on_taken: Optional[Callable[[Exception], None]] = None
@@ -125,10 +127,10 @@ class Held:
         loop = asyncio.get_running_loop()
         self._wish.ticket, self._taken, self.state = secrets.token_urlsafe(), None, "waiting"
         until = None if self.timeout is None else loop.time() + self.timeout
-        lost_at: Optional[float] = None
+        self._lost_at = None
         try:
-            while not await self._comes_to_hold(loop, until, lost_at):
-                lost_at = lost_at or loop.time()
+            while not await self._comes_to_hold(loop, until):
+                self._lost_at = self._lost_at or loop.time()
         except BaseException:
             self.state = "withdrawn"
             raise
@@ -141,7 +143,7 @@ class Held:
         if self._stream is not None and self._stream.is_lost:
             self._is_cut()
 
-    async def _comes_to_hold(self, loop: asyncio.AbstractEventLoop, until: Optional[float], lost_at: Optional[float]) -> bool:
+    async def _comes_to_hold(self, loop: asyncio.AbstractEventLoop, until: Optional[float]) -> bool:
         """Whether it holds; if not, the stream ended, and it is worth another try."""
         lab = self.lab
         is_new = not lab._idle
@@ -150,7 +152,7 @@ class Held:
         try:
             if is_new:
                 await stream.opens()
-                lab._was_there = True
+                lab._was_there, self._lost_at = True, None
             if until is not None:
                 self._wish.timeout = max(0.0, until - loop.time())
             sent = clock()
@@ -161,7 +163,7 @@ class Held:
         except Lost as lost:
             self._raises_taken()
             # (one that was idle may be of a broker that is gone)
-            is_over = lost_at is not None and loop.time() > lost_at + GRACE or until is not None and loop.time() > until
+            is_over = self._lost_at is not None and loop.time() > self._lost_at + GRACE or until is not None and loop.time() > until
             if is_new and (lost.code not in AGAIN or not lab._was_there or is_over):
                 raise why_lost(lab.address, lost.code, str(lost)) from None
             if is_new:

@@ -154,6 +154,31 @@ class Clients(OnBroker):
         lab.release("guest-1")
         thread.join(LIMIT)
 
+    def test_who_waits_while_brokers_come_and_go(self) -> None:
+        """It tries for a while to reach each of them, however long ago it lost the first."""
+        broker = self.broker(BAY, "--state", "FOLDER/state")
+        self.enterContext(unittest.mock.patch.object(sessions, "GRACE", 5.0))
+        lab, got = self.lab(broker), list[str]()
+        held = lab.hold("scope")
+        held.acquire()
+
+        def waits() -> None:
+            with lab.hold("scope", station="radio") as it:
+                got.append(it.station)
+
+        thread = threading.Thread(target=waits)
+        thread.start()
+        for pause in (5.5, 0.0):
+            until(lambda: station(lab, "radio")["state"] == "waiting")
+            broker.kill()
+            time.sleep(0.5)
+            broker.begin()
+            until(lambda: station(self.lab(broker), "radio")["state"] == "waiting")
+            time.sleep(pause)
+        held.release()
+        thread.join(LIMIT)
+        self.assertEqual(got, ["radio"])
+
     def test_whose_client_is_gone(self) -> None:
         """Who waits is told so at once, though nothing else has changed."""
         broker = self.broker()
