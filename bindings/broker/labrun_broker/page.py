@@ -114,7 +114,8 @@ class Page:
 
     def __init__(self, keeping: Any) -> None:
         self._watch = Watch(keeping)
-        self._text = Path(__file__).with_name("page.html").read_text(encoding="utf-8")
+        text, style, script = (Path(__file__).with_name(f"page.{it}").read_text(encoding="utf-8") for it in ("html", "css", "js"))
+        self._text = text.replace("<style>", f"<style>\n{style}").replace("<script>", f"<script>\n{script}")
         self._headers = {**HEADERS, "Content-Security-Policy": policy(self._text)}
         self._listeners: set[asyncio.Task[Any]] = set()
 
