@@ -9,6 +9,7 @@ from __future__ import annotations
 
 import asyncio
 import collections
+import functools
 import os
 import threading
 import time
@@ -83,11 +84,13 @@ class Shell:
         self._writer: Optional[threading.Thread] = None
         self._has_timer = False
         _shells.add(self)
+        # a lab that nobody has any more goes: its threads end, and another may have the file
+        weakref.finalize(self, _goes, self._wakes_writer, self._wakes_timer, store).atexit = False
 
     def begins(self) -> None:
         """From now on it writes."""
         if self.keeps:
-            self._writer = starts(self.writes)
+            self._writer = starts(functools.partial(_works, weakref.ref(self), Shell.writes, self._work))
 
     def now(self) -> int:
         return time.monotonic_ns() // 1000000 + self._base
@@ -379,26 +382,21 @@ class Shell:
 
     # on threads of their own
 
-    def writes(self) -> None:
-        try:
-            while True:
-                self._work.acquire()
-                while self.writes_once():
-                    pass
-                if self.stands > STANDS_STILL:
-                    return
-        except BaseException as fault:
-            self.breaks(fault)
+    def writes(self) -> Optional[float]:
+        """All that there is. (As long as there is something, the thread has the shell: what was told to be written is.)"""
+        while again := self.writes_once():
+            pass
+        return None if again is None else -1
 
-    def writes_once(self) -> bool:
-        """Whether there was something to write, and it is worth to look again."""
+    def writes_once(self) -> Optional[bool]:
+        """Whether there was something to write, and it is worth to look again at once; None: there never is."""
         machine, store = self._machine, self._store
         fault: Optional[Exception] = None
         assert store is not None
         with self.mutex:
             is_last = self.stands > STANDS_STILL
             if self.stands > CLOSING:
-                return False
+                return None
             self._handed += 1
             handed = self._handed
             try:
@@ -413,7 +411,7 @@ class Shell:
                 fault = error
         with self.mutex:
             if self.stands > CLOSING:
-                return False
+                return None
             self._fault = fault
             if fault is None:
                 if text:
@@ -428,7 +426,9 @@ class Shell:
                 self._hands_on(self.now())
         if fault is not None and not is_last:
             time.sleep(AGAIN)
-        return bool(text) if fault is None else not is_last
+        if is_last and (fault is not None or not text):
+            return None
+        return bool(text) or fault is not None
 
     def _is_written(self, handed: int) -> None:
         for it in [it for it in self._on_disk if isinstance(it, Line) and it.within <= handed]:
@@ -449,15 +449,8 @@ class Shell:
             if self._has_timer:
                 self._wakes_timer()
             else:
-                starts(self.looks)
+                starts(functools.partial(_works, weakref.ref(self), Shell.looks_once, self._tick))
                 self._has_timer = True
-
-    def looks(self) -> None:
-        try:
-            while (seconds := self.looks_once()) is not None:
-                self._tick.acquire(True, seconds)
-        except BaseException as fault:
-            self.breaks(fault)
 
     def looks_once(self) -> Optional[float]:
         """In how many seconds to look again; None: never."""
@@ -481,6 +474,29 @@ def _opens(lock: Any) -> Callable[[], bool]:
         return True
 
     return wake
+
+
+def _works(of: Callable[[], Optional[Shell]], step: Callable[[Shell], Optional[float]], lock: Any) -> None:
+    """A thread of a shell's own: step by step, each of which tells how long to sleep until the next, or None. While it sleeps it doesn't have
+    the shell."""
+    while (seconds := _steps(of(), step)) is not None:
+        lock.acquire(True, seconds)
+
+
+def _steps(shell: Optional[Shell], step: Callable[[Shell], Optional[float]]) -> Optional[float]:
+    try:
+        return None if shell is None else step(shell)
+    except BaseException as fault:
+        if shell is not None:
+            shell.breaks(fault)
+        return None
+
+
+def _goes(wakes_writer: Callable[[], bool], wakes_timer: Callable[[], bool], store: Optional[Store]) -> None:
+    wakes_writer()
+    wakes_timer()
+    if store is not None:
+        store.close()
 
 
 def starts(work: Callable[[], None]) -> threading.Thread:

@@ -119,6 +119,11 @@ class OnFile(OnLab):
             yield
 
 
+def threads_since(before: set[threading.Thread]) -> set[threading.Thread]:
+    """(Some of those before may end meanwhile.)"""
+    return set(threading.enumerate()) - before
+
+
 def full() -> OSError:
     return OSError(28, "No space left on device")
 

@@ -13,7 +13,7 @@ import weakref
 from typing import Any, Callable
 
 import labrun
-from tests.labs import NAMES, Counting, OnLab
+from tests.labs import NAMES, Counting, OnLab, threads_since
 from tests.test_bench import LIMIT, back, in_thread, until
 
 
@@ -186,16 +186,18 @@ class Ends(OnLab):
         self.assertEqual(lab.sessions(), ())
 
     def test_left_behind(self) -> None:
-        """A lab without a time limit has no thread, and goes when nobody has it."""
-        count = threading.active_count()
-        lab = labrun.Lab(["x"])
-        with lab.hold("x"):
-            pass
-        self.assertEqual(threading.active_count(), count)
-        seen = weakref.ref(lab)
-        del lab
-        gc.collect()
-        self.assertIsNone(seen())
+        """A lab without a time limit has no thread, and goes when nobody has it; so does one with, and its thread."""
+        before = set(threading.enumerate())
+        for timeout in (None, LIMIT):
+            lab = labrun.Lab(["x"])
+            with lab.hold("x", timeout=timeout, limit=timeout):
+                pass
+            self.assertEqual(len(threads_since(before)), timeout is not None)
+            seen = weakref.ref(lab), weakref.ref(lab._shell)
+            del lab
+            gc.collect()
+            self.assertEqual([it() for it in seen], [None, None])
+            until(lambda: not threads_since(before))
 
 
 class Loads(OnLab):
