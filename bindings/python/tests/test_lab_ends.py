@@ -188,15 +188,16 @@ class Ends(OnLab):
     def test_left_behind(self) -> None:
         """A lab without a time limit has no thread, and goes when nobody has it; so does one with, and its thread."""
         before = set(threading.enumerate())
-        for timeout in (None, LIMIT):
+        for has_timer in (False, True):
             lab = labrun.Lab(["x"])
-            with lab.hold("x", timeout=timeout, limit=timeout):
-                pass
-            self.assertEqual(len(threads_since(before)), timeout is not None)
+            with lab.hold("x"):
+                if has_timer:
+                    self.in_vain(lab.hold("x", timeout=0.001), "x is held")
+            self.assertEqual(len(threads_since(before)), has_timer)
             seen = weakref.ref(lab), weakref.ref(lab._shell)
             del lab
             gc.collect()
-            self.assertEqual([it() for it in seen], [None, None])
+            until(lambda: [it() for it in seen] == [None, None])
             until(lambda: not threads_since(before))
 
 
