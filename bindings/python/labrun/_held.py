@@ -38,6 +38,7 @@ class Held(Asker):
         self, room: Room, kind: Kind, sets: tuple[int, ...], timeout: Optional[float] = None, limit: Optional[float] = None, note: str = ""
     ) -> None:
         self._room, self._kind, self.kind, self.sets, self._note = room, kind, kind.number, sets, note
+        self._shell, self._quick = room.shell, room.shell.quick
         self.timeout = NEVER if timeout is None else _milliseconds("timeout", timeout)
         self.limit = NEVER if limit is None else _milliseconds("limit", limit)
 
@@ -76,18 +77,22 @@ class Held(Asker):
 
     def acquire(self) -> None:
         """Sleeps until it holds. It is given up if it doesn't come to that: TimeoutError, Stopped, Closed, JournalError."""
-        self._is_new()
+        if self.what != NEW:
+            raise NotHeld(f"{self.called} is {self.state}: it is entered once")
         try:
-            at_once(self._acquire, False)
+            if not self._holds_at_once():
+                at_once(self._acquire, False)
         except BaseException:
             self._leaves()
             raise
 
     async def acquire_async(self) -> None:
         """The same for a task; others go on meanwhile."""
-        self._is_new()
+        if self.what != NEW:
+            raise NotHeld(f"{self.called} is {self.state}: it is entered once")
         try:
-            await self._acquire(True)
+            if not self._holds_at_once():
+                await self._acquire(True)
         except BaseException:
             self._leaves()
             raise
@@ -141,16 +146,16 @@ class Held(Asker):
 
     def __exit__(self, kind: Optional[type[BaseException]], fault: Optional[BaseException], at: Optional[TracebackType]) -> None:
         try:
-            if self._is_to_let_go(kind):
-                self.release()
+            if not self._quick.lets_go(self) and self._is_to_let_go(kind):
+                at_once(self._release, False)
         except BaseException as why:
             if self._is_to_be_told(why, kind):
                 raise
 
     async def __aexit__(self, kind: Optional[type[BaseException]], fault: Optional[BaseException], at: Optional[TracebackType]) -> None:
         try:
-            if self._is_to_let_go(kind):
-                await self.release_async()
+            if not self._quick.lets_go(self) and self._is_to_let_go(kind):
+                await self._release(True)
         except BaseException as why:
             if self._is_to_be_told(why, kind):
                 raise
@@ -167,14 +172,17 @@ class Held(Asker):
 
     # holding
 
-    def _is_new(self) -> None:
-        if self.what != NEW:
-            raise NotHeld(f"{self.called} is {self.state}: it is entered once")
+    def _holds_at_once(self) -> bool:
+        within = self._kind.within
+        return not self._note and (within is None or within[1].what != HOLDS) and self._quick.holds(self)
 
     async def _acquire(self, is_task: bool) -> None:
-        shell, sleep = self._room.shell, None
+        shell, within, sleep = self._shell, self._kind.within, None
+        if shell.keeps:
+            self._may_sleep(is_task)
+        if within is not None and within[1].what == HOLDS and within[0] == _me():
+            raise WouldBlock(self, f"{self._kind.called} is in a session of this thread, or task: another would wait for it for ever")
         with shell.mutex:
-            self._may_ask(shell, is_task)
             shell.asks(self)
             if self.what == WAITS:
                 self._may_sleep(is_task)
@@ -185,13 +193,6 @@ class Held(Asker):
             self._has_not_come(shell)
         if self._note:
             await self._notes(self._note, is_task)
-
-    def _may_ask(self, shell: Shell, is_task: bool) -> None:
-        if shell.keeps:
-            self._may_sleep(is_task)
-        within = self._kind.within
-        if within is not None and within[1].what == HOLDS and within[0] == _me():
-            raise WouldBlock(self, f"{self._kind.called} is in a session of this thread, or task: another would wait for it for ever")
 
     def _may_sleep(self, is_task: bool) -> None:
         if not is_task and in_loop():
@@ -221,7 +222,7 @@ class Held(Asker):
             raise NotHeld(f"{self.called} is {self.state}: it doesn't hold its instruments")
 
     def _leaves(self) -> None:
-        self._room.shell.leave(self)
+        self._shell.leave(self)
         self.wake = None
         if self.what in (NEW, WAITS, HOLDS, LETS_GO):
             self.what = LET_GO if self.needs else LEFT
@@ -229,7 +230,7 @@ class Held(Asker):
     # letting go
 
     async def _release(self, is_task: bool) -> None:
-        shell, sleep = self._room.shell, None
+        shell, sleep = self._shell, None
         try:
             with shell.mutex:
                 if self._lets_go(shell, is_task):
@@ -272,10 +273,10 @@ class Held(Asker):
     # within a session
 
     async def _notes(self, text: str, is_task: bool) -> None:
-        await self._room.shell.until_written(functools.partial(self._says, text, is_task), is_task)
+        await self._shell.until_written(functools.partial(self._says, text, is_task), is_task)
 
     def _says(self, text: str, is_task: bool) -> None:
-        shell = self._room.shell
+        shell = self._shell
         self._is_held(shell)
         if shell.keeps:
             self._may_sleep(is_task)
@@ -289,7 +290,7 @@ class Held(Asker):
 
     def waits_for(self) -> tuple[Keeper, ...]:
         """Who keeps it waiting, for each instrument that it lacks. Any thread may ask."""
-        shell = self._room.shell
+        shell = self._shell
         with shell.mutex:
             shell.may_go_on()
             return self._keepers() if self.what == WAITS else ()

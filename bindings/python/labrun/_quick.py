@@ -1,12 +1,14 @@
-"""A session that nobody else has to be told of: where nobody waits, and without a journal. `_fast.c` does the same in less time."""
+"""A session that nobody else has to be told of: without a journal, and where nobody waits."""
 
 from __future__ import annotations
 
 import collections
+import importlib
+import os
 from typing import Any, Callable
 
 from ._sleep import Waiter
-from .machine import HOLDS, LET_GO, NEVER, WAITS, Machine
+from .machine import HOLDS, LET_GO, NEVER, WAITS, Machine, Refusal
 
 # beside what the bay tells
 NEW, LETS_GO = 11, 12
@@ -32,27 +34,48 @@ class Quick:
         self.next, self.done, self.is_open = max(1, machine.next_number()), 0, False
         self._machine, self._mutex, self._now, self._askers, self._busy, self._left = machine, mutex, now, askers, busy, left
 
-    def asks(self, it: Asker) -> bool:
+    def holds(self, it: Asker) -> bool:
         """It asks, and holds. False: it doesn't, and the shell goes on from there; it may have asked."""
-        number, now = self.next, self._now()
-        # (what is over stays in the bay's book until there is nothing to tell: so all is told now and then)
-        if self._busy or self._left or not self.is_open or not number & 15 or it.limit != NEVER:
+        if not self.is_open or it.limit != NEVER:
             return False
-        # (the number comes first: an interrupt behind the call finds it)
-        self.next, it.number = number + 1, number
-        self._askers[number], it.what = it, WAITS
-        self._machine.ask(number, (1, number), it.kind, it.sets, min(now + it.timeout, NEVER), NEVER, now)
-        told = self._machine.tell(self.done)
-        if told is None or told.number != number or told.what != HOLDS:
-            return False
-        it.needs, it.what, self.done = told.needs, HOLDS, told.serial
-        return True
+        with self._mutex:
+            number, now = self.next, self._now()
+            # (what is over stays in the bay's book until there is nothing to tell: so all is told now and then)
+            if self._busy or self._left or not self.is_open or not number & 15:
+                return False
+            # (the number comes first: an interrupt behind the call finds it)
+            self.next, it.number = number + 1, number
+            self._askers[number], it.what = it, WAITS
+            try:
+                self._machine.ask(number, (1, number), it.kind, it.sets, min(now + it.timeout, NEVER), NEVER, now)
+            except Refusal:
+                # (the shell asks again, and says why)
+                del self._askers[number]
+                it.number, it.what = 0, NEW
+                return False
+            told = self._machine.tell(self.done)
+            if told is None or told.number != number or told.what != HOLDS:
+                self._busy.add(number)
+                return False
+            it.needs, it.what, self.done = told.needs, HOLDS, told.serial
+            return True
 
     def lets_go(self, it: Asker) -> bool:
         """One that holds. False: it doesn't, or somebody may have to be told; nothing was done."""
-        if self._busy or self._left or not self.is_open or it.what != HOLDS:
-            return False
-        self._machine.leave(it.number, self._now())
-        it.what = LET_GO
-        del self._askers[it.number]
-        return True
+        with self._mutex:
+            if self._busy or self._left or not self.is_open or it.what != HOLDS:
+                return False
+            self._machine.leave(it.number, self._now())
+            it.what = LET_GO
+            del self._askers[it.number]
+            return True
+
+
+def fastest() -> Callable[..., Quick]:
+    """The same in C (`_fast.c`), if it is built. With LABRUN_FAST=0 in the environment it is Python's."""
+    try:
+        fast = importlib.import_module("._fast", __package__) if os.environ.get("LABRUN_FAST") != "0" else None
+    except ImportError:
+        fast = None
+    made: Callable[..., Quick] = Quick if fast is None else fast.Quick
+    return made

@@ -15,13 +15,14 @@ import weakref
 from typing import Any, Callable, Optional, TypeVar
 
 from ._faults import Closed, Full, JournalError, LabrunError, OtherProcess, Stopped
-from ._quick import LETS_GO, Asker, Quick
+from ._quick import LETS_GO, Asker, Quick, fastest
 from ._sleep import Bolt, Waiter, sleep_of, starts, steps
 from .machine import HOLDS, LET_GO, LINE_FULL, NEVER, STOPPED, WAITS, Machine, Refusal, Standing, Told
 from .store import Store
 
 # the same thread may come again, if it is interrupted to end somebody whose loop is gone
 _new_mutex: Callable[[], Any] = threading.RLock
+_new_quick: Callable[..., Quick] = fastest()
 AGAIN = 0.03  # seconds, after a write that failed
 
 # how far a shell is
@@ -48,7 +49,7 @@ class Shell:
         self._busy: set[int] = set()
         # who left, and isn't taken out yet; the mutex needn't be held to add one
         self._left: collections.deque[Optional[Asker]] = collections.deque()
-        self.quick = Quick(machine, self.mutex, self.now, self.askers, self._busy, self._left)
+        self.quick = _new_quick(machine, self.mutex, self.now, self.askers, self._busy, self._left)
         self._on_disk: set[Waiter] = set()
         self._handed = 0
         self._fault: Optional[BaseException] = None
@@ -81,22 +82,19 @@ class Shell:
 
     def asks(self, it: Asker) -> None:
         """What is told at once it hears before this returns."""
-        try:
-            if not self.quick.asks(it):
-                self._asks(it)
-        except Refusal as fault:
-            raise self._refused(fault) from None
-
-    def _asks(self, it: Asker) -> None:
         self.may_go_on()
         now = self.now()
+        # (it may have asked just now: `Quick.holds`)
         if not it.number:
             # (the number comes first: an interrupt behind the call finds it)
             number = it.number = self.quick.next
             self.quick.next = number + 1
             self.askers[number], it.what = it, WAITS
-            self.machine.ask(number, (1, number), it.kind, it.sets, min(now + it.timeout, NEVER), it.limit, now)
-        self._busy.add(it.number)
+            self._busy.add(number)
+            try:
+                self.machine.ask(number, (1, number), it.kind, it.sets, min(now + it.timeout, NEVER), it.limit, now)
+            except Refusal as fault:
+                raise self._refused(fault) from None
         self.pump(now)
 
     def _refused(self, fault: Refusal) -> LabrunError:

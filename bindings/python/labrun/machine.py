@@ -148,7 +148,9 @@ class Machine:
         # what a call answers beside
         self._number, self._other = _LONG(), _LONG()
         self._number_at, self._other_at = ctypes.addressof(self._number), ctypes.addressof(self._other)
-        self._sets: Any = (_LONG * 16)()
+        self._has_room_for(16)
+        # (every session makes these)
+        self._ask, self._tell, self._leave = (self._calls[name] for name in ("ask", "tell", "leave"))
         self._text = ctypes.create_string_buffer(1 << 14)
         self.used = self._opens(b"".join(_CLASS.pack(*it, 0) for it in classes), len(classes), _TERMS.pack(*terms), journal, now)
         # (freed once, whether by `free` or because nobody has the machine any more; the handle stays until then)
@@ -168,8 +170,9 @@ class Machine:
     def _does(self, name: str, *given: Any) -> bool:
         """False: there is nothing."""
         status = self._calls[name](*given)
-        if not status:
-            return True
+        return not status or self._finds(name, status)
+
+    def _finds(self, name: str, status: int) -> bool:
         if status == NOT_NOW and name in _MAY_FIND_NONE:
             return False
         if status in _MAY.get(name, ()):
@@ -182,16 +185,24 @@ class Machine:
         """Refusal: NUMBER, STOPPED, NO_CLASS, EMPTY, MAY_NOT, LINE_FULL, OWNER."""
         _ASKED.pack_into(self._asked, 0, number, *owner, deadline, limit, kind, 0)
         if len(sets) > len(self._sets):
-            self._sets = (_LONG * (2 * len(sets)))()
+            self._has_room_for(2 * len(sets))
         self._sets[: len(sets)] = sets
-        self._does("ask", self._at, self._asked_at, ctypes.addressof(self._sets), len(sets), now)
+        status = self._ask(self._at, self._asked_at, self._sets_at, len(sets), now)
+        if status:
+            self._finds("ask", status)
+
+    def _has_room_for(self, sets: int) -> None:
+        self._sets: Any = (_LONG * sets)()
+        self._sets_at = ctypes.addressof(self._sets)
 
     def let_go(self, number: int, now: int) -> None:
         """Refusal: NOT_NOW if it waits; OVER."""
         self._does("let_go", self._at, number, now)
 
     def leave(self, number: int, now: int) -> None:
-        self._does("leave", self._at, number, now)
+        status = self._leave(self._at, number, now)
+        if status:
+            self._finds("leave", status)
 
     def take_away(self, number: int, now: int) -> None:
         """Refusal: NOT_NOW if it waits; OVER."""
@@ -238,7 +249,8 @@ class Machine:
 
     def tell(self, done: int) -> Optional[Told]:
         """What is told next; it is told again until its serial number is given back as `done`. None: there is nothing."""
-        return Told(*_OUTCOME.unpack(self._outcome)) if self._does("tell", self._at, done, self._outcome_at) else None
+        status = self._tell(self._at, done, self._outcome_at)
+        return None if status and not self._finds("tell", status) else Told._make(_OUTCOME.unpack(self._outcome))
 
     def keeper(self, number: int, instrument: int) -> Optional[Standing]:
         """Who keeps this instrument, counted from 0, from the ask with this number, which may just have lapsed: whoever holds it, or else the first in
@@ -262,6 +274,11 @@ class Machine:
         while self._does("look", self._at, len(found), self._standing_at, self._number_at):
             found.append(self._stands())
         return found
+
+    def addresses(self) -> tuple[int, int, int, int, int]:
+        """The least number of the next ask, and where `struct lab_bay` is and the calls that every session makes: for an extension."""
+        ask, tell, leave = (ctypes.cast(self._calls[name], _PLACE).value or 0 for name in ("ask", "tell", "leave"))  # type: ignore[arg-type]
+        return max(1, self.next_number()), self._at, ask, tell, leave
 
     def next_number(self) -> int:
         """The least number that the next ask may have."""

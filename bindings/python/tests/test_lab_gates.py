@@ -69,6 +69,7 @@ class Gated(unittest.TestCase):
 
         patches = [mock.patch.object(gates, "FILES", FILES), mock.patch.object(_shell, "starts", lambda *given: None)]
         patches.append(mock.patch.object(_shell, "time", Clock()))
+        patches.append(mock.patch.object(_shell, "_new_quick", _quick.Quick))
         patches += [mock.patch.object(_sleep, "_new_lock", at.lock), mock.patch.object(_shell, "_new_mutex", at.lock)]
         for patch in patches:
             patch.start()
