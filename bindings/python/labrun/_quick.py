@@ -32,13 +32,13 @@ class Quick:
         self, machine: Machine, mutex: Any, now: Callable[[], int], askers: dict[int, Any], busy: set[int], left: collections.deque[Any]
     ) -> None:
         self.next, self.done, self.is_open = max(1, machine.next_number()), 0, False
-        self._machine, self._mutex, self._now, self._askers, self._busy, self._left = machine, mutex, now, askers, busy, left
+        self._machine, self.mutex, self._now, self._askers, self._busy, self._left = machine, mutex, now, askers, busy, left
 
     def holds(self, it: Asker) -> bool:
         """It asks, and holds. False: it doesn't, and the shell goes on from there; it may have asked."""
         if not self.is_open or it.limit != NEVER:
             return False
-        with self._mutex:
+        with self.mutex:
             number, now = self.next, self._now()
             # (what is over stays in the bay's book until there is nothing to tell: so all is told now and then)
             if self._busy or self._left or not self.is_open or not number & 15:
@@ -62,7 +62,7 @@ class Quick:
 
     def lets_go(self, it: Asker) -> bool:
         """One that holds. False: it doesn't, or somebody may have to be told; nothing was done."""
-        with self._mutex:
+        with self.mutex:
             if self._busy or self._left or not self.is_open or it.what != HOLDS:
                 return False
             self._machine.leave(it.number, self._now())
