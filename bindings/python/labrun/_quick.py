@@ -47,17 +47,16 @@ class Quick:
             self.next, it.number = number + 1, number
             self._askers[number], it.what = it, WAITS
             try:
-                self._machine.ask(number, (1, number), it.kind, it.sets, min(now + it.timeout, NEVER), NEVER, now)
+                told = self._machine.holds(number, it.kind, it.sets, min(now + it.timeout, NEVER), now, self.done)
             except Refusal:
                 # (the shell asks again, and says why)
                 del self._askers[number]
                 it.number, it.what = 0, NEW
                 return False
-            told = self._machine.tell(self.done)
-            if told is None or told.number != number or told.what != HOLDS:
+            if told is None:
                 self._busy.add(number)
                 return False
-            it.needs, it.what, self.done = told.needs, HOLDS, told.serial
+            it.needs, it.what, self.done = told[1], HOLDS, told[0]
             return True
 
     def lets_go(self, it: Asker) -> bool:

@@ -191,6 +191,15 @@ class Machine:
         if status:
             self._finds("ask", status)
 
+    def holds(self, number: int, kind: int, sets: Sequence[int], deadline: int, now: int, done: int) -> Optional[tuple[int, int]]:
+        """It asks, as an owner of its own, and is told at once that it holds: the serial number of that, and what it holds. None: it is told
+        nothing, or something else, which `tell` tells again. Refusal: as `ask`."""
+        self.ask(number, (1, number), kind, sets, deadline, NEVER, now)
+        if self._tell(self._at, done, self._outcome_at):
+            return None
+        serial, whose, needs, what = _OUTCOME.unpack(self._outcome)
+        return (serial, needs) if whose == number and what == HOLDS else None
+
     def _has_room_for(self, sets: int) -> None:
         self._sets: Any = (_LONG * sets)()
         self._sets_at = ctypes.addressof(self._sets)
