@@ -39,7 +39,7 @@ class Quick:
         if not self.is_open or it.limit != NEVER:
             return False
         with self.mutex:
-            number, now = self.next, self._now()
+            number, now, timeout = self.next, self._now(), it.timeout
             # (what is over stays in the bay's book until there is nothing to tell: so all is told now and then)
             if self._busy or self._left or not self.is_open or not number & 15:
                 return False
@@ -47,7 +47,8 @@ class Quick:
             self.next, it.number = number + 1, number
             self._askers[number], it.what = it, WAITS
             try:
-                told = self._machine.holds(number, it.kind, it.sets, min(now + it.timeout, NEVER), now, self.done)
+                deadline = NEVER if timeout == NEVER else min(now + timeout, NEVER)
+                told = self._machine.holds(number, it.kind, it.sets, deadline, now, self.done)
             except Refusal:
                 # (the shell asks again, and says why)
                 del self._askers[number]

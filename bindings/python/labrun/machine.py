@@ -65,6 +65,8 @@ class Terms(NamedTuple):
 _HANDLE, _CLASS, _TERMS = struct.Struct("=QQ"), struct.Struct("=QII"), struct.Struct("=32sQQQII")
 _ASKED, _OUTCOME, _STANDING = struct.Struct("=QQQQQII"), struct.Struct("=QQQI4x"), struct.Struct("=QQQQQII")
 
+_packs, _unpacks = _ASKED.pack_into, _OUTCOME.unpack
+
 _WORD, _LONG, _SIZE, _PLACE, _TEXT = ctypes.c_uint32, ctypes.c_uint64, ctypes.c_size_t, ctypes.c_void_p, ctypes.c_char_p
 _CALLS: dict[str, list[Any]] = {
     "open": [_PLACE, _SIZE, _PLACE, _PLACE],
@@ -148,7 +150,7 @@ class Machine:
         # what a call answers beside
         self._number, self._other = _LONG(), _LONG()
         self._number_at, self._other_at = ctypes.addressof(self._number), ctypes.addressof(self._other)
-        self._has_room_for(16)
+        self._has_sets(())
         # (every session makes these)
         self._ask, self._tell, self._leave = (self._calls[name] for name in ("ask", "tell", "leave"))
         self._text = ctypes.create_string_buffer(1 << 14)
@@ -183,11 +185,13 @@ class Machine:
 
     def ask(self, number: int, owner: tuple[int, int], kind: int, sets: Sequence[int], deadline: int, limit: int, now: int) -> None:
         """Refusal: NUMBER, STOPPED, NO_CLASS, EMPTY, MAY_NOT, LINE_FULL, OWNER."""
-        _ASKED.pack_into(self._asked, 0, number, *owner, deadline, limit, kind, 0)
-        if len(sets) > len(self._sets):
-            self._has_room_for(2 * len(sets))
-        self._sets[: len(sets)] = sets
-        status = self._ask(self._at, self._asked_at, self._sets_at, len(sets), now)
+        count = len(sets)
+        if count == 1:
+            self._sets[0] = sets[0]
+        else:
+            self._has_sets(sets)
+        _packs(self._asked, 0, number, owner[0], owner[1], deadline, limit, kind, 0)
+        status = self._ask(self._at, self._asked_at, self._sets_at, count, now)
         if status:
             self._finds("ask", status)
 
@@ -197,11 +201,11 @@ class Machine:
         self.ask(number, (1, number), kind, sets, deadline, NEVER, now)
         if self._tell(self._at, done, self._outcome_at):
             return None
-        serial, whose, needs, what = _OUTCOME.unpack(self._outcome)
+        serial, whose, needs, what = _unpacks(self._outcome)
         return (serial, needs) if whose == number and what == HOLDS else None
 
-    def _has_room_for(self, sets: int) -> None:
-        self._sets: Any = (_LONG * sets)()
+    def _has_sets(self, sets: Sequence[int]) -> None:
+        self._sets: Any = (_LONG * max(1, len(sets)))(*sets)
         self._sets_at = ctypes.addressof(self._sets)
 
     def let_go(self, number: int, now: int) -> None:
@@ -259,7 +263,7 @@ class Machine:
     def tell(self, done: int) -> Optional[Told]:
         """What is told next; it is told again until its serial number is given back as `done`. None: there is nothing."""
         status = self._tell(self._at, done, self._outcome_at)
-        return None if status and not self._finds("tell", status) else Told._make(_OUTCOME.unpack(self._outcome))
+        return None if status and not self._finds("tell", status) else Told(*_unpacks(self._outcome))
 
     def keeper(self, number: int, instrument: int) -> Optional[Standing]:
         """Who keeps this instrument, counted from 0, from the ask with this number, which may just have lapsed: whoever holds it, or else the first in
