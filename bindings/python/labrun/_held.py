@@ -125,10 +125,8 @@ class Held(Asker):
             if self._kind.name:
                 self._kind.within = _me(), self
             return self
-        except LabrunError:  # (one of `acquire`, which left; or it was entered before, by whoever is still in it)
-            raise
-        except BaseException:
-            self._leaves()
+        except BaseException as fault:
+            self._leaves_by(fault)
             raise
 
     async def __aenter__(self) -> Held:
@@ -138,10 +136,8 @@ class Held(Asker):
             if self._kind.name:
                 self._kind.within = _me(), self
             return self
-        except LabrunError:
-            raise
-        except BaseException:
-            self._leaves()
+        except BaseException as fault:
+            self._leaves_by(fault)
             raise
 
     def __exit__(self, kind: Optional[type[BaseException]], fault: Optional[BaseException], at: Optional[TracebackType]) -> None:
@@ -166,8 +162,7 @@ class Held(Asker):
 
     def _is_to_be_told(self, why: BaseException, kind: Optional[type[BaseException]]) -> bool:
         """Whoever was in it is told what became of it, unless what comes from within says more."""
-        if not isinstance(why, LabrunError):
-            self._leaves()
+        self._leaves_by(why)
         return kind is None or not isinstance(why, (TakenAway, Closed, OtherProcess))
 
     # holding
@@ -226,6 +221,11 @@ class Held(Asker):
         self.wake = None
         if self.what in (NEW, WAITS, HOLDS, LETS_GO):
             self.what = LET_GO if self.needs else LEFT
+
+    def _leaves_by(self, fault: BaseException) -> None:
+        """(By one of the package's own it left before; or it was entered before, by whoever is still in it.)"""
+        if not isinstance(fault, LabrunError):
+            self._leaves()
 
     # letting go
 

@@ -16,7 +16,7 @@ from typing import Any, Callable, Optional, TypeVar
 
 from ._faults import Closed, Full, JournalError, LabrunError, OtherProcess, Stopped
 from ._quick import LETS_GO, Asker, Quick, fastest
-from ._sleep import Bolt, Waiter, sleep_of, starts, steps
+from ._sleep import Bolt, Line, Waiter, sleep_of, starts, steps
 from .machine import HOLDS, LET_GO, LINE_FULL, NEVER, STOPPED, WAITS, Machine, Refusal, Standing, Told
 from .store import Store
 
@@ -29,12 +29,6 @@ AGAIN = 0.03  # seconds, after a write that failed
 OPEN, STANDS_STILL, CLOSING, CLOSED, ELSEWHERE, BROKEN = range(6)
 
 T = TypeVar("T")
-
-
-class Line(Waiter):
-    """Waits until all that the bay gave by now is on the disk: `within` is the hand-out that has it; 0: it is there."""
-
-    within = -1
 
 
 class Shell:

@@ -35,6 +35,12 @@ class Waiter:
     fault: Optional[BaseException] = None
 
 
+class Line(Waiter):
+    """Waits until all that the bay gave by now is on the disk: `within` is the hand-out that has it; 0: it is there."""
+
+    within = -1
+
+
 class Bolt:
     """A thread sleeps at it until it is opened."""
 

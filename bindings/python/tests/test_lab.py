@@ -289,7 +289,7 @@ class Holding(OnLab):
             self.assertEqual(held.instruments, ("supply", "load-2"))
         self.is_empty(lab)
 
-    def test_chain(self) -> None:
+    def test_chain_of_guests(self) -> None:
         """Whoever is kept from an instrument by one that waits itself is told to the end of the chain."""
         lab = self.lab(overtakes=0)
         holder, between = self.held(lab, "", "scope"), lab.hold("scope", "supply")
