@@ -2,7 +2,6 @@
 
 from __future__ import annotations
 
-import gc
 import os
 import random
 import signal
@@ -13,7 +12,7 @@ import weakref
 from typing import Any, Callable
 
 import labrun
-from tests.labs import NAMES, Counting, OnLab, threads_since
+from tests.labs import NAMES, Counting, OnLab, are_gone, threads_since
 from tests.test_bench import LIMIT, back, in_thread, until
 
 
@@ -196,9 +195,8 @@ class Ends(OnLab):
             self.assertEqual(len(threads_since(before)), has_timer)
             seen = weakref.ref(lab), weakref.ref(lab._shell)
             del lab
-            gc.collect()
-            until(lambda: [it() for it in seen] == [None, None])
-            until(lambda: not threads_since(before))
+            until(lambda: are_gone(before))
+            self.assertEqual([it() for it in seen], [None, None])
 
 
 class Loads(OnLab):

@@ -15,7 +15,7 @@ from typing import Any, Callable
 from unittest import mock
 
 import labrun
-from tests.labs import NAMES, STATIONS, OnFile, full, threads_since
+from tests.labs import NAMES, STATIONS, OnFile, are_gone, full, threads_since
 from tests.test_bench import LIMIT, back, child, in_thread, until
 
 # holds, notes and lets go, and says so once it was told; of another process its calls for the file are counted, and at one it is killed
@@ -256,8 +256,7 @@ class ComesBack(OnFile):
             held = self.held(lab, "", "scope", note="two", **more)
             number = held.number
             del lab, held
-            gc.collect()
-            until(lambda: not threads_since(before))
+            until(lambda: are_gone(before))
             lab = labrun.Lab(NAMES, journal=self.path)
             self.assertEqual([(it.number, it.instruments, it.notes) for it in lab.resumed], [(number, ("scope",), ("two",))])
             lab.close()
@@ -282,8 +281,7 @@ class ComesBack(OnFile):
             self.assertEqual(len(threads_since(before)), 1)
             is_full[0] = False
             until(lambda: b" end " in self.text())
-        gc.collect()
-        until(lambda: not threads_since(before))
+        until(lambda: are_gone(before))
         self.assertEqual(labrun.Lab(NAMES, journal=self.path).resumed, ())
 
     def test_changed(self) -> None:
