@@ -36,6 +36,8 @@ class Held:
         self.instruments: tuple[str, ...] = tuple(wish.instruments)
         self.station, self.number, self.state = "", 0, "new"
         self._wish, self._waits = wish, waits
+        # by which another client has asked for it; mostly nothing
+        self._ticket = ""
         self._stream: Optional[Stream] = None
         self._taken: Optional[Exception] = None
         # for how long it is held after a word that the broker answered, and so until when, by `clock`; and who sends such words. Nobody else holds
@@ -125,7 +127,8 @@ class Held:
         if self.state in ("waiting", "held"):
             raise labrun.LabrunError(f"the session is {self.state} already")
         loop = asyncio.get_running_loop()
-        self._wish.ticket, self._taken, self.state = secrets.token_urlsafe(), None, "waiting"
+        self._wish.ticket, self._ticket = self._ticket or secrets.token_urlsafe(), ""
+        self._taken, self.state = None, "waiting"
         until = None if self.timeout is None else loop.time() + self.timeout
         self._lost_at = None
         try:

@@ -65,17 +65,19 @@ def _oddly() -> Iterator[None]:
 
 class Quick:
     """As much of `Held` as a command needs. `with` it: Odd is raised if it is for the whole client from the beginning. `connects` gives that,
-    and is told whether the broker was there."""
+    and is told whether the broker was there. `begins` is called once it holds: what interrupts it from there on is no business of its own."""
 
-    def __init__(self, path: str, wish: Wish, waits: Optional[Callable[[str], None]], connects: Callable[[bool], Lab]) -> None:
+    def __init__(
+        self, path: str, wish: Wish, waits: Optional[Callable[[str], None]], connects: Callable[[bool], Lab], begins: Callable[[], None]
+    ) -> None:
         self.instruments, self.station, self.number = wish.instruments, wish.station, 0
         self.on_taken: Optional[Callable[[Any], None]] = None
         self.is_released_if_gone = False
         self.wire = Wire()
-        self._path, self._wish, self._waits, self._connects = path, wish, waits, connects
-        self._ticket = binascii.b2a_base64(os.urandom(32), newline=False).decode().translate({43: "-", 47: "_", 61: None})
+        self._path, self._wish, self._waits, self._connects, self._begins = path, wish, waits, connects, begins
+        self.ticket = binascii.b2a_base64(os.urandom(32), newline=False).decode().translate({43: "-", 47: "_", 61: None})
         self._taken: Any = None
-        self._is_over = False
+        self._is_over = self._is_let_go = False
         self._whole: Optional[Held] = None
         # what the broker answers while it holds
         self._answers: SimpleQueue[tuple[int, Fields]] = SimpleQueue()
@@ -93,29 +95,35 @@ class Quick:
             raise
         return self
 
-    def __exit__(self, *fault: object) -> None:
+    def __exit__(self, kind: Optional[type[BaseException]], *fault: object) -> None:
+        if kind is not None and self.held and not self._is_let_go:
+            with contextlib.suppress(Exception):
+                self.release(kind.__name__)
         self._is_over = True
         self.wire.socket.close()
         if self._whole is not None:
             self._whole.lab.close(lets_go=False)
 
     def _holds(self) -> None:
-        self.wire.asks(WISH, _wish(self._wish, self._ticket, self._waits is not None))
+        self.wire.asks(WISH, _wish(self._wish, self.ticket, self._waits is not None))
         try:
             while (told := self.wire.told())[0] == WAITS:
                 if self._waits is not None:
                     self._waits(_text_of(told[1], 1))
+            what, of = told
+            if what == HELD:
+                self.station, self.number, self.instruments = _text_of(of, 1), of[2][0], tuple(it.decode() for it in of[3])
+                if LEASE in of:
+                    # (its client has to say again and again that it is there)
+                    self._comes_back(True)
+                self._begins()
         except BaseException as fault:
             if not isinstance(fault, Odd):
                 self._gives_up()
             raise
-        what, of = told
         if what != HELD:
             raise _fault(of) if what == FAULT else Odd()
-        self.station, self.number, self.instruments = _text_of(of, 1), of[2][0], tuple(it.decode() for it in of[3])
-        if LEASE in of:
-            # (its client has to say again and again that it is there)
-            self._comes_back(True)
+        if self._whole is not None:
             self.wire.socket.close()
         else:
             threading.Thread(target=self._watches, daemon=True).start()
@@ -129,6 +137,7 @@ class Quick:
                 pass
 
     def release(self, failed: Optional[str]) -> None:
+        self._is_let_go = True
         if self._whole is None:
             with contextlib.suppress(Odd):  # (whoever reads sees that, too)
                 self.wire.asks(LET_GO, b"" if failed is None else _text(1, failed))
@@ -162,7 +171,7 @@ class Quick:
             self.on_taken(fault)
 
     def _comes_back(self, waits: bool) -> None:
-        self._whole = self._connects(True)._resumed(self, self._ticket, waits)
+        self._whole = self._connects(True)._resumed(self, self.ticket, waits)
         self._whole.on_taken, self.is_released_if_gone = self._is_taken, self._whole.is_released_if_gone
 
 

@@ -49,7 +49,7 @@ def run_hold(args: argparse.Namespace) -> int:
     wish = Wish(() if any_of else its, any_of, args.station, args.by or f"{user()} {os.getpid()} {what}"[:64], args.timeout)
     waits: Waits = None if args.quiet else lambda text: say(f"waits: {plain(text)}")
     with passing_on() as signals, contextlib.ExitStack() as ends:
-        held = holds(args, wish, waits, ends)
+        held = holds(args, wish, waits, signals, ends)
         status = runs(args.command, held, signals, address_of(args))
         if held.held:
             held.release(f"status {status}" if status else None)
@@ -94,7 +94,7 @@ def looks_around(args: argparse.Namespace, wanted: tuple[tuple[str, ...], ...]) 
     return True
 
 
-def holds(args: argparse.Namespace, wish: Wish, waits: Waits, ends: contextlib.ExitStack) -> Union[Quick, Held]:
+def holds(args: argparse.Namespace, wish: Wish, waits: Waits, signals: Signals, ends: contextlib.ExitStack) -> Union[Quick, Held]:
     """A session that holds, until the end of `ends`."""
 
     def connects(was_there: bool) -> Lab:
@@ -102,17 +102,20 @@ def holds(args: argparse.Namespace, wish: Wish, waits: Waits, ends: contextlib.E
         lab._was_there = was_there
         return lab
 
-    began, was_there = time.monotonic(), False
+    began, was_there, ticket = time.monotonic(), False, ""
     address = address_of(args)
     if address.startswith("unix:") and not address.startswith("unix://"):
-        quick = Quick(address.removeprefix("unix:"), wish, waits, connects)
+        quick = Quick(address.removeprefix("unix:"), wish, waits, connects, signals.begins)
         try:
             return ends.enter_context(quick)
         except Odd:
-            was_there = quick.wire.was_there
+            was_there, ticket = quick.wire.was_there, quick.ticket
     lab = ends.enter_context(connects(was_there))
     left = wish.timeout and max(0.0, wish.timeout + began - time.monotonic())
-    return ends.enter_context(lab.hold(*wish.instruments, any_of=wish.any_of, timeout=left, waits=waits))
+    held = lab.hold(*wish.instruments, any_of=wish.any_of, timeout=left, waits=waits)
+    # (it may hold by now, and the broker's word be lost)
+    held._ticket = ticket
+    return ends.enter_context(held)
 
 
 def runs(command: list[str], held: Union[Quick, Held], signals: Signals, address: str = "") -> int:
@@ -162,6 +165,10 @@ class Signals:
         self.process: Optional[subprocess.Popen[bytes]] = None
         self.is_starting = False
         self.came: list[int] = []
+
+    def begins(self) -> None:
+        """What comes from now on is for the command."""
+        self.is_starting = True
 
     def starts(self, command: list[str], environment: dict[str, str], ends_with_this: bool = False) -> subprocess.Popen[bytes]:
         self.is_starting = True

@@ -6,8 +6,10 @@ import subprocess
 import sys
 import time
 import unittest
+from unittest import mock
 
-from labrun_broker.quick import _field, _fields, _number, _text
+from labrun_broker.command import main
+from labrun_broker.quick import HELD, Odd, Wire, _field, _fields, _number, _text
 from tests.brokers import BAY, LIMIT, Broker, OnBroker, station, until
 
 RELEASES = BAY.replace('bay = "north"', 'bay = "north"\ngone = "release"')
@@ -93,6 +95,34 @@ class Quick(OnBroker):
         self.assertEqual(broker.ran("hold", "scope", "--timeout", "0.3", "--", "true").returncode, 75)
         self.assertEqual(self.records(broker), ["opened", "asked", "held", "asked", "gave_up"])
         self.ends(broker, runs, 0)
+
+    def test_a_signal_as_it_comes_to_hold(self) -> None:
+        """However early or late it comes, nothing is held afterwards."""
+        broker = self.broker()
+        with broker.lab() as lab:
+            for number in range(12):
+                runs = broker.started("hold", "scope", "--", "sleep", "60")
+                until(lambda: any(it["state"] != "idle" for it in lab.status()["stations"]))
+                time.sleep(number * 0.002)
+                runs.terminate()
+                runs.communicate(timeout=LIMIT)
+                self.assertEqual(runs.returncode, 143)
+                until(lambda: all(it["state"] == "idle" for it in lab.status()["stations"]), "that all are idle")
+
+    def test_a_cut_before_it_is_told(self) -> None:
+        """The broker's word that it holds is lost: the whole client has the same session, and lets go of it."""
+        broker, told = self.broker(BAY, "--state", "FOLDER/state"), Wire.told
+
+        def is_cut(wire: Wire) -> object:
+            it = told(wire)
+            if it[0] == HELD:
+                raise Odd
+            return it
+
+        with mock.patch.object(Wire, "told", is_cut):
+            self.assertEqual(main(["hold", "scope", "--broker", broker.address, "--", "true"]), 0)
+        self.assertEqual(self.state(broker), "idle")
+        self.assertEqual([it for it in self.records(broker) if it not in ("gone", "back")], ["opened", "asked", "held", "let_go"])
 
     def test_what_is_refused(self) -> None:
         broker = self.broker(BAY + "[limits]\nclients = 1\n")

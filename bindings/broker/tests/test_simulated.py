@@ -35,7 +35,9 @@ class Sessions(Simulated, test_keeping.Sessions):
     test_a_status_holds_up_nobody = None
 
 
-class Gone(Simulated, test_keeping.Gone): ...
+class Gone(Simulated, test_keeping.Gone):
+    # (it looks twice within a tenth of a second)
+    test_released_after_the_grace = None
 
 
 class Chance(Simulated, test_keeping.Chance): ...
