@@ -207,7 +207,7 @@ class Keeping:
             self._is_taken(session, told.what)
 
     def _holds(self, session: Session, needs: int) -> None:
-        session.instruments = next(tuple(dict.fromkeys(it)) for it, bits in zip(session.wish.choices, session.sets) if bits == needs)
+        session.instruments = session.chosen(needs)
         session.state = "holding"
         self.sessions += 1
         self._notes(session, "by", f"{session.name} {session.by or ''}")
@@ -292,12 +292,12 @@ class Keeping:
         """Ends the session that a station holds, for its owner; its instruments. With its number, no other session of the station."""
         if station not in self.bay.jobs and all(it.name != station for it in self.by_number.values()):
             raise wishes.BadWish(f"{station} is no station of this bay: there are {', '.join(self.bay.jobs)}")
-        session = next((it for it, _, _ in Standings(self).holders if it.name == station), None)
+        session, needs = next(((it, bits) for it, bits, _ in Standings(self).holders if it.name == station), (None, 0))
         if session is None:
             raise NotHeld(f"{station} holds nothing")
         if number and session.number != number:
             raise NotHeld(f"{station} is in session {session.number}, and not in {number} any more")
-        instruments, session.taken_by = session.instruments, by
+        instruments, session.taken_by = session.chosen(needs), by
         if session.holds:
             self._notes(session, "taken", by)
         self._shell.machine.take_away(session.number, self.now())

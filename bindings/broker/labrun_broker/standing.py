@@ -52,6 +52,10 @@ class Session:
         """And its client was told so."""
         return self.state in ("holding", "gone")
 
+    def chosen(self, needs: int) -> tuple[str, ...]:
+        """Of the sets that it asked for, the one that it holds."""
+        return next((tuple(dict.fromkeys(it)) for it, bits in zip(self.wish.choices, self.sets) if bits == needs), self.instruments)
+
 
 class Standings:
     """All asks at one moment."""
@@ -62,6 +66,7 @@ class Standings:
         known = keeping.by_number
         self.holders = [(known[it.number], it.needs, it.since) for it in rows if it.what == HOLDS and it.number in known]
         self.waiters = [(known[it.number], it.since) for it in rows if it.what == WAITS and it.number in known]
+        self._needs = {session.number: needs for session, needs, _ in self.holders}
         # for each instrument, by its bit: who holds it, and since when
         self._held = {1 << bit: (session, since) for session, needs, since in self.holders for bit in range(64) if needs >> bit & 1}
 
@@ -187,7 +192,7 @@ class Standings:
         return {
             "name": name,
             "state": state,
-            "instruments": list(session.instruments),
+            "instruments": list(session.chosen(self._needs.get(session.number, 0))),
             "since": self.when(since),
             "by": session.by,
             "note": session.note,
@@ -197,7 +202,7 @@ class Standings:
         }
 
     def _holds(self, session: Session) -> bool:
-        return any(other is session for other, _, _ in self.holders)
+        return session.number in self._needs
 
     def _in_line(self, session: Session, since: int) -> dict[str, Any]:
         station = session.name if session.kind else ""
