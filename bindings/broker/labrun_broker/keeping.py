@@ -84,14 +84,16 @@ class Keeping:
         for one in it.left.values():
             if one.how == "let_go" or one.what == "taken":
                 self._ends.add(one.owner, "let_go" if one.how == "let_go" else "taken", f"by {one.taken or 'the broker'}")
-        for record in mending.missing(it.left, it.recent, self.places):
-            self._news.add(record)
-        self._record("opened", text="as it was left" if it.left else "")
         rows, named = {row.number: row for row in self.machine.standings() if row.what == HOLDS}, mending.labels(it.recent)
         names = {number: self.places.station(row.kind) or it.left[number].station or named.get(number, "") for number, row in rows.items()}
         # (those whose names are known come first, so that no other gets one of them)
         for number in sorted(rows, key=lambda number: (not names[number], number)):
             self._takes_up_one(rows[number], it.left[number], names[number] or free_label(self.by_number.values()))
+        for record in mending.missing(it.left, it.recent, self.places, {number: it.name for number, it in self.by_number.items()}):
+            self._news.add(record)
+        self._record("opened", text="as it was left" if it.left else "")
+        for session in self.by_number.values():
+            self._record("gone", session)
 
     def _takes_up_one(self, row: Standing, it: Left, name: str) -> None:
         told: asyncio.Future[None] = asyncio.get_running_loop().create_future()
@@ -99,7 +101,6 @@ class Keeping:
         session = Session(row.number, name, row.kind, row.owner, told, state="gone", gone_at=self.now(), by=it.by or None)
         session.instruments, session.note = self.places.names(row.needs), it.notes[-1] if it.notes else None
         self.by_number[row.number] = self._by_key[row.owner] = session
-        self._record("gone", session)
 
     async def close(self) -> None:
         """Nobody comes to hold any more; what is held stays held, in the journal."""

@@ -18,16 +18,17 @@ def labels(records: Iterable[Record]) -> dict[int, str]:
     return {it["session"]: it["station"] for it in records if it.get("session") and it.get("station")}
 
 
-def missing(left: dict[int, Left], records: list[Record], places: Places) -> list[Record]:
-    """The records that aren't there, of sessions that held; `left` has them as they came to hold."""
+def missing(left: dict[int, Left], records: list[Record], places: Places, names: Optional[dict[int, str]] = None) -> list[Record]:
+    """The records that aren't there, of sessions that held; `left` has them as they came to hold, and `names` those that the broker gives them."""
     held = {it["session"] for it in records if it["what"] == "held"}
     over = {it["session"] for it in records if it["what"] in ENDS}
     noted = {(it["session"], it.get("text")) for it in records if it["what"] == "note"}
-    named = labels(records)
+    named = {**labels(records), **(names or {})}
     found: list[Record] = []
     for it in _since_the_first(list(left.values()), held, len(records)):
         about = _About(it, places, named.get(it.number, ""))
-        if it.number not in held:
+        # (one that is over, and never held by the records, gave up before its client was told)
+        if it.number not in held and not (it.how and it.number in over):
             found.append(about.record("held", it.since / 1000))
         found += [about.record("note", it.since / 1000, text) for text in it.notes if (it.number, text) not in noted]
         if it.how and it.number not in over:
