@@ -15,7 +15,10 @@ if TYPE_CHECKING:
 
 
 class Wrong(Exception):
-    """The broker didn't do what the rules say."""
+    """The broker didn't do what the rules say; `of` is the property by its number (days.py)."""
+
+    def __init__(self, of: int, text: str) -> None:
+        super().__init__(f"property {of}: {text}")
 
 
 def is_refused(file: rules.File, left: dict[int, Left]) -> bool:
@@ -39,12 +42,12 @@ def same(day: Day) -> None:
     same_lines(day)
     for it in day.life.loop.faults:
         if not isinstance(it.get("exception"), Killed):
-            raise Wrong(f"it fails: {it}")
+            raise Wrong(7, f"it fails: {it}")
 
 
-def differ(what: str, wanted: Any, found: Any) -> None:
+def differ(of: int, what: str, wanted: Any, found: Any) -> None:
     if wanted != found:
-        raise Wrong(f"{what}: by the rules {wanted}; by the broker {found}")
+        raise Wrong(of, f"{what}: by the rules {wanted}; by the broker {found}")
 
 
 def same_words(day: Day, stream: Stream) -> None:
@@ -54,15 +57,15 @@ def same_words(day: Day, stream: Stream) -> None:
         at = next((at for at, word in enumerate(stream.got) if at >= len(it.told) or it.told[at] != word), None)
         if at is not None and stream.got[at] in (("noted",), ("fault", "JournalError")):
             if stream.got[at] != ("noted",) and now < until:
-                raise Wrong(f"a note isn't on the disk, and that is said after {now - until + rules.DISK} ms")
+                raise Wrong(3, f"a note isn't on the disk, and that is said after {now - until + rules.DISK} ms")
             it.told.insert(at, stream.got[at])
             it.note = None
             day.rules.heard(it)
         elif now > until:
-            raise Wrong(f"a note isn't answered: {text}")
-    differ(f"words to {it.ticket}", it.told, stream.got)
+            raise Wrong(7, f"a note isn't answered: {text}")
+    differ(4, f"words to {it.ticket}", it.told, stream.got)
     if stream.task.done():
-        raise Wrong(f"the stream of {it.ticket} ended: {stream.task}")
+        raise Wrong(7, f"the stream of {it.ticket} ended: {stream.task}")
 
 
 def same_releases(day: Day, durable: set[tuple[bytes, int]]) -> None:
@@ -70,33 +73,33 @@ def same_releases(day: Day, durable: set[tuple[bytes, int]]) -> None:
         it, held, since, task = row
         if not task.done():
             if day.rules.now > since + rules.DISK:
-                raise Wrong(f"a release of {it.name} isn't answered")
+                raise Wrong(7, f"a release of {it.name} isn't answered")
             continue
         day.releases.remove(row)
         if task.exception() is None:
-            differ(f"what {it.name} held", set(held), set(task.result()))
+            differ(4, f"what {it.name} held", set(held), set(task.result()))
             if (b"hold", it.number) in day.disk.tried and (b"end", it.number) not in durable:
-                raise Wrong(f"{it.number} is released, and that isn't on the disk")
+                raise Wrong(3, f"{it.number} is released, and that isn't on the disk")
             day.is_over.add(it.number)
         elif not isinstance(task.exception(), labrun.JournalError) or day.rules.now < since + rules.DISK:
-            raise Wrong(f"a release of {it.name}: {task.exception()!r}")
+            raise Wrong(4, f"a release of {it.name}: {task.exception()!r}")
 
 
 def same_status(it: rules.Rules, status: dict[str, Any]) -> None:
     wanted = it.status()
-    differ("instruments", wanted["instruments"], {one["name"]: (one["holder"], one["waiting"]) for one in status["instruments"]})
+    differ(6, "instruments", wanted["instruments"], {one["name"]: (one["holder"], one["waiting"]) for one in status["instruments"]})
     stations = {one["name"]: one for one in status["stations"]}
-    differ("who isn't idle", set(wanted["stations"]), {name for name, one in stations.items() if one["state"] != "idle"})
+    differ(8, "who isn't idle", set(wanted["stations"]), {name for name, one in stations.items() if one["state"] != "idle"})
     for name, row in wanted["stations"].items():
         found = stations[name]
         for key in ("state", "instruments", "by", "note", "session"):
-            differ(f"{key} of {name}", row[key] or None, found[key] or None)
+            differ(8, f"{key} of {name}", row[key] or None, found[key] or None)
         for key in ("since", "gone_since"):
             moment = None if found[key] is None else it.now - round(1000 * (status["at"] - found[key]))
             if (moment is None) != (row[key] is None) or moment is not None and abs(moment - row[key]) > 1:
-                raise Wrong(f"{key} of {name}: by the rules {row[key]}; by the broker {moment}")
-        differ(f"for whom {name} waits", row["waits_for"], {(one["instrument"], one["station"], one["holds"]) for one in found["waits_for"]})
-    differ("in line", wanted["in_line"], [(one["station"], one["instruments"], one["by"] or "") for one in status["in_line"]])
+                raise Wrong(8, f"{key} of {name}: by the rules {row[key]}; by the broker {moment}")
+        differ(8, f"for whom {name} waits", row["waits_for"], {(one["instrument"], one["station"], one["holds"]) for one in found["waits_for"]})
+    differ(6, "in line", wanted["in_line"], [(one["station"], one["instruments"], one["by"] or "") for one in status["in_line"]])
 
 
 def same_records(it: rules.Rules, history: list[dict[str, Any]]) -> None:
@@ -107,12 +110,12 @@ def same_records(it: rules.Rules, history: list[dict[str, Any]]) -> None:
     for one in history[opened + 1 :]:
         if one["session"] is not None:
             found[one["session"]].append((one["what"], one["station"], tuple(one["instruments"]), one["by"]))
-    differ("whose records there are", set(wanted), set(found))
+    differ(5, "whose records there are", set(wanted), set(found))
     for number, rows in wanted.items():
-        differ(f"records of {number}", [row[0] for row in rows], [row[0] for row in found[number]])
+        differ(5, f"records of {number}", [row[0] for row in rows], [row[0] for row in found[number]])
         for row, other in zip(rows, found[number]):
             if row[1] is not None:
-                differ(f"a record of {number}", (row[0], row[1], set(row[2]), row[3] or None), (other[0], other[1], set(other[2]), other[3]))
+                differ(5, f"a record of {number}", (row[0], row[1], set(row[2]), row[3] or None), (other[0], other[1], set(other[2]), other[3]))
 
 
 def same_lines(day: Day) -> None:
@@ -124,8 +127,8 @@ def same_lines(day: Day) -> None:
         word, *its = line[17:].decode().split(" ")
         number = int(its[0], 16)
         if word == "end":
-            differ(f"how {number} ended", day.rules.line.over.get(number, its[1]), its[1])
+            differ(2, f"how {number} ended", day.rules.line.over.get(number, its[1]), its[1])
         elif word == "hold" and (it := day.rules.sessions.get(number)) is not None:
-            differ(f"whose {number} is", f"{rules.owner_of(it.ticket):032x}", its[3])
-            differ(f"since when {number} holds, and asked", [day.rules.line._find(number).since, day.rules.line._find(number).asked], [int(its[4], 16), int(its[6], 16)])
+            differ(2, f"whose {number} is", f"{rules.owner_of(it.ticket):032x}", its[3])
+            differ(2, f"since when {number} holds, and asked", [day.rules.line._find(number).since, day.rules.line._find(number).asked], [int(its[4], 16), int(its[6], 16)])
     day.read_to = text.rfind(b"\n") + 1

@@ -1,5 +1,5 @@
-"""The lives of one broker in a day: the real one, with clients whose streams are in memory, beside what the rules say of it. After each thing that
-somebody does, and after each moment, both are compared; and at each word of the broker it is looked whether that would outlive a kill right then."""
+"""One day: the lives of a broker, from kill to kill, beside what the rules say of it. After each thing that somebody does, and after each moment,
+both are compared; and at each word of the broker it is looked whether that would outlive a kill right then."""
 
 from __future__ import annotations
 
@@ -7,117 +7,22 @@ import asyncio
 import contextlib
 import json
 import math
-from collections import Counter, defaultdict, deque
+from collections import Counter, defaultdict
 from typing import Any, Callable, Iterator, Optional
 from unittest import mock
 
 import grpc
 import labrun
 from labrun_broker import broker_pb2 as pb
-from labrun_broker.bay import bay_of
-from labrun_broker.keeping import Keeping
-from labrun_broker.service import Service
 from tests import day_checks as checks
 from tests import day_model as rules
-from tests.day_journal import ENDS, Left, left_in, lines_of, records_in, wrong_records
 from tests.day_checks import Wrong
+from tests.day_journal import ENDS, Left, left_in, lines_of, records_in, wrong_records
+from tests.day_life import Life, Stream
 from tests.day_model import Rules, Wish, model
-from tests.day_world import FOLDER, PLACES, Disk, Killed, Loop
+from tests.day_world import PLACES, Disk, Killed
 
 LEASE = 0.75  # of the grace
-
-
-class Stream:
-    """A call of Hold, as the service sees it; `got` is what it was told."""
-
-    def __init__(self, life: Life, client: int, ticket: str) -> None:
-        self.life, self.client, self.rules, self.got = life, client, rules.Stream(ticket), list[tuple[Any, ...]]()
-        self.asks: deque[Any] = deque()
-        self.sent: dict[str, int] = {}  # when it sent the last one of a kind
-        self.waiter: Optional[asyncio.Future[None]] = None
-        self.task = life.loop.create_task(life.service.Hold(None, self))
-
-    def sends(self, ask: Any) -> None:
-        self.asks.append(ask)
-        if self.waiter is not None and not self.waiter.done():
-            self.waiter.set_result(None)
-
-    def peer(self) -> str:
-        return "unix:"
-
-    def invocation_metadata(self) -> tuple[()]:
-        return ()
-
-    async def send_initial_metadata(self, _: Any) -> None: ...
-
-    async def read(self) -> Any:
-        while not self.asks:
-            self.waiter = self.life.loop.create_future()
-            await self.waiter
-        return self.asks.popleft()
-
-    async def write(self, told: Any) -> None:
-        if not self.life.disk.is_dead:
-            if not self.rules.is_open:
-                raise grpc.RpcError()
-            try:
-                self.life.day.is_told(self, told)
-            except Wrong as fault:
-                self.life.day.wrong = self.life.day.wrong or fault
-        await asyncio.sleep(0)
-
-
-class Life:
-    """A broker, from when it begins until it is killed or stopped."""
-
-    def __init__(self, day: Day, file: rules.File) -> None:
-        self.day, self.file, self.disk = day, file, day.disk
-        self.loop = Loop(day.disk, day.halves)
-        self.streams: list[Stream] = []
-        self.keeping = self.done(self.new)
-        self.service = Service(self.keeping, None)
-
-    def new(self) -> Keeping:
-        return Keeping(bay_of(self.file.text()), FOLDER, 60.0 if self.file.grace is None else self.file.grace / 1000)
-
-    def opens(self, client: int, ticket: str) -> Stream:
-        return Stream(self, client, ticket)
-
-    def done(self, make: Callable[[], Any]) -> Any:
-        asyncio._set_running_loop(self.loop)
-        try:
-            return make()
-        finally:
-            asyncio._set_running_loop(None)
-
-    def settles(self) -> None:
-        """All is done that is to be done at this moment, or the broker is killed before."""
-        for _ in range(20000):
-            if self.disk.is_dead or not self.steps():
-                if self.day.wrong is not None:
-                    raise self.day.wrong
-                return
-        raise Wrong("it is busy, and never comes to an end")
-
-    def steps(self) -> bool:
-        try:
-            return self.loop.step()
-        except Killed:
-            return True
-
-    def ends(self) -> None:
-        """Nothing of it is left."""
-        self.disk.is_dead = True
-        for _ in range(50):
-            if not (tasks := asyncio.all_tasks(self.loop)):
-                break
-            for task in tasks:
-                task.cancel()
-            while self.steps():
-                pass
-        if (shell := getattr(self.keeping, "_shell", None)) is not None:
-            shell.machine.free()
-        self.loop.close()
 
 
 class Day:
@@ -125,7 +30,6 @@ class Day:
         self.life: Life
         self.disk, self.halves, self.wall = Disk(), 2000, 1_700_000_000_000
         self.file = file
-        self.known: dict[int, rules.Session] = {}
         self.told_holds: dict[int, tuple[tuple[str, ...], Optional[int]]] = {}  # the grace that it was told last, too
         self.may_be_over, self.is_over, self.undone = set[int](), set[int](), set[int]()
         self.believes: dict[int, float] = {}
@@ -158,7 +62,7 @@ class Day:
         # (whatever somebody does, is done at a whole millisecond)
         self.halves += self.halves % 2
         while True:
-            left = left_in(self.disk)
+            left = self.left()
             because = checks.is_refused(file, left)
             self.life = Life(self, file)
             opens = self.life.loop.create_task(self.life.keeping.open())
@@ -168,7 +72,7 @@ class Day:
                 continue
             fault = opens.exception()
             if (fault is not None) != because or fault is not None and not isinstance(fault, labrun.JournalError):
-                raise Wrong(f"it begins: {fault!r}; by the rules it {'may not' if because else 'may'}")
+                raise Wrong(2, f"it begins: {fault!r}; by the rules it {'may not' if because else 'may'}")
             if fault is None:
                 break
             self.counts["bay files refused"] += 1
@@ -179,6 +83,12 @@ class Day:
         self.life.keeping.says = self.is_said
         self._takes_up(left)
 
+    def left(self) -> dict[int, Left]:
+        try:
+            return left_in(self.disk)
+        except (LookupError, ValueError) as fault:
+            raise Wrong(2, f"the files can't be read: {fault!r}") from None
+
     def _runs_until(self, task: asyncio.Task[Any]) -> None:
         self.life.settles()
         for _ in range(2000):
@@ -186,7 +96,7 @@ class Day:
                 return
             self.halves = self.life.loop.halves = max(self.life.loop.next_moment(), self.halves + 1)
             self.life.settles()
-        raise Wrong(f"it hangs: {task}")
+        raise Wrong(7, f"it hangs: {task}")
 
     def _takes_up(self, left: dict[int, Left]) -> None:
         now, stands = self.life.keeping.now(), [it for it in left.values() if not it.how]
@@ -195,25 +105,24 @@ class Day:
             kept = [grace, *(self.told_holds[it.number][1] for it in stands if it.number in self.told_holds), self.kept_grace]
             grace = None if None in kept else max(it for it in kept if it is not None)
         if not math.isclose(self.life.keeping.grace, math.inf if grace is None else grace / 1000):
-            raise Wrong(f"it keeps for {self.life.keeping.grace} s; by the rules for {grace} ms")
+            raise Wrong(1, f"it keeps for {self.life.keeping.grace} s; by the rules for {grace} ms")
         it = self.rules = Rules(self.file, now, grace)
         self.began_at = now, self.halves
         for one in left.values():
             if now <= one.since:
-                raise Wrong(f"it is {now}, and {one.number} holds since {one.since}")
+                raise Wrong(2, f"it is {now}, and {one.number} holds since {one.since}")
             if one.how == "let_go" or one.what == "taken":
                 it.ends[one.ticket] = "let_go" if one.how == "let_go" else "taken"
         for one in sorted(stands, key=lambda one: one.number):
-            it.sessions[one.number] = session = self._taken_up(one, now)
+            it.sessions[one.number] = self._taken_up(one, now)
             it.line.asks.append(model.Ask(one.number, one.kind, rules.owner_of(one.ticket), None, None, one.asked, one.since, one.needs, now, model.HOLDS, "", "holds", "durable"))  # fmt: skip
-            self.known[one.number] = session
         it.line.next = it.next = 1 + max([0, *left, *(one["session"] or 0 for one in self.before)])
         it.line.now = now
         names = {row["session"]: row["name"] for row in self.life.keeping.status()["stations"] if row["session"] is not None}
         for session in it.sessions.values():
             session.name = session.name or names.get(session.number, "?")
         if len({session.name for session in it.sessions.values()}) < len(it.sessions):
-            raise Wrong(f"two sessions have one name: {names}")
+            raise Wrong(8, f"two sessions have one name: {names}")
         it.follows()
         self.same()
         self._checks_records(left)
@@ -242,20 +151,20 @@ class Day:
         self.disk.begins_again(has_power, share)
         self.counts["kills" if has_power else "power cuts"] += 1
         self._keeps_what_was_told(acked, has_power)
-        self.counts["sessions that came back"] += sum(not it.how for it in left_in(self.disk).values())
+        self.counts["sessions that came back"] += sum(not it.how for it in self.left().values())
 
     def _keeps_what_was_told(self, acked: bytes, has_power: bool) -> None:
-        left, durable = left_in(self.disk), lines_of(acked)
+        left, durable = self.left(), lines_of(acked)
         self.before = records_in(self.disk)
         for number, (instruments, _) in self.told_holds.items():
             it = left.get(number)
             if it is None or set(it.names) != set(instruments):
-                raise Wrong(f"{number} was told that it holds {instruments}, and is lost by the {'kill' if has_power else 'power cut'}")
+                raise Wrong(2, f"{number} was told that it holds {instruments}, and is lost by the {'kill' if has_power else 'power cut'}")
             if it.how and number not in self.may_be_over | self.is_over:
-                raise Wrong(f"{number} was told that it holds {instruments}, and is over: {it.how}")
+                raise Wrong(2, f"{number} was told that it holds {instruments}, and is over: {it.how}")
             if not it.how and number in self.is_over:
                 if (b"end", number) in durable or has_power and not self.has_failed:
-                    raise Wrong(f"{number} has let go, or was released, and was told so; and holds again")
+                    raise Wrong(3, f"{number} has let go, or was released, and was told so; and holds again")
                 self.undone.add(number)
                 self.is_over.discard(number)
             self._keeps_notes(it)
@@ -269,7 +178,7 @@ class Day:
         try:
             self.kept_grace = json.loads(self.disk.names[PLACES].cache)["grace"] if PLACES in self.disk.names else 0
         except ValueError:
-            raise Wrong("bay.json is torn") from None
+            raise Wrong(2, "bay.json is torn") from None
         self.has_failed, self.releases = False, []
 
     def _keeps_notes(self, it: Left) -> None:
@@ -278,12 +187,12 @@ class Day:
         for text in it.notes:
             at += at < len(wanted) and text == wanted[at]
         if at < len(wanted) or not set(it.notes) <= {text for text, _ in sent}:
-            raise Wrong(f"notes of {it.number} that were answered: {wanted}; and there are {it.notes}")
+            raise Wrong(3, f"notes of {it.number} that were answered: {wanted}; and there are {it.notes}")
 
     def _checks_records(self, left: dict[int, Left]) -> None:
         self.life.settles()
         if not self.disk.is_dead and (wrong := wrong_records(records_in(self.disk), left, set(self.told_holds), self.undone)):
-            raise Wrong(f"the records: {wrong}")
+            raise Wrong(5, f"the records: {wrong}")
 
     def stops(self, file: rules.File) -> None:
         """As an operator stops it, and begins it again."""
@@ -320,7 +229,7 @@ class Day:
         """By the broker's clock, which has to go as ours does."""
         now, (moment, halves) = self.life.keeping.now(), self.began_at
         if now - moment != self.halves // 2 - halves // 2:
-            raise Wrong(f"the broker's clock went by {now - moment} ms in {self.halves // 2 - halves // 2}")
+            raise Wrong(8, f"the broker's clock went by {now - moment} ms in {self.halves // 2 - halves // 2}")
         return now
 
     def passes(self, milliseconds: int) -> None:
@@ -375,7 +284,7 @@ class Day:
             if it is not None:
                 self.releases.append((*it, self.rules.now, task))
             elif not task.done() or not isinstance(task.exception(), labrun.LabrunError):
-                raise Wrong(f"released, and there was nothing: {task}")
+                raise Wrong(4, f"released, and there was nothing: {task}")
 
         self.goes(lambda: None, says)
 
@@ -385,13 +294,13 @@ class Day:
         """To whoever looks after the broker. While it says that a write fails, whoever lets go may hold again after a kill."""
         self.has_failed = "is tried again" in text or self.has_failed and "all is written" not in text
         if self.has_failed and not self.has_bad_disk:
-            self.wrong = Wrong(f"the disk is sound, and it says {text}")
+            self.wrong = Wrong(7, f"the disk is sound, and it says {text}")
 
     def is_told(self, stream: Stream, told: Any) -> None:
         kind = told.WhichOneof("told")
         if kind == "waits":
             if not told.waits.text:
-                raise Wrong("for whom it waits: nothing is said")
+                raise Wrong(8, "for whom it waits: nothing is said")
             return
         its = getattr(told, kind)
         if kind == "held":
@@ -415,23 +324,25 @@ class Day:
     def _is_told_that_it_holds(self, its: Any, grace: Optional[int], sent_at: int) -> None:
         number, until = its.session, math.inf if grace is None else sent_at + LEASE * grace
         if (b"hold", number) not in lines_of(self.disk.acked):
-            raise Wrong(f"{number} is told that it holds, and that isn't on the disk")
+            raise Wrong(2, f"{number} is told that it holds, and that isn't on the disk")
         for other, end in self.believes.items():
             if other != number and end > self.halves / 2 and set(self.told_holds[other][0]) & set(its.instruments):
-                raise Wrong(f"{number} is told that it holds what {other} holds: {list(its.instruments)}")
+                raise Wrong(1, f"{number} is told that it holds what {other} holds: {list(its.instruments)}")
         if grace is not None and not math.isclose(its.lease, LEASE * grace / 1000):
-            raise Wrong(f"a lease of {its.lease} s in a grace of {grace} ms")
+            raise Wrong(1, f"a lease of {its.lease} s in a grace of {grace} ms")
         self.told_holds[number] = tuple(its.instruments), grace
         self.believes[number] = until
 
     def _has_let_go(self, number: int) -> None:
         self.is_over.add(number)
         if not self.has_failed and (b"end", number) not in lines_of(self.disk.journal()):
-            raise Wrong(f"{number} has let go and is told so, and that isn't written")
+            raise Wrong(3, f"{number} has let go and is told so, and that isn't written")
 
     def _is_noted(self, stream: Stream) -> None:
-        number, text, _ = stream.rules.note or (0, "", 0)
+        if stream.rules.note is None:
+            raise Wrong(3, "a note is answered before the disk had time for it")
+        number, text, _ = stream.rules.note
         notes = self.notes[number]
         if f"note {number:016x} note {text}\n".encode() not in self.disk.acked:
-            raise Wrong(f"a note of {number} is answered, and isn't on the disk: {text}")
+            raise Wrong(3, f"a note of {number} is answered, and isn't on the disk: {text}")
         notes[notes.index((text, False))] = text, True

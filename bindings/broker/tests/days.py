@@ -1,7 +1,7 @@
 """Days of one broker, by chance: the real broker on a loop and a disk in memory, beside the rules that the guide states (day_model.py).
 
-usage: python3 -m tests.days [DAYS] [--seed N]
-       so many days (1000), run in bindings/broker; a day that fails is told by its number and seed, and its shortest form
+usage: python3 -m tests.days [DAYS] [--seed N] [--first-wrong]
+       so many days (1000), run in bindings/broker; a day that fails is told by its number and seed, and its shortest form, or only the first
 
 What clients, operators, the disk and the clock do is drawn beforehand, and so are kills: behind any callback of the loop, which is at each
 `await`, and before, in the middle of or behind any call to the disk. What holds, whatever they do:
@@ -31,7 +31,8 @@ from labrun_broker import broker_pb2 as pb
 from tests import day_model as rules
 from tests.day_checks import Wrong
 from tests.day_journal import TICKETS
-from tests.day_lives import Day, Stream
+from tests.day_life import Stream
+from tests.day_lives import Day
 from tests.day_model import INSTRUMENTS, STATIONS, Wish
 
 Step = tuple[Any, ...]
@@ -226,9 +227,9 @@ class Doing:
                 day.release(session.name)
             day.passes(1100)
         else:
-            raise Wrong(f"it hangs: {day.life.keeping.status()}")
+            raise Wrong(7, f"it hangs: {day.life.keeping.status()}")
         if day.releases or any(it.rules.note for it in day.life.streams):
-            raise Wrong("somebody is never answered")
+            raise Wrong(7, "somebody is never answered")
         day.stops(day.file)
         day.life.ends()
 
@@ -266,17 +267,20 @@ def shortest(steps: list[Step], why: str) -> list[Step]:
     return steps
 
 
-def days(count: int, seed: int, first: int = 0) -> tuple[list[str], Counter[str]]:
+def days(count: int, seed: int, stops_at_first: bool = False) -> tuple[list[str], Counter[str]]:
     """What went wrong in so many days, a text for each; and what was in them."""
     wrong, counts = list[str](), Counter[str]()
-    for at in range(first, first + count):
+    for at in range(count):
         steps = steps_of(f"{seed} {at}")
         why, its = run(steps)
         counts += its
-        if why is not None:
-            short = shortest(steps, why)
-            lines = "\n".join(f"    {it}" for it in short)
-            wrong.append(f"day {at} of seed {seed}: {why}\n  in short: {run(short)[0]}\n{lines}")
+        if why is None:
+            continue
+        about = f"day {at} of seed {seed}: {why}"
+        if stops_at_first:
+            return [about], counts
+        short = shortest(steps, why)
+        wrong.append("\n".join([about, f"  in short: {run(short)[0]}", *(f"    {it}" for it in short)]))
     return wrong, counts
 
 
@@ -284,10 +288,10 @@ def main() -> int:
     words = argparse.ArgumentParser(usage=__doc__)
     words.add_argument("days", type=int, nargs="?", default=1000)
     words.add_argument("--seed", type=int, default=1)
-    words.add_argument("--first", type=int, default=0)
+    words.add_argument("--first-wrong", action="store_true")
     given = words.parse_args()
     begun = time.process_time()
-    wrong, counts = days(given.days, given.seed, given.first)
+    wrong, counts = days(given.days, given.seed, given.first_wrong)
     print("\n".join(wrong))
     print(f"{given.days} days, {dict(counts)}, {time.process_time() - begun:.0f} s of the processor, {len(wrong)} wrong")
     return bool(wrong)
