@@ -63,6 +63,9 @@ def same_words(day: Day, stream: Stream) -> None:
             day.rules.heard(it)
         elif now > until:
             raise Wrong(7, f"a note isn't answered: {text}")
+    if sorted(map(repr, it.told)) == sorted(map(repr, stream.got)) and [one for one in it.told if one[0] != "taken"] == [one for one in stream.got if one[0] != "taken"]:
+        # (that it was taken away is told by a task of its own, and so may be behind the answer to what came just then)
+        it.told = list(stream.got)
     differ(4, f"words to {it.ticket}", it.told, stream.got)
     if stream.task.done():
         raise Wrong(7, f"the stream of {it.ticket} ended: {stream.task}")
@@ -70,19 +73,19 @@ def same_words(day: Day, stream: Stream) -> None:
 
 def same_releases(day: Day, durable: set[tuple[bytes, int]]) -> None:
     for row in list(day.releases):
-        it, held, since, task = row
+        number, name, held, since, task = row
         if not task.done():
             if day.rules.now > since + rules.DISK:
-                raise Wrong(7, f"a release of {it.name} isn't answered")
+                raise Wrong(7, f"a release of {name} isn't answered")
             continue
         day.releases.remove(row)
         if task.exception() is None:
-            differ(4, f"what {it.name} held", set(held), set(task.result()))
-            if (b"hold", it.number) in day.disk.tried and (b"end", it.number) not in durable:
-                raise Wrong(3, f"{it.number} is released, and that isn't on the disk")
-            day.is_over.add(it.number)
+            differ(4, f"what {name} held", set(held), set(task.result()))
+            if (b"hold", number) in day.disk.tried and (b"end", number) not in durable:
+                raise Wrong(3, f"{number} is released, and that isn't on the disk")
+            day.is_over.add(number)
         elif not isinstance(task.exception(), labrun.JournalError) or day.rules.now < since + rules.DISK:
-            raise Wrong(4, f"a release of {it.name}: {task.exception()!r}")
+            raise Wrong(4, f"a release of {name}: {task.exception()!r}")
 
 
 def same_status(it: rules.Rules, status: dict[str, Any]) -> None:

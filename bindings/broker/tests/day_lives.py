@@ -5,6 +5,7 @@ from __future__ import annotations
 
 import asyncio
 import contextlib
+import copy
 import json
 import math
 from collections import Counter, defaultdict
@@ -34,7 +35,8 @@ class Day:
         self.may_be_over, self.is_over, self.undone = set[int](), set[int](), set[int]()
         self.believes: dict[int, float] = {}
         self.notes: dict[int, list[tuple[str, bool]]] = defaultdict(list)  # those that were sent, and whether that was answered
-        self.releases: list[tuple[rules.Session, tuple[str, ...], int, asyncio.Task[Any]]] = []
+        self.releases: list[tuple[int, str, tuple[str, ...], int, asyncio.Task[Any]]] = []
+        self.collects: Optional[list[tuple[Callable[[], None], ...]]] = None
         self.has_failed = False
         self.has_bad_disk = False
         self.wrong: Optional[Wrong] = None
@@ -217,6 +219,8 @@ class Day:
 
     def goes(self, does: Callable[[], None], says: Callable[[], None]) -> None:
         """Somebody does something; what the rules say of it; and whether it is the same."""
+        if self.collects is not None:
+            return self.collects.append((does, says))
         with contextlib.suppress(Killed):
             does()
         self.life.settles()
@@ -224,6 +228,34 @@ class Day:
             self.rules.now = self.now()
             says()
             self.same()
+
+    def races(self, count: int, first: tuple[Callable[[], None], ...], second: tuple[Callable[[], None], ...]) -> None:
+        """The second comes while the broker is at the first, so many callbacks later. It may have seen them in any order."""
+        with contextlib.suppress(Killed):
+            first[0]()
+            for _ in range(count):
+                self.life.steps()
+            second[0]()
+        self.life.settles()
+        if self.disk.is_dead:
+            return
+        self.rules.now = self.now()
+        before = copy.deepcopy((self.rules, [it.rules for it in self.life.streams])), list(self.releases), self.read_to
+        try:
+            self._saw(first[1], second[1])
+        except Wrong as fault:
+            (self.rules, streams), self.releases, self.read_to = before
+            for it, its in zip(self.life.streams, streams):
+                it.rules = its
+            try:
+                self._saw(second[1], first[1])
+            except Wrong:
+                raise fault from None
+
+    def _saw(self, *says: Callable[[], None]) -> None:
+        for it in says:
+            it()
+        self.same()
 
     def now(self) -> int:
         """By the broker's clock, which has to go as ours does."""
@@ -271,22 +303,25 @@ class Day:
         stream.sends(pb.Ask(wish=given))
 
     def release(self, name: str) -> None:
-        for it in self.rules.sessions.values():
-            if it.name == name:
-                self.may_be_over.add(it.number)
-                if it.stream is None:
-                    # (whoever is gone has been seen to)
-                    self.believes.pop(it.number, None)
-        task = self.life.loop.create_task(self.life.keeping.release(name, "eve"))
+        tasks: list[asyncio.Task[Any]] = []
+
+        def does() -> None:
+            for it in self.rules.sessions.values():
+                if it.name == name:
+                    self.may_be_over.add(it.number)
+                    if it.stream is None:
+                        # (whoever is gone has been seen to)
+                        self.believes.pop(it.number, None)
+            tasks.append(self.life.loop.create_task(self.life.keeping.release(name, "eve")))
 
         def says() -> None:
             it = self.rules.releases(name)
             if it is not None:
-                self.releases.append((*it, self.rules.now, task))
-            elif not task.done() or not isinstance(task.exception(), labrun.LabrunError):
-                raise Wrong(4, f"released, and there was nothing: {task}")
+                self.releases.append((it.number, name, it.held, self.rules.now, tasks[0]))
+            elif not tasks[0].done() or not isinstance(tasks[0].exception(), labrun.LabrunError):
+                raise Wrong(4, f"released, and there was nothing: {tasks[0]}")
 
-        self.goes(lambda: None, says)
+        self.goes(does, says)
 
     # ---- what is told, at once
 

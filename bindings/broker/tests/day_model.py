@@ -9,7 +9,7 @@ import math
 import os
 import sys
 from dataclasses import dataclass, field
-from typing import Any, Optional
+from typing import Any, NamedTuple, Optional
 
 sys.path.insert(0, os.path.realpath(os.path.join(os.path.dirname(__file__), "..", "..", "..", "bench", "bay")))
 import model  # type: ignore[import]  # noqa: E402
@@ -128,6 +128,11 @@ class Wish:
     comes_back: bool = False
     pings: bool = False
     by: str = ""
+
+
+class Released(NamedTuple):
+    number: int
+    held: tuple[str, ...]
 
 
 class Rules:
@@ -319,14 +324,14 @@ class Rules:
             self._record("gone", session)
             self.follows()
 
-    def releases(self, name: str) -> Optional[tuple[Session, tuple[str, ...]]]:
+    def releases(self, name: str) -> Optional[Released]:
         """The session that an operator ends, and what it held. None: there is none."""
         for it in self.sessions.values():
             if it.name == name and self._stands(it).stage == model.HOLDS:
                 held = names_of(self._stands(it).needs)
                 self.line.take_away(it.number, self.now)
                 self.follows()
-                return it, held
+                return Released(it.number, held)
         return None
 
     # ---- what comes of it

@@ -58,19 +58,16 @@ def wish_by(dice: random.Random, client: int) -> Step:
 def step_by(dice: random.Random) -> Step:
     client = dice.randrange(CLIENTS)
     kind = dice.choices(
-        ["wish", "burst", "note", "let_go", "ping", "cut", "ends", "release", "passes", "disk", "kill", "stops", "wall"],
-        [14, 3, 5, 12, 4, 6, 2, 3, 14, 5, 5, 1.5, 0.5],
+        ["wish", "burst", "note", "let_go", "ping", "cut", "ends", "release", "race", "passes", "disk", "kill", "stops", "wall"],
+        [14, 3, 5, 12, 4, 6, 2, 3, 8, 14, 5, 5, 1.5, 0.5],
     )[0]  # fmt: skip
-    if kind == "wish":
-        return kind, *wish_by(dice, client)
+    if kind == "race":
+        first, second = dice.sample(range(CLIENTS), 2)
+        return kind, dice.randrange(8), one_by(dice, first), one_by(dice, second)
+    if kind in ("wish", "note", "let_go", "ping", "cut", "ends", "release"):
+        return of_kind(dice, kind, client)
     if kind == "burst":
         return kind, *(wish_by(dice, it) for it in dice.sample(range(CLIENTS), dice.choice([2, 3, 4])))
-    if kind == "note":
-        return kind, client, f"{dice.randrange(10**6)} V" + ("x" * 30 if dice.random() < 0.1 else "")
-    if kind == "let_go":
-        return kind, client, dice.choice([None, None, None, "smoke"])
-    if kind == "release":
-        return kind, dice.choice([*STATIONS, "guest-1", "guest-2", "guest-3", "nobody"])
     if kind == "passes":
         return kind, dice.choice([0, 1, 2, 5, 20, 60, 300, 1000, 1500, 4500])
     if kind == "disk":
@@ -78,9 +75,24 @@ def step_by(dice: random.Random) -> Step:
     if kind == "kill":
         how = dice.choice(["callbacks", "callbacks", "before", "middle", "behind"])
         return kind, how, dice.choice([0, 1, 2, 3, 4, 5, 7, 10, 20]), dice.random() < 0.6, dice.random(), dice.random() < 0.3
-    if kind == "stops":
-        return kind, dice.random() < 0.5
-    return (kind, dice.choice([-10**9, -5000, 5000, 10**9])) if kind == "wall" else (kind, client)
+    return (kind, dice.random() < 0.5) if kind == "stops" else (kind, dice.choice([-10**9, -5000, 5000, 10**9]))
+
+
+def one_by(dice: random.Random, client: int) -> Step:
+    return of_kind(dice, dice.choice(["wish", "wish", "note", "let_go", "let_go", "ping", "cut", "release"]), client)
+
+
+def of_kind(dice: random.Random, kind: str, client: int) -> Step:
+    """What one client does, or an operator."""
+    if kind == "wish":
+        return kind, *wish_by(dice, client)
+    if kind == "note":
+        return kind, client, f"{dice.randrange(10**6)} V" + ("x" * 30 if dice.random() < 0.1 else "")
+    if kind == "let_go":
+        return kind, client, dice.choice([None, None, None, "smoke"])
+    if kind == "release":
+        return kind, dice.choice([*STATIONS, "guest-1", "guest-2", "guest-3", "nobody"])
+    return kind, client
 
 
 def steps_of(seed: str) -> list[Step]:
@@ -186,6 +198,16 @@ class Doing:
 
     def release(self, name: str) -> None:
         self.day.release(name)
+
+    def race(self, count: int, *steps: Step) -> None:
+        self.day.collects = both = []
+        for step in steps:
+            getattr(self, step[0])(*step[1:])
+        self.day.collects = None
+        if len(both) == 2:
+            self.day.races(count, *both)
+        elif both:
+            self.day.goes(*both[0])
 
     def passes(self, milliseconds: int) -> None:
         self.day.passes(milliseconds)
