@@ -99,7 +99,7 @@ def wrong_records(records: list[dict[str, Any]], left: dict[int, Left], told: se
             wrong.append(f"{it['session']} is over, and holds behind that")
         over |= {it["session"]} if it["what"] in ENDS else set()
     for one in left.values():
-        if one.number in told and count[one.number, "held"] != 1:
+        if one.number in told - undone and count[one.number, "held"] != 1:
             wrong.append(f"{one.number} held {count[one.number, 'held']} times")
         if one.how and not (ends[one.number] or one.number in undone):
             wrong.append(f"{one.number} is over ({one.what}), and no record says so")

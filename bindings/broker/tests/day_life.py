@@ -25,6 +25,7 @@ class Stream:
         self.life, self.client, self.rules, self.got = life, client, rules.Stream(ticket), list[tuple[Any, ...]]()
         self.asks: deque[Any] = deque()
         self.sent: dict[str, int] = {}  # when it sent the last one of a kind
+        self.is_cut = False
         self.waiter: Optional[asyncio.Future[None]] = None
         self.task = life.loop.create_task(life.service.Hold(None, self))
 

@@ -34,6 +34,7 @@ class Day:
         self.told_holds: dict[int, tuple[tuple[str, ...], Optional[int]]] = {}  # the grace that it was told last, too
         self.may_be_over, self.is_over, self.undone = set[int](), set[int](), set[int]()
         self.believes: dict[int, float] = {}
+        self.seen_to = set[int]()  # by an operator who releases
         self.notes: dict[int, list[tuple[str, bool]]] = defaultdict(list)  # those that were sent, and whether that was answered
         self.releases: list[tuple[int, str, tuple[str, ...], int, asyncio.Task[Any]]] = []
         self.collects: Optional[list[tuple[Callable[[], None], ...]]] = None
@@ -284,6 +285,7 @@ class Day:
 
     def cut(self, stream: Stream, says_so: bool = False) -> None:
         def does() -> None:
+            stream.is_cut = True
             stream.sends(grpc.aio.EOF) if says_so else stream.task.cancel()
             if self.rules.grace is not None and (it := stream.rules.session) is not None and not it.pings:
                 self.believes[it.number] = self.halves / 2 + self.rules.grace
@@ -306,12 +308,8 @@ class Day:
         tasks: list[asyncio.Task[Any]] = []
 
         def does() -> None:
-            for it in self.rules.sessions.values():
-                if it.name == name:
-                    self.may_be_over.add(it.number)
-                    if it.stream is None:
-                        # (whoever is gone has been seen to)
-                        self.believes.pop(it.number, None)
+            self.seen_to |= (its := {it.number for it in self.rules.sessions.values() if it.name == name})
+            self.may_be_over |= its
             tasks.append(self.life.loop.create_task(self.life.keeping.release(name, "eve")))
 
         def says() -> None:
@@ -361,12 +359,16 @@ class Day:
         if (b"hold", number) not in lines_of(self.disk.acked):
             raise Wrong(2, f"{number} is told that it holds, and that isn't on the disk")
         for other, end in self.believes.items():
-            if other != number and end > self.halves / 2 and set(self.told_holds[other][0]) & set(its.instruments):
+            if other != number and end > self.halves / 2 and not self.is_seen_to(other) and set(self.told_holds[other][0]) & set(its.instruments):
                 raise Wrong(1, f"{number} is told that it holds what {other} holds: {list(its.instruments)}")
         if grace is not None and not math.isclose(its.lease, LEASE * grace / 1000):
             raise Wrong(1, f"a lease of {its.lease} s in a grace of {grace} ms")
         self.told_holds[number] = tuple(its.instruments), grace
         self.believes[number] = until
+
+    def is_seen_to(self, number: int) -> bool:
+        """Its client is gone, and an operator has seen to that."""
+        return number in self.seen_to and all(it.is_cut or it.rules.session is None or it.rules.session.number != number for it in self.life.streams)
 
     def _has_let_go(self, number: int) -> None:
         self.is_over.add(number)
