@@ -3,7 +3,7 @@
 from __future__ import annotations
 
 from collections import defaultdict
-from typing import TYPE_CHECKING, Any
+from typing import TYPE_CHECKING, Any, Optional
 
 import labrun
 from tests import day_model as rules
@@ -11,7 +11,8 @@ from tests.day_journal import Left, lines_of
 from tests.day_world import Killed
 
 if TYPE_CHECKING:
-    from tests.day_lives import Day, Stream
+    from tests.day_life import Stream
+    from tests.day_lives import Day
 
 
 class Wrong(Exception):
@@ -26,6 +27,34 @@ def is_refused(file: rules.File, left: dict[int, Left]) -> bool:
     stands, classes = [it for it in left.values() if not it.how], file.classes()
     counts = [sum(it.kind == kind for it in stands) for kind in range(len(classes))]
     return any(it.needs & ~classes[it.kind][0] for it in stands) or any(count > places for count, (_, places) in zip(counts, classes))
+
+
+def takes_up(day: Day) -> None:
+    """Those that came back have names, and are gone since the broker began, or, where that is without an end, since they were gone by the records."""
+    it, status = day.rules, day.life.keeping.status()
+    rows = {row["session"]: row for row in status["stations"] if row["session"] is not None}
+    if set(rows) != set(it.sessions):
+        raise Wrong(8, f"who is shown as gone: by the rules {set(it.sessions)}; by the broker {rows}")
+    recorded = {one["session"] for one in day.life.keeping.history if one["what"] == "gone"}
+    for session in it.sessions.values():
+        row = rows[session.number]
+        session.name = session.name or row["name"]
+        moment, before = it.now - round(1000 * (status["at"] - row["gone_since"])), gone_before(day.before, session.number)
+        if before is not None and it.grace is None and abs(moment - it.now + max(0, 1000 * (day.clock() - before))) < 3:
+            session.gone_at = moment
+        if session.number in recorded:
+            it.records.append(("gone", session.number, None, None, None))
+        elif before is None or it.grace is not None:
+            raise Wrong(5, f"{session.number} is gone, and no record says so")
+
+
+def gone_before(records: list[dict[str, Any]], number: int) -> Optional[float]:
+    """Since when it is gone by the records; None if it isn't."""
+    since = None
+    for it in records:
+        if it["session"] == number and it["what"] in ("gone", "back"):
+            since = it["t"] if it["what"] == "gone" else None
+    return since
 
 
 def same(day: Day) -> None:

@@ -121,11 +121,7 @@ class Day:
             it.line.asks.append(model.Ask(one.number, one.kind, rules.owner_of(one.ticket), None, None, one.asked, one.since, one.needs, now, model.HOLDS, "", "holds", "durable"))  # fmt: skip
         it.line.next = it.next = 1 + max([0, *left, *(one["session"] or 0 for one in self.before)])
         it.line.now = now
-        names = {row["session"]: row["name"] for row in self.life.keeping.status()["stations"] if row["session"] is not None}
-        for session in it.sessions.values():
-            session.name = session.name or names.get(session.number, "?")
-        if len({session.name for session in it.sessions.values()}) < len(it.sessions):
-            raise Wrong(8, f"two sessions have one name: {names}")
+        checks.takes_up(self)
         it.follows()
         self.same()
         self._checks_records(left)
@@ -139,7 +135,6 @@ class Day:
         session.instruments, session.state, session.gone_at = one.names, "gone", now
         session.note = one.notes[-1] if one.notes else None
         session.choices = (session.instruments,)
-        self.rules.records.append(("gone", one.number, None, None, None))
         return session
 
     def _dies(self) -> None:
