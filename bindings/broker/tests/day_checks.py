@@ -53,7 +53,7 @@ def gone_before(records: list[dict[str, Any]], number: int) -> Optional[float]:
     since = None
     for it in records:
         if it["session"] == number and it["what"] in ("gone", "back"):
-            since = it["t"] if it["what"] == "gone" else None
+            since = None if it["what"] == "back" else it["t"] if since is None else since
     return since
 
 

@@ -18,6 +18,7 @@ What clients, operators, the disk and the clock do is drawn beforehand, and so a
 from __future__ import annotations
 
 import argparse
+import contextlib
 import random
 import re
 import sys
@@ -200,14 +201,18 @@ class Doing:
         self.day.release(name)
 
     def race(self, count: int, *steps: Step) -> None:
+        # (whoever gives up while it is released before it was told is at both at once: that is no order of two)
+        released = {step[1] for step in steps if step[0] == "release"}
+        is_one = any(it.name in released and it.state == "waiting" for it in self.day.rules.sessions.values())
         self.day.collects = both = []
         for step in steps:
             getattr(self, step[0])(*step[1:])
         self.day.collects = None
-        if len(both) == 2:
-            self.day.races(count, *both)
-        elif both:
-            self.day.goes(*both[0])
+        if len(both) == 2 and not is_one:
+            return self.day.races(count, *both)
+        for it in both:
+            if not self.day.disk.is_dead:
+                self.day.goes(*it)
 
     def passes(self, milliseconds: int) -> None:
         self.day.passes(milliseconds)
@@ -289,10 +294,10 @@ def shortest(steps: list[Step], why: str) -> list[Step]:
     return steps
 
 
-def days(count: int, seed: int, stops_at_first: bool = False) -> tuple[list[str], Counter[str]]:
+def days(count: int, seed: int, stops_at_first: bool = False, first: int = 0) -> tuple[list[str], Counter[str]]:
     """What went wrong in so many days, a text for each; and what was in them."""
     wrong, counts = list[str](), Counter[str]()
-    for at in range(count):
+    for at in range(first, first + count):
         steps = steps_of(f"{seed} {at}")
         why, its = run(steps)
         counts += its
@@ -312,11 +317,16 @@ def main() -> int:
     words.add_argument("--seed", type=int, default=1)
     words.add_argument("--first-wrong", action="store_true")
     given = words.parse_args()
-    begun = time.process_time()
-    wrong, counts = days(given.days, given.seed, given.first_wrong)
-    print("\n".join(wrong))
-    print(f"{given.days} days, {dict(counts)}, {time.process_time() - begun:.0f} s of the processor, {len(wrong)} wrong")
-    return bool(wrong)
+    begun, done, failed, counts = time.process_time(), 0, 0, Counter[str]()
+    # (whoever interrupts it is told how many there were)
+    with contextlib.suppress(KeyboardInterrupt):
+        while done < given.days and not (failed and given.first_wrong):
+            wrong, its = days(some := min(100, given.days - done), given.seed, given.first_wrong, done)
+            done, failed, counts = done + some, failed + len(wrong), counts + its
+            for it in wrong:
+                print(it, flush=True)
+    print(f"{done} days of seed {given.seed}, {dict(counts)}, {time.process_time() - begun:.0f} s of the processor, {failed} wrong")
+    return bool(failed)
 
 
 if __name__ == "__main__":
