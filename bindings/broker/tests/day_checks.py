@@ -39,6 +39,9 @@ def takes_up(day: Day) -> None:
     for session in it.sessions.values():
         row = rows[session.number]
         session.name = session.name or row["name"]
+        if session.by is None and row["by"] in {one["by"] for one in day.before if one["session"] == session.number}:
+            # (whose client wasn't told yet is in the records alone)
+            session.by = row["by"]
         moment, before = it.now - round(1000 * (status["at"] - row["gone_since"])), gone_before(day.before, session.number)
         if before is not None and it.grace is None and abs(moment - it.now + max(0, 1000 * (day.clock() - before))) < 3:
             session.gone_at = moment

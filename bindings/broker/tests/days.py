@@ -25,6 +25,7 @@ import sys
 import time
 import traceback
 from collections import Counter
+from dataclasses import replace
 from typing import Any, Optional
 
 import grpc  # noqa: F401
@@ -38,13 +39,14 @@ from tests.day_model import INSTRUMENTS, STATIONS, Wish
 
 Step = tuple[Any, ...]
 CLIENTS = 6
+GRACES = (None, 1600, 4000)  # milliseconds
 MODES = ("sound", "sound", "sound", "hangs", "writes fail", "syncs fail", "all fails", "full")
 
 
 def file_by(dice: random.Random) -> rules.File:
     some = lambda: tuple(dice.sample(INSTRUMENTS, dice.choice([2, 3, 4, 4])))
     uses = tuple((name, some()) for name in STATIONS if dice.random() < 0.9)
-    return rules.File(uses, dice.choice([0, 1, 2, 2, 3, 3]) if uses else 2, some(), dice.choice([None, 1600, 4000]), dice.choice([None, 0, 1, 2]))
+    return rules.File(uses, dice.choice([0, 1, 2, 2, 3, 3]) if uses else 2, some(), dice.choice(GRACES), dice.choice([None, 0, 1, 2]))
 
 
 def wish_by(dice: random.Random, client: int) -> Step:
@@ -99,7 +101,10 @@ def of_kind(dice: random.Random, kind: str, client: int) -> Step:
 def steps_of(seed: str) -> list[Step]:
     """A day: its bay files, and what is done in it."""
     dice = random.Random(seed)
-    return [("files", *(file_by(dice) for _ in range(3))), *(step_by(dice) for _ in range(dice.choice([15, 40, 80])))]
+    first = file_by(dice)
+    # (of some only the grace is another)
+    others = (replace(first, grace=dice.choice(GRACES)) if dice.random() < 0.3 else file_by(dice) for _ in range(2))
+    return [("files", first, *others), *(step_by(dice) for _ in range(dice.choice([15, 40, 80])))]
 
 
 class Doing:
