@@ -24,7 +24,7 @@ import grpc
 import labrun
 
 from . import broker_pb2 as pb
-from .errors import Unreachable, why_lost
+from .errors import BadWish, Unreachable, why_lost
 from .held import Held
 from .stream import Stream
 from .work import Result, Work, loop_of_this_process
@@ -90,6 +90,8 @@ class Lab:
     ) -> Held:
         """A session of these instruments, or of one of the sets `any_of`: `with lab.hold("scope", "supply"):`, or `async with`. After `timeout`
         seconds TimeoutError says who keeps it waiting, and it is given up. `waits` is called with a line whenever it is known for whom it waits."""
+        if timeout is not None and not timeout >= 0:
+            raise BadWish(f"a timeout of {timeout:g} s; it is 0 or more")
         choices = [pb.Instruments(names=(it,) if isinstance(it, str) else tuple(it)) for it in any_of]
         wish = pb.Wish(instruments=instruments, any_of=choices, station=self.station if station is None else station, by=self.by)
         wish.wants_waits, wish.pings = waits is not None, True

@@ -39,7 +39,7 @@ class Held:
         self._stream: Optional[Stream] = None
         self._taken: Optional[Exception] = None
         # for how long it is held after a word that the broker answered, and so until when, by `clock`; and who sends such words. Nobody else holds
-        # its instruments before that, whatever becomes of the connection (LEASE in keeping.py)
+        # its instruments before that, whatever becomes of the connection (leases.py)
         self._lease: Optional[float] = None
         self._until = math.inf
         self._beats: Optional[asyncio.Task[None]] = None
@@ -296,6 +296,8 @@ class Held:
             try:
                 kind, told = await stream.asks(**what)
             except Lost as lost:
+                # (it may be lost because the session was taken away just now)
+                self._raises_taken()
                 self._is_cut()
                 if self._returns is None:
                     raise NotHeld("the lab is closed") from None

@@ -1,6 +1,7 @@
 """The command: its words, what they say, and their statuses."""
 
 import contextlib
+import fcntl
 import io
 import json
 import os
@@ -13,6 +14,7 @@ import unittest
 from typing import Any
 from unittest import mock
 
+import labrun
 from labrun_broker.command import main
 from labrun_broker.run import Signals
 from tests.brokers import BAY, COMMAND, LIMIT, OnBroker, station, until
@@ -192,10 +194,32 @@ class WithBroker(OnBroker):
         _, said = runs.communicate(timeout=LIMIT)
         self.assertEqual(runs.returncode, 76)
         self.assertIn("board: the session was taken away by", said)
+        with self.lab(broker, "board").hold("scope"):
+            done = broker.ran("release", "board", "--session", "1")
+            self.assertEqual((done.returncode, done.stderr), (1, "labrun-broker: board is in session 2, and not in 1 any more\n"))
+            self.assertEqual(station(lab, "board")["state"], "holding")
         for name, text in (("board", "board holds nothing"), ("moon", "moon is no station of this bay")):
             done = broker.ran("release", name)
             self.assertEqual((done.returncode, done.stdout), (1, ""))
             self.assertIn(text, done.stderr)
+
+        broker.end()
+        self.assertRegex(broker.said, "^labrun-broker: session 1 of board was taken away by .*: scope\n$")
+
+    def test_nobody_reads_what_is_told(self) -> None:
+        """The pipe of its standard error is full: the broker goes on."""
+        broker = self.broker(BAY + "[limits]\nrequests = 100000\n")
+        assert broker.process is not None and broker.process.stderr is not None
+        fcntl.fcntl(broker.process.stderr, fcntl.F_SETPIPE_SZ, 4096)
+        with self.lab(broker, "board") as lab:
+            for _ in range(120):
+                held = lab.hold("scope", timeout=LIMIT)
+                held.acquire()
+                lab.release("board")
+                with self.assertRaises(labrun.TakenAway):
+                    held.release()
+        broker.end()
+        self.assertIn(len(broker.said.splitlines()), range(1, 100))
 
     def test_one_broker_at_a_socket(self) -> None:
         broker = self.broker()

@@ -14,6 +14,7 @@ import labrun
 import labrun_broker
 from labrun_broker.keeping import Keeping
 from labrun_broker.past import read_past
+from labrun_broker.service import fault_of
 from labrun_broker.wishes import Ended, Wish
 from tests.brokers import BAY, COMMAND, LIMIT, Broker, OnBroker, station, until
 from tests.test_keeping import TICKET, OnFolder, Owner, how
@@ -212,7 +213,7 @@ class TakenUp(OnFolder):
         gone = await keeping.hold(Wish(("load-2",), ticket="the ticket of a third"), owner)
         await keeping.release(gone.name, "eve")
         with mock.patch("os.fdatasync", lambda file: may.wait(5)):
-            untold = asyncio.create_task(keeping.hold(Wish(("supply",), station="board", ticket="the ticket of one untold"), owner))
+            untold = asyncio.create_task(keeping.hold(Wish(("supply",), station="board", by="bob", ticket="the ticket of one untold"), owner))
             await asyncio.sleep(0.1)
             self.assertFalse(untold.done())
             subprocess.run(["cp", "-a", f"{folder}/.", copy], check=True)
@@ -221,17 +222,17 @@ class TakenUp(OnFolder):
         keeping = await self.keeping(copy)
         status = {it["name"]: it for it in keeping.status()["stations"]}
         told = [(it["name"], it["by"], it["note"]) for it in status.values() if it["state"] != "idle"]
-        self.assertEqual(told, [("board", None, None), ("radio", "ann", "5 V")])
+        self.assertEqual(told, [("board", "bob", None), ("radio", "ann", "5 V")])
         back = await keeping.hold(Wish(ticket="a ticket of a test", comes_back=True), owner)
         self.assertEqual((back.name, back.instruments), ("radio", ("scope",)))
         again = await keeping.hold(Wish(("supply",), station="board", ticket="the ticket of one untold"), owner)
         self.assertEqual((again.name, again.instruments), ("board", ("supply",)))
         for ticket, ended, text in (
-            ("another ticket of it", "let_go", "has let go"), ("the ticket of a third", "taken", "taken away by eve"), ("a ticket of nobody", "", "no session"),
+            ("another ticket of it", "LetGo", "has let go"), ("the ticket of a third", "TakenAway", "taken away by eve"), ("a ticket of nobody", "NotHeld", "no session"),
         ):  # fmt: skip
             with self.assertRaisesRegex(Ended, text) as caught:
                 await keeping.hold(Wish(ticket=ticket, comes_back=True), owner)
-            self.assertEqual(caught.exception.how, ended)
+            self.assertEqual(fault_of(caught.exception).kind, ended)
 
     async def test_a_guest_is_the_same(self) -> None:
         """It has the name that it had, and nobody else gets that meanwhile."""
