@@ -71,16 +71,21 @@ class Keeping:
         for one in it.left.values():
             if one.how == "let_go" or one.what == "taken":
                 self._ends.add(one.owner, "" if one.how == "let_go" else f"by {one.taken or 'the broker'}")
-        for record in mending.missing(it.left, it.recent, self.places):
-            self._news.add(record)
-        self._record("opened", text="as it was left" if it.left else "")
         rows = {row.number: row for row in self.machine.standings() if row.what == HOLDS}
         names = {number: self.places.station(row.kind) or it.left[number].station for number, row in rows.items()}
         # (those whose names are known come first, so that no other gets one of them)
         # (where a grace ends they are gone from now on: it begins anew)
         gone = mending.gone_since(it.recent) if math.isinf(self.grace) else {}
         for number in sorted(rows, key=lambda number: (not names[number], number)):
-            self._takes_up_one(rows[number], it.left[number], names[number] or free_label(self.by_number.values()), gone.get(number))
+            of = it.left[number]
+            of.station = names[number] or free_label(self.by_number.values())
+            self._takes_up_one(rows[number], of, of.station, gone.get(number))
+        for record in mending.missing(it.left, it.recent, self.places):
+            self._news.add(record)
+        self._record("opened", text="as it was left" if it.left else "")
+        for number, session in self.by_number.items():
+            if number not in gone:
+                self._record("gone", session)
 
     def _takes_up_one(self, row: Standing, it: Left, name: str, gone: Optional[float]) -> None:
         told: asyncio.Future[None] = asyncio.get_running_loop().create_future()
@@ -89,8 +94,6 @@ class Keeping:
         session.gone_at = self.now() - (0 if gone is None else max(0, wishes.milliseconds(time.time() - gone)))
         session.instruments, session.note = self.places.names(row.needs), it.notes[-1] if it.notes else None
         self.by_number[row.number] = self._by_key[row.owner] = session
-        if gone is None:
-            self._record("gone", session)
 
     async def close(self) -> None:
         """Nobody comes to hold any more; what is held stays held, in the journal."""
@@ -198,7 +201,7 @@ class Keeping:
             self._is_taken(session, told.what)
 
     def _holds(self, session: Session, needs: int) -> None:
-        session.instruments = next(tuple(dict.fromkeys(it)) for it, bits in zip(session.wish.choices, session.sets) if bits == needs)
+        session.instruments = session.chosen(needs)
         session.state = "holding"
         self.sessions += 1
         self._notes(session, "by", f"{session.name} {session.by or ''}")
@@ -286,12 +289,12 @@ class Keeping:
         """Ends the session that a station holds, for its owner; its instruments. With its number, no other session of the station."""
         if station not in self.bay.jobs and all(it.name != station for it in self.by_number.values()):
             raise BadWish(f"{station} is no station of this bay: there are {', '.join(self.bay.jobs)}")
-        session = next((it for it, _, _ in Standings(self).holders if it.name == station), None)
+        session, needs = next(((it, bits) for it, bits, _ in Standings(self).holders if it.name == station), (None, 0))
         if session is None:
             raise NotHeld(f"{station} holds nothing")
         if number and session.number != number:
             raise NotHeld(f"{station} is in session {session.number}, and not in {number} any more")
-        instruments, session.taken_by = session.instruments, by
+        instruments, session.taken_by = session.chosen(needs), by
         if session.holds:
             self._notes(session, "taken", by)
         self._shell.machine.take_away(session.number, self.now())

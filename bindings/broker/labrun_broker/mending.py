@@ -39,7 +39,8 @@ def missing(left: dict[int, Left], records: list[Record], places: Places) -> lis
     found: list[Record] = []
     for it in _since_the_first(list(left.values()), held, len(records)):
         about = _About(it, places)
-        if it.number not in held:
+        # (one that is over, and never held by the records, gave up before its client was told)
+        if it.number not in held and not (it.how and it.number in over):
             found.append(about.record("held", it.since / 1000))
         found += [about.record("note", it.since / 1000, text) for text in it.notes if (it.number, text) not in noted]
         if it.how and it.number not in over:

@@ -66,6 +66,10 @@ class Session:
         """And its client was told so."""
         return self.state in ("holding", "gone")
 
+    def chosen(self, needs: int) -> tuple[str, ...]:
+        """Of the sets that it asked for, the one that it holds."""
+        return next((tuple(dict.fromkeys(it)) for it, bits in zip(self.wish.choices, self.sets) if bits == needs), self.instruments)
+
     def stops_looking(self) -> None:
         """Whether its client is silent doesn't matter any more."""
         if self.timer is not None:
@@ -93,7 +97,7 @@ class Standings:
                 self.waiters.append((session, it.since))
         # for each instrument, by its bit: who holds it, and since when
         self._held = {bit: (session, since) for session, needs, since in self.holders for bit in bits_of(needs)}
-        self._holding = {session.number for session, _, _ in self.holders}
+        self._holding = {session.number: needs for session, needs, _ in self.holders}
         kinds = collections.Counter(session.kind for session, _, _ in self.holders)
         # what is told of who keeps an instrument: the same to all who wait for it
         self._told: dict[tuple[int, int], dict[str, Any]] = {}
@@ -219,7 +223,7 @@ class Standings:
             return {**row, "session": None, "waits_for": []}
         # (one that holds, and wasn't told so yet, is at its instruments as good as ever)
         state = "holding" if session.state == "waiting" and self._holds(session) else session.state
-        row |= {"state": state, "instruments": list(session.instruments), "by": session.by, "note": session.note}
+        row |= {"state": state, "instruments": list(session.chosen(self._holding.get(session.number, 0))), "by": session.by, "note": session.note}
         row |= {"gone_since": self.when(session.gone_at), "session": session.number}
         return {**row, "waits_for": self.keepers(session) if state == "waiting" else []}
 

@@ -414,6 +414,24 @@ class Gone(OnKeeping):
         self.assertEqual(how(keeping, "scope")["holder"], None)
         self.assertEqual((await self.holds(keeping, "scope", station="board")).state, "holding")
 
+    async def test_what_it_holds_before_its_client_is_told(self) -> None:
+        """Of its choices the one that it holds is shown and released, and not all that it asked for."""
+        folder, may = self.enterContext(tempfile.TemporaryDirectory()), threading.Event()
+        keeping = Keeping(bay_of(BAY), folder)
+        await keeping.open()
+        self.addAsyncCleanup(keeping.close)
+        self.addCleanup(may.set)
+        with mock.patch("os.fdatasync", lambda file: may.wait(5)):
+            waits = asyncio.create_task(keeping.hold(Wish(any_of=(("supply",), ("scope",)), station="board"), self.owner))
+            await asyncio.sleep(0.02)
+            self.assertEqual((how(keeping, "board")["state"], how(keeping, "board")["instruments"], waits.done()), ("holding", ["supply"], False))
+            self.assertEqual([how(keeping, name)["holder"] for name in ("supply", "scope")], ["board", None])
+            releases = asyncio.create_task(keeping.release("board", "eve"))
+            with self.assertRaisesRegex(Ended, "taken away before its client was told"):
+                await waits
+            may.set()
+            self.assertEqual(await releases, ("supply",))
+
     async def test_the_clock_jumps(self) -> None:
         """Spans are those of a clock that doesn't, and times are told by the wall clock as it is now."""
         keeping = await self.keeping()

@@ -241,6 +241,33 @@ class OnDisk(OnFolder):
         self.assertLessEqual(syncs.count(syncs[0]), 3)
 
 
+class Soon(OnFolder):
+    """A record is in the file with the next turn of the loop."""
+
+    def whats(self, folder: str) -> list[str]:
+        with open(f"{folder}/records.jsonl", encoding="utf-8") as file:
+            return [json.loads(line)["what"] for line in file if line.endswith("}\n")]
+
+    async def test_behind_a_line_that_lost_its_end(self) -> None:
+        folder = self.folder()
+        with open(f"{folder}/records.jsonl", "w", encoding="utf-8") as file:
+            file.write('{"t":1,"what":"as')
+        keeping = await self.keeping(folder)
+        await keeping.hold(Wish(("scope",), station="radio"), Owner())
+        await asyncio.sleep(0.01)
+        self.assertEqual(self.whats(folder), ["opened", "asked", "held"])
+
+    async def test_once_the_disk_is_sound_again(self) -> None:
+        folder = self.folder()
+        keeping, owner = await self.keeping(folder), Owner()
+        with mock.patch("os.write", side_effect=OSError(28, "No space left on device")):
+            radio = await keeping.hold(Wish(("scope",), station="radio"), owner)
+            await asyncio.sleep(0.01)
+        keeping.gone(radio, owner)
+        await asyncio.sleep(0.01)
+        self.assertEqual(self.whats(folder), ["opened", "asked", "held", "gone"])
+
+
 class Hanging(OnFolder):
     async def test_who_asks(self) -> None:
         """A disk that doesn't answer: who waits for it is told so, and given up after some seconds if its time is over; whoever looks after the
