@@ -6,9 +6,12 @@
 
 Names and errors are those of the package labrun, whose proved bay is behind it."""
 
-from .client import Lab, connect
-from .errors import BadWish, BrokerError, JournalError, MayNotUse, NotHeld, Stopped, TakenAway, TimeoutError, Unreachable
-from .held import Held
+from typing import TYPE_CHECKING
+
+if TYPE_CHECKING:
+    from .client import Lab, connect
+    from .errors import BadWish, BrokerError, JournalError, MayNotUse, NotHeld, Stopped, TakenAway, TimeoutError, Unreachable
+    from .held import Held
 
 __all__ = [
     "BadWish",
@@ -24,3 +27,13 @@ __all__ = [
     "Unreachable",
     "connect",
 ]
+
+
+def __getattr__(name: str) -> object:
+    """The client, when it is first asked for: a command that holds begins sooner without gRPC."""
+    if name not in __all__:
+        raise AttributeError(f"module {__name__!r} has no attribute {name!r}")
+    from . import client, errors, held
+
+    globals().update({it: getattr(next(one for one in (client, errors, held) if hasattr(one, it)), it) for it in __all__})
+    return globals()[name]

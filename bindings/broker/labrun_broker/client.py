@@ -13,9 +13,7 @@ import asyncio
 import atexit
 import builtins
 import contextlib
-import getpass
 import os
-import socket
 import sys
 from types import TracebackType
 from typing import Any, Callable, Coroutine, Iterable, Iterator, Optional, Union
@@ -24,12 +22,12 @@ import grpc
 import labrun
 
 from . import broker_pb2 as pb
-from .errors import Unreachable, why_lost
+from .errors import BadWish, Unreachable, why_lost
 from .held import Held
+from .quick import DEFAULT, Quick, user
 from .stream import Stream
 from .work import Result, Work, loop_of_this_process
 
-DEFAULT = "unix:/run/labrun/bay.sock"
 # a question that a broker doesn't answer for so long won't be answered
 ANSWER = 30.0
 CLOSING = 3.0
@@ -90,10 +88,19 @@ class Lab:
     ) -> Held:
         """A session of these instruments, or of one of the sets `any_of`: `with lab.hold("scope", "supply"):`, or `async with`. After `timeout`
         seconds TimeoutError says who keeps it waiting, and it is given up. `waits` is called with a line whenever it is known for whom it waits."""
+        if timeout is not None and not timeout >= 0:
+            raise BadWish(f"a timeout of {timeout:g} s; it is 0 or more")
         choices = [pb.Instruments(names=(it,) if isinstance(it, str) else tuple(it)) for it in any_of]
         wish = pb.Wish(instruments=instruments, any_of=choices, station=self.station if station is None else station, by=self.by)
         wish.wants_waits, wish.pings = waits is not None, True
         return Held(self, wish, timeout, waits)
+
+    def _resumed(self, of: Quick, ticket: str, waits: bool) -> Held:
+        """A session that holds on a stream which is of another client, or was cut."""
+        held = Held(self, pb.Wish(instruments=of.instruments, ticket=ticket, by=self.by), None, None)
+        held.station, held.number = of.station, of.number
+        self._run(held._resumes(waits))
+        return held
 
     def status(self) -> dict[str, Any]:
         """Who holds what since when, and who waits for whom."""
@@ -200,14 +207,8 @@ def connect(
     return Lab(address or os.environ.get("LABRUN_BROKER") or DEFAULT, station, token, certificate, by or _who())
 
 
-def user() -> str:
-    """As ann@bench-3."""
-    try:
-        name = getpass.getuser()
-    except (KeyError, OSError):
-        name = str(os.getuid())
-    return f"{name}@{socket.gethostname()}"
-
-
 def _who() -> str:
-    return f"{user()} {os.getpid()} {os.path.basename(sys.argv[0]) or 'python'}"[:64]
+    folder, name = os.path.split(sys.argv[0])
+    # (of `python3 -m pytest` it is pytest)
+    name = os.path.basename(folder) if name == "__main__.py" else name
+    return f"{user()} {os.getpid()} {name or 'python'}"[:64]

@@ -6,32 +6,22 @@ from __future__ import annotations
 
 import argparse
 import contextlib
+import importlib
 import json
 import os
 import sys
 import time
 from typing import Any, Callable, Optional, Sequence
 
-import labrun
-
-from .bay import BadAddress, BayFault, read_bay
-from .client import user
-from .errors import Unreachable
+from .quick import user
 from .run import add_hold, run_hold
-from .serve import add_serve, run_serve
 from .texts import aligned, last, plain, span
 from .words import ABOUT, INTERRUPTED, MAY_NOT, NO_BAY, NOT_WRITTEN, PROGRAM, STATUSES, TAKEN, TIMED_OUT, UNREACHABLE, USAGE, Word, add_client, lab_of, say
 
-ENDS: tuple[tuple[type[BaseException], int], ...] = (
-    (labrun.TimeoutError, TIMED_OUT),
-    (labrun.TakenAway, TAKEN),
-    (labrun.MayNotUse, MAY_NOT),
-    (Unreachable, UNREACHABLE),
-    (labrun.JournalError, NOT_WRITTEN),
-    (BayFault, NO_BAY),
-    (BadAddress, NO_BAY),
-)
 
+# the status of each error, by its name, or by that of the first of its kinds: it is looked up without importing what has it
+ENDS = {"TimeoutError": TIMED_OUT, "TakenAway": TAKEN, "MayNotUse": MAY_NOT, "Unreachable": UNREACHABLE, "JournalError": NOT_WRITTEN}
+ENDS |= {"BayFault": NO_BAY, "BadAddress": NO_BAY, "LabrunError": 1, "OSError": 1, "ValueError": 1}
 
 # ---- how it stands
 
@@ -59,12 +49,10 @@ def run_top(args: argparse.Namespace) -> int:
 
 def lines_of(status: dict[str, Any]) -> list[str]:
     """How the bay stands, for people."""
-    at = status["at"]
-    since = time.strftime("%Y-%m-%d %H:%M", time.localtime(status["since"]))
+    at, since = status["at"], time.strftime("%Y-%m-%d %H:%M", time.localtime(status["since"]))
     rows = [["INSTRUMENT", "HELD BY", "FOR", "WAITING"]]
     for one in status["instruments"]:
-        is_held = one["holder"] is not None
-        rows.append([one["name"], one["holder"] or "-", span(at - one["since"]) if is_held else "", " ".join(one["waiting"])])
+        rows.append([one["name"], one["holder"] or "-", span(at - one["since"]) if one["holder"] else "", " ".join(one["waiting"])])
     lines = [f"bay {plain(status['bay'])}, {status['sessions']} sessions since {since}", "", *aligned(rows), ""]
     rows = [["STATION", "", "FOR", "INSTRUMENTS", "BY"]]
     for one in status["stations"]:
@@ -98,6 +86,8 @@ def add_bay(parser: argparse.ArgumentParser) -> None:
 
 
 def run_bay(args: argparse.Namespace) -> int:
+    from .bay import BayFault, read_bay
+
     try:
         bay = read_bay(args.bay)
     except BayFault as fault:
@@ -112,35 +102,25 @@ def run_bay(args: argparse.Namespace) -> int:
 FOLDER = "the state folder of labrun-broker serve --state FOLDER; or the journal of a bench, a file"
 
 
-def add_last(parser: argparse.ArgumentParser) -> None:
+def add_past(parser: argparse.ArgumentParser) -> None:
+    parser.add_argument("folder", metavar="FOLDER", help=FOLDER)
     parser.add_argument("--last", metavar="SPAN", type=last, help="of a folder: only the last 30s, 15min, 4h or 2d before the last record")
 
 
 def add_table(parser: argparse.ArgumentParser) -> None:
-    parser.add_argument("folder", metavar="FOLDER", help=FOLDER)
-    add_last(parser)
+    add_past(parser)
     parser.add_argument("--csv", action="store_true", help="as CSV, with times in UTC")
     parser.add_argument("--notes", action="store_true", help="a row for each note instead of each session; as CSV")
 
 
 def add_gantt(parser: argparse.ArgumentParser) -> None:
-    parser.add_argument("folder", metavar="FOLDER", help=FOLDER)
-    add_last(parser)
+    add_past(parser)
     parser.add_argument("--to", metavar="FILE", help="where the SVG is written; the standard output unless said")
 
 
-def add_report(parser: argparse.ArgumentParser) -> None:
-    parser.add_argument("folder", metavar="FOLDER", help=FOLDER)
-    add_last(parser)
-
-
-def of_past(name: str) -> Callable[[argparse.Namespace], int]:
-    def run(args: argparse.Namespace) -> int:
-        from . import past
-
-        return int(getattr(past, name)(args))
-
-    return run
+def later(module: str, name: str) -> Callable[[Any], Any]:
+    """What a module does, which is imported only then: `hold` begins sooner without the others."""
+    return lambda given: getattr(importlib.import_module(f".{module}", __package__), name)(given)
 
 
 # ---- the words
@@ -158,14 +138,14 @@ def run_help(args: argparse.Namespace) -> int:
 
 
 WORDS = (
-    Word("serve", "keeps the bay: the one process that all others ask", add_serve, run_serve),
+    Word("serve", "keeps the bay: the one process that all others ask", later("serve", "add_serve"), later("serve", "run_serve")),
     Word("hold", "waits for instruments, runs a command while it holds them, and lets go", add_hold, run_hold),
     Word("status", "who holds what since when, and who waits for whom", add_status, run_status),
     Word("top", "the same, again whenever it has changed", add_status, run_top),
     Word("release", "ends the session of a station whose client doesn't come back", add_release, run_release),
-    Word("report", "what each station and instrument did, from a state folder", add_report, of_past("run_report")),
-    Word("gantt", "a picture of what was: who held what, and who waited, from a state folder", add_gantt, of_past("run_gantt")),
-    Word("table", "each session of a state folder, with times and notes", add_table, of_past("run_table")),
+    Word("report", "what each station and instrument did, from a state folder", add_past, later("past", "run_report")),
+    Word("gantt", "a picture of what was: who held what, and who waited, from a state folder", add_gantt, later("past", "run_gantt")),
+    Word("table", "each session of a state folder, with times and notes", add_table, later("past", "run_table")),
     Word("bay", "bay check: is the bay's file sound", add_bay, run_bay),
     Word("manual", "writes the man page and the completions", add_help, run_help),
 )
@@ -186,7 +166,7 @@ def parser_of(table: Sequence[Word]) -> argparse.ArgumentParser:
 def main(given: Optional[Sequence[str]] = None) -> int:
     line = list(sys.argv[1:] if given is None else given)
     at = line.index("--") if "--" in line else len(line)
-    args = parser_of(WORDS).parse_args(line[:at])
+    args = parser_of([it for it in WORDS if line[:1] == [it.name]] or WORDS).parse_args(line[:at])
     if "command" in args:
         args.command = line[at + 1 :]
     elif at < len(line):
@@ -199,12 +179,15 @@ def main(given: Optional[Sequence[str]] = None) -> int:
     except BrokenPipeError:
         os.dup2(os.open(os.devnull, os.O_WRONLY), 1)
         return 0
-    except (labrun.LabrunError, OSError, ValueError) as fault:
+    except Exception as fault:
+        status = next((ENDS[kind.__name__] for kind in type(fault).__mro__ if kind.__name__ in ENDS), None)
+        if status is None:
+            raise
         say(told(fault))
-        return next((status for kind, status in ENDS if isinstance(fault, kind)), 1)
+        return status
 
 
-def told(fault: BaseException) -> str:
+def told(fault: Exception) -> str:
     if isinstance(fault, OSError) and fault.filename is not None:
         return f"{plain(fault.filename)}: {fault.strerror}"
     return f"\n{PROGRAM}: ".join(plain(line) for line in str(fault).split("\n"))

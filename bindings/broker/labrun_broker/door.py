@@ -3,17 +3,21 @@
 from __future__ import annotations
 
 import asyncio
+import collections
 import os
+import select
 import socket
 import ssl
 import stat
+import sys
+import time
 from dataclasses import dataclass
 from typing import Any, Optional
 
 import grpc
 
 from .bay import BadAddress, is_here
-from .sockets import check_group, clear
+from .sockets import check_group, clear, family_of, parsed
 
 
 @dataclass(frozen=True)
@@ -60,40 +64,50 @@ class Door:
 
 
 def is_loopback(address: str) -> bool:
-    host, colon, port = address.rpartition(":")
-    if not colon or not port.isdigit():
-        raise BadAddress(f"{address}: unix:PATH or HOST:PORT is wanted")
-    return is_here(host.strip("[]"))
+    at = parsed(address)
+    return not isinstance(at, str) and is_here(at[0])
+
+
+class Seldom:
+    """What may be told, of each kind once in so many seconds: a client can't fill the log."""
+
+    def __init__(self, pause: float) -> None:
+        self._pause, self._next, self._passed = pause, dict[str, float](), collections.Counter[str]()
+
+    def text(self, kind: str, text: str) -> Optional[str]:
+        """The text, and how many of its kind weren't told before it; None: it isn't told."""
+        now = time.monotonic()
+        if now < self._next.get(kind, 0.0):
+            self._passed[kind] += 1
+            return None
+        self._next[kind] = now + self._pause
+        return f"{text} (and {passed} before it)" if (passed := self._passed.pop(kind, 0)) else text
+
+
+def is_read() -> bool:
+    """Whether a line on standard error is taken. Into a pipe that is full, because nobody reads it, the broker would wait to write."""
+    return bool(select.select((), (sys.stderr,), (), 0)[1])
 
 
 class Complaints:
-    """What nobody catches is told, with its traceback, once in a while: a client can't fill the log. That a stream was over before gRPC
-    could say how it ended is no fault."""
-
-    PAUSE = 10.0
+    """What nobody catches is told, with its traceback, once in a while. That a stream was over before gRPC could say how it ended is no
+    fault."""
 
     def __init__(self) -> None:
-        self.next, self.passed = 0.0, 0
+        self._seldom = Seldom(10.0)
 
     def __call__(self, loop: asyncio.AbstractEventLoop, context: dict[str, Any]) -> None:
-        if type(context.get("exception")).__name__ == "ExecuteBatchError":
-            return
-        if loop.time() < self.next:
-            self.passed += 1
-            return
-        if self.passed:
-            context = {**context, "message": f"{context.get('message')} (and {self.passed} before it)"}
-        self.next, self.passed = loop.time() + self.PAUSE, 0
-        loop.default_exception_handler(context)
+        if type(context.get("exception")).__name__ != "ExecuteBatchError":
+            if (text := self._seldom.text("", str(context.get("message")))) is not None and is_read():
+                loop.default_exception_handler({**context, "message": text})
 
 
 def check_free(address: str) -> None:
     """Nobody listens there. A socket that a broker left which is gone is taken away."""
-    if address.startswith("unix:"):
-        return clear(address.removeprefix("unix:"))
-    host, _, port = address.rpartition(":")
+    at = parsed(address)
+    if isinstance(at, str):
+        return clear(at)
     try:
-        kind = socket.AF_INET6 if ":" in host else socket.AF_INET
-        socket.create_server((host.strip("[]"), int(port)), family=kind).close()
-    except (OSError, OverflowError) as fault:
+        socket.create_server(at, family=family_of(at[0])).close()
+    except OSError as fault:
         raise BadAddress(f"{address}: it can't listen there: {getattr(fault, 'strerror', None) or fault}") from None

@@ -2,6 +2,9 @@
 
 from __future__ import annotations
 
+import grp
+import os
+import re
 from typing import Any, Callable
 
 import grpc
@@ -70,11 +73,34 @@ def raised(fault: Any) -> Exception:
     return KINDS.get(fault.kind, BrokerError)(fault.text)
 
 
+# what gRPC says where it can't connect, and what that means
+HINTS = {
+    "Socket closed": "it closed the connection (a broker with TLS wants --certificate FILE)",
+    "wrong version number": "it has no TLS: come without --certificate",
+    "not in peer certificate": "its certificate is for another name: call it by that",
+    "certificate verify failed": "it has another certificate than --certificate says",
+    "Permission denied": "permission denied",
+}
+
+
+def plainly(address: str, text: str) -> str:
+    """Why nobody can connect there."""
+    text = re.sub(r"^failed to connect to all addresses; last error: \w+: (?:ipv[46]|unix):\S+: ", "", text)
+    text = next((hint for told, hint in HINTS.items() if told in text), text)
+    if text == "permission denied" and address.startswith("unix:"):
+        try:
+            group = grp.getgrgid(os.stat(address.removeprefix("unix:")).st_gid).gr_name
+        except (OSError, KeyError):
+            return text
+        return f"{text} (who may use it is in the group {group})"
+    return text
+
+
 def why_lost(address: str, code: Any, text: str) -> Exception:
     if code is grpc.StatusCode.DEADLINE_EXCEEDED:
         return Unreachable(f"the broker at {address} doesn't answer")
     if code in (grpc.StatusCode.UNAVAILABLE, grpc.StatusCode.UNKNOWN, grpc.StatusCode.CANCELLED):
-        return Unreachable(f"the broker at {address} can't be reached: {text}")
+        return Unreachable(f"the broker at {address} can't be reached: {plainly(address, text)}")
     if code in (grpc.StatusCode.UNAUTHENTICATED, grpc.StatusCode.RESOURCE_EXHAUSTED):
         return Unreachable(f"the broker at {address} doesn't let this client in: {text}")
     return NotHeld(text) if code is grpc.StatusCode.FAILED_PRECONDITION else BrokerError(text)

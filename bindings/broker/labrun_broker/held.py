@@ -12,7 +12,7 @@ import grpc
 import labrun
 
 from . import broker_pb2 as pb
-from .errors import BadWish, NotHeld, TakenAway, raised, why_lost
+from .errors import BadWish, NotHeld, TakenAway, Unreachable, raised, why_lost
 from .stream import AGAIN, Lost, Stream
 from .work import clock
 
@@ -36,16 +36,20 @@ class Held:
         self.instruments: tuple[str, ...] = tuple(wish.instruments)
         self.station, self.number, self.state = "", 0, "new"
         self._wish, self._waits = wish, waits
+        # by which another client has asked for it; mostly nothing
+        self._ticket = ""
         self._stream: Optional[Stream] = None
         self._taken: Optional[Exception] = None
         # for how long it is held after a word that the broker answered, and so until when, by `clock`; and who sends such words. Nobody else holds
-        # its instruments before that, whatever becomes of the connection (LEASE in keeping.py)
+        # its instruments before that, whatever becomes of the connection (leases.py)
         self._lease: Optional[float] = None
         self._until = math.inf
         self._beats: Optional[asyncio.Task[None]] = None
         # what its owner asks now, and since when; and who looks for another stream
         self._asked: dict[str, Any] = {}
         self._asked_at = 0.0
+        # since when the broker can't be reached, while it waits
+        self._lost_at: Optional[float] = None
         self._returns: Optional[asyncio.Task[None]] = None
         # it is called, on another thread, if the session was taken away while its owner works
         self.on_taken: Optional[Callable[[Exception], None]] = None
@@ -123,12 +127,13 @@ class Held:
         if self.state in ("waiting", "held"):
             raise labrun.LabrunError(f"the session is {self.state} already")
         loop = asyncio.get_running_loop()
-        self._wish.ticket, self._taken, self.state = secrets.token_urlsafe(), None, "waiting"
+        self._wish.ticket, self._ticket = self._ticket or secrets.token_urlsafe(), ""
+        self._taken, self.state = None, "waiting"
         until = None if self.timeout is None else loop.time() + self.timeout
-        lost_at: Optional[float] = None
+        self._lost_at = None
         try:
-            while not await self._comes_to_hold(loop, until, lost_at):
-                lost_at = lost_at or loop.time()
+            while not await self._comes_to_hold(loop, until):
+                self._lost_at = self._lost_at or loop.time()
         except BaseException:
             self.state = "withdrawn"
             raise
@@ -141,7 +146,7 @@ class Held:
         if self._stream is not None and self._stream.is_lost:
             self._is_cut()
 
-    async def _comes_to_hold(self, loop: asyncio.AbstractEventLoop, until: Optional[float], lost_at: Optional[float]) -> bool:
+    async def _comes_to_hold(self, loop: asyncio.AbstractEventLoop, until: Optional[float]) -> bool:
         """Whether it holds; if not, the stream ended, and it is worth another try."""
         lab = self.lab
         is_new = not lab._idle
@@ -150,7 +155,7 @@ class Held:
         try:
             if is_new:
                 await stream.opens()
-                lab._was_there = True
+                lab._was_there, self._lost_at = True, None
             if until is not None:
                 self._wish.timeout = max(0.0, until - loop.time())
             sent = clock()
@@ -161,7 +166,7 @@ class Held:
         except Lost as lost:
             self._raises_taken()
             # (one that was idle may be of a broker that is gone)
-            is_over = lost_at is not None and loop.time() > lost_at + GRACE or until is not None and loop.time() > until
+            is_over = self._lost_at is not None and loop.time() > self._lost_at + GRACE or until is not None and loop.time() > until
             if is_new and (lost.code not in AGAIN or not lab._was_there or is_over):
                 raise why_lost(lab.address, lost.code, str(lost)) from None
             if is_new:
@@ -228,6 +233,19 @@ class Held:
         """The stream ended. A session that is held comes back on another one, while its owner works."""
         if self.state == "held" and self._returns is None and not self.lab._has_left:
             self._returns = asyncio.create_task(self._comes_back(asyncio.get_running_loop()))
+
+    async def _resumes(self, waits: bool) -> None:
+        """It held before, by another client. With `waits` it does so here, too, when this returns."""
+        self.state = "held"
+        self.lab._held.add(self)
+        self._is_cut()
+        if waits and (returns := self._returns) is not None:
+            await asyncio.wait({returns}, timeout=GRACE)
+            self._raises_taken()
+            if not returns.done():
+                raise Unreachable(f"the broker at {self.lab.address} doesn't answer any more")
+            if self._lease is not None:
+                self._beats = asyncio.create_task(self._stays_sure(self._lease))
 
     async def _comes_back(self, loop: asyncio.AbstractEventLoop) -> None:
         """The session goes on to hold, on another stream, or is over. It is tried while the broker keeps the session, or for so long as an
@@ -296,6 +314,8 @@ class Held:
             try:
                 kind, told = await stream.asks(**what)
             except Lost as lost:
+                # (it may be lost because the session was taken away just now)
+                self._raises_taken()
                 self._is_cut()
                 if self._returns is None:
                     raise NotHeld("the lab is closed") from None

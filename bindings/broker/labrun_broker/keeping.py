@@ -8,40 +8,26 @@ from __future__ import annotations
 import asyncio
 import math
 import time
-from typing import Any, AsyncIterator, Callable, Optional, Protocol
+from typing import Any, AsyncIterator, Callable, Optional
 
 import labrun
 from labrun import LabrunError, NotHeld
 from labrun.machine import GRACE, HOLDS, LAPSED, NEVER, NOT_WRITTEN, WAS_STOPPED, Machine, Refusal, Standing, Told
 
-from . import mending, wishes
+from . import leases, mending, wishes
 from .bay import Bay
+from .errors import BadWish
+from .errors import TimeoutError as TimedOut
 from .folder import Folder, State
 from .journals import Left, notes_of
 from .opening import Opened
 from .records import News, Record
 from .shell import Shell
-from .standing import Session, Standings, free_label
-from .wishes import Ended, Ends, TimedOut, Wish
+from .standing import Owner, Session, Standings, free_label
+from .wishes import Ended, Ends, Wish
 
-# who comes back for a session again within so many seconds waits until they are over
-BACK = 1.0
-
-# Where `gone = "release"`, two clients are never told that they hold one instrument:
-#   - A client is gone once its stream has ended, or it has been silent for SILENT of the grace, if it says again and again that it is there
-#     (by a ping). From then on the bay keeps its session for the grace.
-#   - The client holds for LEASE of the grace, from when it *sent* the last word that the broker answered, which is before the broker heard
-#     it. Its program is told at that moment, whatever is known of the connection; the rest of the grace is the margin, in which it leaves
-#     the instruments.
-#   - The grace is never shorter than a client was told whose session holds: it stands beside the journal, for a broker that begins again.
-LEASE, SILENT = 0.75, 1 / 3
-
-
-class Owner(Protocol):
-    """Whoever acts for a session."""
-
-    def taken(self, why: str) -> None:
-        """The session was ended for its owner, or is another's now."""
+UNTOLD = "the session was taken away before its client was told that it holds"
+ANOTHER = "another connection came for the session"
 
 
 class Keeping:
@@ -81,25 +67,33 @@ class Keeping:
 
     def _takes_up(self, it: Opened) -> None:
         """What was held is held, and its clients are awaited."""
+        mending.names_them(it.left, it.recent)
         for one in it.left.values():
             if one.how == "let_go" or one.what == "taken":
-                self._ends.add(one.owner, "let_go" if one.how == "let_go" else "taken", f"by {one.taken or 'the broker'}")
+                self._ends.add(one.owner, "" if one.how == "let_go" else f"by {one.taken or 'the broker'}")
+        rows = {row.number: row for row in self.machine.standings() if row.what == HOLDS}
+        names = {number: self.places.station(row.kind) or it.left[number].station for number, row in rows.items()}
+        # (those whose names are known come first, so that no other gets one of them)
+        # (where a grace ends they are gone from now on: it begins anew)
+        gone = mending.gone_since(it.recent) if math.isinf(self.grace) else {}
+        for number in sorted(rows, key=lambda number: (not names[number], number)):
+            of = it.left[number]
+            of.station = names[number] or free_label(self.by_number.values())
+            self._takes_up_one(rows[number], of, of.station, gone.get(number))
         for record in mending.missing(it.left, it.recent, self.places):
             self._news.add(record)
         self._record("opened", text="as it was left" if it.left else "")
-        rows, named = {row.number: row for row in self.machine.standings() if row.what == HOLDS}, mending.labels(it.recent)
-        names = {number: self.places.station(row.kind) or it.left[number].station or named.get(number, "") for number, row in rows.items()}
-        # (those whose names are known come first, so that no other gets one of them)
-        for number in sorted(rows, key=lambda number: (not names[number], number)):
-            self._takes_up_one(rows[number], it.left[number], names[number] or free_label(self.by_number.values()))
+        for number, session in self.by_number.items():
+            if number not in gone:
+                self._record("gone", session)
 
-    def _takes_up_one(self, row: Standing, it: Left, name: str) -> None:
+    def _takes_up_one(self, row: Standing, it: Left, name: str, gone: Optional[float]) -> None:
         told: asyncio.Future[None] = asyncio.get_running_loop().create_future()
         told.set_result(None)
-        session = Session(row.number, name, row.kind, row.owner, told, state="gone", gone_at=self.now(), by=it.by or None)
+        session = Session(row.number, name, row.kind, row.owner, told, state="gone", since=row.since, by=it.by or None)
+        session.gone_at = self.now() - (0 if gone is None else max(0, wishes.milliseconds(time.time() - gone)))
         session.instruments, session.note = self.places.names(row.needs), it.notes[-1] if it.notes else None
         self.by_number[row.number] = self._by_key[row.owner] = session
-        self._record("gone", session)
 
     async def close(self) -> None:
         """Nobody comes to hold any more; what is held stays held, in the journal."""
@@ -107,7 +101,7 @@ class Keeping:
             return
         self._is_closed = True
         for session in self.by_number.values():
-            self._stops_looking(session)
+            session.stops_looking()
         self._shell.machine.stop(self.now())
         self._shell.pump()
         self._record("closed")
@@ -154,13 +148,13 @@ class Keeping:
                 self._leaves(session, fault)
             raise
         if session.owner is not owner:
-            raise Ended("taken", "the session was taken away before its client was told that it holds")
+            raise Ended("TakenAway", UNTOLD)
         return session
 
     async def _session_of(self, key: tuple[int, int]) -> Optional[Session]:
         """The session of this ticket. Who came back for it just now waits here."""
         while (session := self._by_key.get(key)) is not None:
-            span = session.back_at + min(BACK, self.grace / 8) - asyncio.get_running_loop().time()
+            span = session.back_at + leases.pause_of(self.grace) - asyncio.get_running_loop().time()
             if span <= 0:
                 return session
             await asyncio.sleep(span)
@@ -172,7 +166,7 @@ class Keeping:
         if before is not None:
             # (its stream has ended, and that isn't seen here yet)
             before.owner = None
-            self._leaves(before, Ended("taken", "another connection came for the session"))
+            self._leaves(before, Ended("TakenAway", ANOTHER))
         number, now = self._next, self.now()
         self._next += 1
         kind, sets = self.places.kind(wish.station), tuple(self.places.bits(choice) for choice in wish.choices)
@@ -182,7 +176,7 @@ class Keeping:
         except Refusal as it:
             raise LabrunError(f"the bay doesn't take it: {it}") from None
         name, told = wish.station or free_label(self.by_number.values()), asyncio.get_running_loop().create_future()
-        session = Session(number, name, kind, key, told, wish, sets)
+        session = Session(number, name, kind, key, told, wish, sets, since=now)
         session.owner, session.by, session.instruments = owner, wish.by or None, wish.names
         self.by_number[number] = self._by_key[key] = session
         self._record("asked", session)
@@ -195,8 +189,8 @@ class Keeping:
         if session is None:
             return
         if told.what == HOLDS:
-            return self._holds(session, told.needs)
-        if told.what == LAPSED:
+            self._holds(session, told.needs)
+        elif told.what == LAPSED:
             why = f"session {session.number} of {session.name} was given up when its time was over: {Standings(self).why(session)}"
             self._fails(session, "gave_up", TimedOut(why))
         elif told.what == NOT_WRITTEN:
@@ -207,11 +201,12 @@ class Keeping:
             self._is_taken(session, told.what)
 
     def _holds(self, session: Session, needs: int) -> None:
-        session.instruments = next(tuple(dict.fromkeys(it)) for it, bits in zip(session.wish.choices, session.sets) if bits == needs)
+        session.instruments = session.chosen(needs)
         session.state = "holding"
         self.sessions += 1
         self._notes(session, "by", f"{session.name} {session.by or ''}")
-        self._record("held", session, ticket=wishes.digits_of(session.key) if session.wish.ticket else "")
+        self._record("held", session, ticket=wishes.digits_of(session.key) if session.wish.ticket else "", after=self._span(session))
+        session.since = self.now()
         if not session.told.done():
             session.told.set_result(None)
         if session.owner is not None:
@@ -225,9 +220,11 @@ class Keeping:
     def _is_taken(self, session: Session, how: int) -> None:
         what = f"by {session.taken_by or 'the broker'}" + (f", because its client was gone for {self.grace:g} s" if how == GRACE else "")
         owner, held = session.owner, ", ".join(session.instruments)
-        self._over(session, "taken", what, ("taken", what))
+        self.says(f"session {session.number} of {session.name} was taken away {what}: {held}")
+        self._over(session, "taken", what)
+        self._ends.add(session.key, what)
         if not session.told.done():
-            session.told.set_exception(Ended("taken", "the session was taken away before its client was told that it holds"))
+            session.told.set_exception(Ended("TakenAway", UNTOLD))
         elif owner is not None:
             owner.taken(f"{session.name}: the session was taken away {what}" + ("" if how == GRACE else f": {held}"))
 
@@ -242,15 +239,14 @@ class Keeping:
             session.told.set_exception(fault)
         self._shell.pump()
 
-    def _over(self, session: Session, what: str, text: str, end: tuple[str, str] = ("", "")) -> None:
-        self._stops_looking(session)
+    def _over(self, session: Session, what: str, text: str) -> None:
+        session.stops_looking()
         session.state = "over"
         self.by_number.pop(session.number, None)
         if self._by_key.get(session.key) is session:
             del self._by_key[session.key]
-        self._ends.add(session.key, *end)
         self.idle_since[session.name] = self.now()
-        self._record(what, session, text=text)
+        self._record(what, session, text=text, after=self._span(session))
         session.owner = session.gone_at = None
 
     def _is_of(self, session: Session, owner: Owner) -> None:
@@ -266,7 +262,8 @@ class Keeping:
             self._shell.machine.let_go(session.number, self.now())
         except Refusal:
             raise NotHeld("the session is over") from None
-        self._over(session, "let_go" if failed is None else "failed", failed or "", ("let_go", ""))
+        self._over(session, "let_go" if failed is None else "failed", failed or "")
+        self._ends.add(session.key)
         self._shell.pump()
         self._news.write()
 
@@ -291,13 +288,13 @@ class Keeping:
     async def release(self, station: str, by: str, number: int = 0) -> tuple[str, ...]:
         """Ends the session that a station holds, for its owner; its instruments. With its number, no other session of the station."""
         if station not in self.bay.jobs and all(it.name != station for it in self.by_number.values()):
-            raise wishes.BadWish(f"{station} is no station of this bay: there are {', '.join(self.bay.jobs)}")
-        session = next((it for it, _, _ in Standings(self).holders if it.name == station), None)
+            raise BadWish(f"{station} is no station of this bay: there are {', '.join(self.bay.jobs)}")
+        session, needs = next(((it, bits) for it, bits, _ in Standings(self).holders if it.name == station), (None, 0))
         if session is None:
             raise NotHeld(f"{station} holds nothing")
         if number and session.number != number:
             raise NotHeld(f"{station} is in session {session.number}, and not in {number} any more")
-        instruments, session.taken_by = session.instruments, by
+        instruments, session.taken_by = session.chosen(needs), by
         if session.holds:
             self._notes(session, "taken", by)
         self._shell.machine.take_away(session.number, self.now())
@@ -310,8 +307,7 @@ class Keeping:
 
     @property
     def lease(self) -> Optional[float]:
-        """For how many seconds a client holds from a word on that was answered; None: without an end."""
-        return None if math.isinf(self.grace) else LEASE * self.grace
+        return leases.lease_of(self.grace)
 
     def heard(self, session: Session, owner: Owner, says_so: bool = False) -> bool:
         """A word of a client came now. Whether the session is its own, and holds. `says_so`: that it is there, as it will again and
@@ -331,8 +327,10 @@ class Keeping:
             self._shell.machine.back(session.number, session.key, self.now())
         except Refusal:
             return False  # (its time is over, and that is told just now)
-        session.state, session.gone_at = "holding", None
-        self._record("back", session)
+        # (another connection may come before the broker has seen that the first one ended)
+        was_gone, session.state, session.gone_at = session.state == "gone", "holding", None
+        if was_gone:
+            self._record("back", session)
         self._shell.pump()
         return session.holds
 
@@ -341,7 +339,7 @@ class Keeping:
         if session.owner is not owner or not session.holds or self._is_closed:
             return
         session.owner = None
-        self._stops_looking(session)
+        session.stops_looking()
         self._is_gone(session)
 
     def _is_gone(self, session: Session) -> None:
@@ -357,44 +355,47 @@ class Keeping:
         session.timer = None
         if session.heard_at is None or math.isinf(self.grace) or session.state != "holding":
             return
-        span = session.heard_at / 1000 + SILENT * self.grace - self.now() / 1000
-        if span > 0:
+        if (span := leases.patience_of(self.grace, session.heard_at, self.now())) > 0:
             session.timer = asyncio.get_running_loop().call_later(span, self._looks_at, session)
         else:
             self._is_gone(session)
-
-    def _stops_looking(self, session: Session) -> None:
-        if session.timer is not None:
-            session.timer.cancel()
-            session.timer = None
 
     def _comes_back(self, session: Session, wish: Wish, owner: Owner) -> Session:
         if not self._is_back(session):
             raise self._ends.why(session.key)
         if session.owner is not None and session.owner is not owner:
-            session.owner.taken("another connection came for the session")
-        self._stops_looking(session)
+            session.owner.taken(ANOTHER)
+        session.stops_looking()
         session.owner, session.heard_at, session.back_at = owner, None, asyncio.get_running_loop().time()
         self.heard(session, owner, wish.pings)
         return session
 
     # ---- what is told
 
+    def _span(self, session: Session) -> float:
+        """For how many seconds it has waited, or held, by a clock that doesn't jump."""
+        return (self.now() - session.since) / 1000
+
     def _record(self, what: str, session: Optional[Session] = None, text: str = "", **more: Any) -> None:
-        record: Record = {
-            "t": round(time.time(), 6),
-            "what": what,
-            "station": None if session is None else session.name,
-            "session": None if session is None else session.number,
-            "instruments": [] if session is None else list(session.instruments),
-            "by": None if session is None else session.by,
-            "text": text,
-        }
-        self._news.add(record, **more)
+        name, number, its, by = (None, None, (), None) if session is None else (session.name, session.number, session.instruments, session.by)
+        about = {"station": name, "session": number, "instruments": list(its), "by": by, "text": text}
+        self._news.add({"t": round(time.time(), 6), "what": what, **about}, **more)
 
     def changes(self) -> AsyncIterator[None]:
-        """Wakes whenever something has changed; once for all that changed meanwhile."""
         return self._news.changes()
 
     def status(self) -> dict[str, Any]:
         return Standings(self).status()
+
+    def disk_fault(self) -> str:
+        """What is wrong with the disk; mostly nothing."""
+        return self._shell.is_wrong()
+
+    @property
+    def write_failures(self) -> int:
+        return self._shell.failures
+
+    @property
+    def notice(self) -> str:
+        """What whoever looks has to know: that the machine isn't the proved one."""
+        return str(getattr(self.machine, "notice", ""))

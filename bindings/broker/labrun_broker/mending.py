@@ -13,9 +13,22 @@ AS_IT_IS = "as the journal has it"
 MANY = 1000  # records
 
 
-def labels(records: Iterable[Record]) -> dict[int, str]:
-    """Which station each session was of, by the records."""
-    return {it["session"]: it["station"] for it in records if it.get("session") and it.get("station")}
+def names_them(left: dict[int, Left], records: Iterable[Record]) -> None:
+    """Which station each session was of, and who asked, by the records: of one whose client wasn't told yet the journal doesn't say so."""
+    for it in records:
+        if (of := left.get(it.get("session") or 0)) is not None:
+            of.station, of.by = of.station or it.get("station") or "", of.by or it.get("by") or ""
+
+
+def gone_since(records: Iterable[Record]) -> dict[int, float]:
+    """Since when the client of each session is gone, of those whose client was when the last broker ended."""
+    found: dict[int, float] = {}
+    for it in records:
+        if it["what"] == "gone" and it.get("session"):
+            found.setdefault(it["session"], it["t"])
+        elif it["what"] == "back":
+            found.pop(it.get("session") or 0, None)
+    return found
 
 
 def missing(left: dict[int, Left], records: list[Record], places: Places) -> list[Record]:
@@ -23,11 +36,11 @@ def missing(left: dict[int, Left], records: list[Record], places: Places) -> lis
     held = {it["session"] for it in records if it["what"] == "held"}
     over = {it["session"] for it in records if it["what"] in ENDS}
     noted = {(it["session"], it.get("text")) for it in records if it["what"] == "note"}
-    named = labels(records)
     found: list[Record] = []
     for it in _since_the_first(list(left.values()), held, len(records)):
-        about = _About(it, places, named.get(it.number, ""))
-        if it.number not in held:
+        about = _About(it, places)
+        # (one that is over, and never held by the records, gave up before its client was told)
+        if it.number not in held and not (it.how and it.number in over):
             found.append(about.record("held", it.since / 1000))
         found += [about.record("note", it.since / 1000, text) for text in it.notes if (it.number, text) not in noted]
         if it.how and it.number not in over:
@@ -46,8 +59,8 @@ def _since_the_first(left: list[Left], held: set[Optional[int]], count: int) -> 
 class _About:
     """What all records of a session have."""
 
-    def __init__(self, it: Left, places: Places, label: str) -> None:
-        self._station = places.station(it.kind) or it.station or label or "a guest"
+    def __init__(self, it: Left, places: Places) -> None:
+        self._station = places.station(it.kind) or it.station or "a guest"
         self._it, self._instruments = it, list(places.names(it.needs))
 
     def record(self, what: str, t: float, text: Optional[str] = None) -> Record:

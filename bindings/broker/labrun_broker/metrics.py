@@ -9,13 +9,17 @@ from .sessions import Past, Record, batches, first
 
 try:
     from prometheus_client import CollectorRegistry, Counter, Histogram, generate_latest
-    from prometheus_client.core import GaugeMetricFamily
+    from prometheus_client.core import CounterMetricFamily, GaugeMetricFamily, Metric
     from prometheus_client.exposition import CONTENT_TYPE_LATEST
     from prometheus_client.registry import Collector
 except ImportError:
     raise Lacking("the numbers need prometheus_client (Debian: python3-prometheus-client)") from None
 
 BUCKETS = (0.001, 0.005, 0.02, 0.1, 0.5, 2, 10, 60, 300, 1800, 7200)
+COUNTS = {
+    "refusals": "Wishes that were refused: a wrong name, an instrument that the client may not use, a ticket that no session has",
+    "write_failures": "Writes to the journal that failed: the disk is full, or broken",
+}
 STATES = {"holding": "Stations that hold instruments", "waiting": "Stations that wait", "gone": "Stations that hold, but whose client is gone"}
 
 
@@ -25,7 +29,9 @@ class Now(Collector):
     def __init__(self, keeping: Any) -> None:
         self._keeping = keeping
 
-    def collect(self) -> Iterator[GaugeMetricFamily]:
+    def collect(self) -> Iterator[Metric]:
+        for name, text in COUNTS.items():
+            yield CounterMetricFamily(f"labrun_{name}", text, value=getattr(self._keeping, name))
         states = [it["state"] for it in self._keeping.status()["stations"]]
         for state, text in STATES.items():
             yield GaugeMetricFamily(f"labrun_stations_{state}", text, value=states.count(state))
@@ -37,8 +43,6 @@ class Metrics:
         self._registry = of = CollectorRegistry()
         self._sessions = Counter("labrun_sessions", "Sessions that are over, by how they ended", ["station", "end"], registry=of)
         self._waits = Histogram("labrun_wait_seconds", "How long sessions waited until they held", ["instrument"], buckets=BUCKETS, registry=of)
-        self._refusals = Counter("labrun_refusals", "Wishes that were refused: a wrong name, an instrument that the client may not use, a ticket that no session has", registry=of)
-        self._refused = 0
         of.register(Now(keeping))
 
     def add_to(self, app: web.Application) -> None:
@@ -65,9 +69,6 @@ class Metrics:
         self._past.ended.clear()
 
     async def _answer(self, _: web.Request) -> web.Response:
-        refused = int(getattr(self._keeping, "refusals", 0))
-        self._refusals.inc(refused - self._refused)
-        self._refused = refused
         return web.Response(body=generate_latest(self._registry), headers={**HEADERS, "Content-Type": CONTENT_TYPE_LATEST})
 
 

@@ -21,7 +21,7 @@ from .sessions import Past, Record, Session, batches
 PACE = 0.25  # seconds between two messages to a browser, at least
 BEAT = 5.0  # and at most, so that it sees when the broker is gone
 HOURS = 12  # of the picture
-MOST_ENDED, MOST_RECORDS = 4000, 60
+MOST_ENDED, MOST_RECORDS, MOST_NOTES = 4000, 60, 4  # (one that notes each second drives nothing else out)
 
 
 class Watch:
@@ -31,6 +31,7 @@ class Watch:
         self._keeping, self._past = keeping, Past()
         self._ended: deque[tuple[int, Record]] = deque(maxlen=MOST_ENDED)
         self._records: deque[tuple[int, Record]] = deque(maxlen=MOST_RECORDS)
+        self._notes: deque[tuple[int, Record]] = deque(maxlen=MOST_NOTES)
         self._status: tuple[int, float, Record] = (-1, 0.0, {})
         self.number = 0
         self._changed = asyncio.Event()
@@ -52,7 +53,7 @@ class Watch:
 
     def _add(self, record: Record) -> None:
         self.number += 1
-        self._records.append((self.number, record))
+        (self._notes if record["what"] == "note" else self._records).append((self.number, record))
         over = self._past.take(record)
         if over is not None:
             self._ended.append((self.number, shown(over)))
@@ -70,14 +71,14 @@ class Watch:
         """What is new since a number: all, if it is 0."""
         oldest = time.time() - HOURS * 3600
         ended = [it for number, it in behind(self._ended, seen) if it["ended"] >= oldest]
-        records = [it for _, it in behind(self._records, seen)]
+        records = [it for _, it in sorted(behind(self._records, seen) + behind(self._notes, seen), key=lambda it: it[0])]
         return {"status": self._status_now(), "ended": ended, "records": records, "all": not seen}
 
     def _status_now(self) -> Record:
         number, at, status = self._status
         now = time.monotonic()
         if number != self.number or now > at + 1:
-            status = self._keeping.status()
+            status = {**self._keeping.status(), "disk": self._keeping.disk_fault(), "notice": self._keeping.notice}
             self._status = (self.number, now, status)
         return status
 
@@ -113,7 +114,8 @@ class Page:
 
     def __init__(self, keeping: Any) -> None:
         self._watch = Watch(keeping)
-        self._text = Path(__file__).with_name("page.html").read_text(encoding="utf-8")
+        text, style, script = (Path(__file__).with_name(f"page.{it}").read_text(encoding="utf-8") for it in ("html", "css", "js"))
+        self._text = text.replace("<style>", f"<style>\n{style}").replace("<script>", f"<script>\n{script}")
         self._headers = {**HEADERS, "Content-Security-Policy": policy(self._text)}
         self._listeners: set[asyncio.Task[Any]] = set()
 

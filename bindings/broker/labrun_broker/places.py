@@ -42,7 +42,7 @@ class Places:
         return sum(1 << self.instruments.index(name) for name in set(names))
 
     def names(self, bits: int) -> tuple[str, ...]:
-        return tuple(name for at, name in enumerate(self.instruments) if bits >> at & 1)
+        return tuple(self.instruments[at] for at in bits_of(bits))
 
     def kind(self, station: str) -> int:
         return 1 + self.stations.index(station) if station else GUESTS
@@ -53,6 +53,15 @@ class Places:
 
     def text(self) -> str:
         return json.dumps({"instruments": self.instruments, "stations": self.stations, "grace": self.grace}) + "\n"
+
+
+def bits_of(bits: int) -> list[int]:
+    """Which bits are set, counted from 0."""
+    found = []
+    while bits:
+        found.append((bits & -bits).bit_length() - 1)
+        bits &= bits - 1
+    return found
 
 
 def places_of(text: str) -> Places:

@@ -23,7 +23,7 @@ class Records:
         self.path, self._syncs = path, syncs
         self.file = os.open(path, os.O_RDWR | os.O_CREAT | os.O_APPEND | os.O_CLOEXEC, 0o640)
         self._waiting = bytearray()
-        self._is_synced = True
+        self._is_synced, self._is_due = True, False
         size = os.fstat(self.file).st_size
         if size and os.pread(self.file, 1, size - 1) != b"\n":
             # (the broker was killed in the midst of a line)
@@ -32,12 +32,14 @@ class Records:
     def add(self, record: Record) -> None:
         if len(self._waiting) > MOST_WAITING:
             return
-        if not self._waiting:
+        if not self._is_due:
+            self._is_due = True
             asyncio.get_running_loop().call_soon(self.write)
         self._waiting += LINE.encode(record).encode() + b"\n"
 
     def write(self) -> None:
         """What can't be written is kept, and tried again with the next."""
+        self._is_due = False
         with contextlib.suppress(OSError):
             while self._waiting:
                 del self._waiting[: os.write(self.file, self._waiting)]

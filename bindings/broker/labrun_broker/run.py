@@ -4,24 +4,31 @@ from __future__ import annotations
 
 import argparse
 import contextlib
-import ctypes
+import fnmatch
 import os
 import signal
 import subprocess
-from typing import Callable, Iterator, Optional
+import time
+from typing import TYPE_CHECKING, Callable, Iterator, Optional, Union
 
-import labrun
-
-from .client import user
-from .held import Held
+from .quick import DEFAULT, Odd, Quick, Wish, user
 from .texts import plain, seconds
 from .words import CANT_RUN, NOT_FOUND, PROGRAM, TAKEN, USAGE, add_client, lab_of, say
+
+if TYPE_CHECKING:
+    from .client import Lab
+    from .held import Held
+
+# what the command is to have, whatever is changed here
+ENVIRONMENT = dict(os.environ)
+Waits = Optional[Callable[[str], None]]
 
 
 def add_hold(parser: argparse.ArgumentParser) -> None:
     parser.add_argument("instruments", metavar="INSTRUMENT", nargs="+", help="what the command needs, all at once")
     parser.add_argument("--timeout", metavar="SECONDS", type=seconds, help="how long to wait for them at most")
-    parser.add_argument("--any", action="store_true", help="one of these is enough; with a comma, as in load-1,load-2, a choice has several")
+    parser.add_argument("-n", "--no-wait", dest="timeout", action="store_const", const=0.0, help="take what is free, as with --timeout 0")
+    parser.add_argument("--any", action="store_true", help="one of these is enough; with a comma, as in load-1,load-2, a choice has several; load-* is each such one")
     parser.add_argument("--station", metavar="NAME", default="", help="as which station; a guest without")
     parser.add_argument("--by", metavar="TEXT", help="who holds, for people to read; user, machine and command without")
     parser.add_argument("--quiet", action="store_true", help="don't say for whom it waits")
@@ -35,37 +42,101 @@ def run_hold(args: argparse.Namespace) -> int:
         say("hold: say what to run, behind `--`: labrun-broker hold scope -- ./measure.sh")
         return USAGE
     what = os.path.basename(args.command[0])
-    with lab_of(args, station=args.station, by=args.by or f"{user()} {os.getpid()} {what}"[:64]) as lab:
-        waits = None if args.quiet else lambda text: say(f"waits: {plain(text)}")
-        if args.any:
-            held = lab.hold(any_of=[it.split(",") for it in args.instruments], timeout=args.timeout, waits=waits)
-        else:
-            held = lab.hold(*args.instruments, timeout=args.timeout, waits=waits)
-        with passing_on() as signals, held:
-            status = runs(args.command, held, signals)
-            if held.held:
-                held.release(f"status {status}" if status else None)
+    its = choices(args) if args.any else tuple(args.instruments)
+    any_of = tuple(tuple(it.split(",")) for it in its) if args.any else ()
+    if not looks_around(args, any_of or (its,)):
+        return USAGE
+    wish = Wish(() if any_of else its, any_of, args.station, args.by or f"{user()} {os.getpid()} {what}"[:64], args.timeout)
+    waits: Waits = None if args.quiet else lambda text: say(f"waits: {plain(text)}")
+    with passing_on() as signals, contextlib.ExitStack() as ends:
+        held = holds(args, wish, waits, signals, ends)
+        status = runs(args.command, held, signals, address_of(args))
+        if held.held:
+            held.release(f"status {status}" if status else None)
     return status
 
 
-def runs(command: list[str], held: Held, signals: Signals) -> int:
+def choices(args: argparse.Namespace) -> tuple[str, ...]:
+    """What is enough, each once, with the names for the patterns."""
+    if not any(sign in it for it in args.instruments for sign in "*?["):
+        return tuple(args.instruments)
+    with lab_of(args) as lab:
+        names = [str(it["name"]) for it in lab.status()["instruments"]]
+    found = []
+    for it in args.instruments:
+        its = fnmatch.filter(names, it) or [it]
+        if its == [it] and it not in names and "," not in it:
+            raise ValueError(f"no instrument of this bay is like {it}: there are {', '.join(names)}")
+        found += its
+    return tuple(dict.fromkeys(found))
+
+
+def address_of(args: argparse.Namespace) -> str:
+    return str(args.broker or os.environ.get("LABRUN_BROKER") or DEFAULT)
+
+
+def around(address: str, held: Union[Quick, Held]) -> str:
+    """The holds around a command, for those within: a line for each, with its process, broker, station and instruments."""
+    its = "\t".join([str(os.getpid()), address, held.station, *held.instruments])
+    return "\n".join([*filter(None, [os.environ.get("LABRUN_AROUND")]), its])
+
+
+def looks_around(args: argparse.Namespace, wanted: tuple[tuple[str, ...], ...]) -> bool:
+    """No: it would wait for a hold that waits for it."""
+    for process, address, station, *its in (line.split("\t") for line in os.environ.get("LABRUN_AROUND", "").split("\n") if line.count("\t") > 2):
+        if address != address_of(args) or not os.path.exists(f"/proc/{process}"):
+            continue
+        if args.station == station or all(set(its) & set(one) for one in wanted):
+            say(f"within a hold of {' '.join(its)} by {station}, which waits for this command: it would wait for itself. Name all in one hold")
+            return False
+        if args.timeout is None:
+            say(f"within a hold of {' '.join(its)}: another that holds what this wants, and wants those, waits for ever with it. Name all in one hold")
+    return True
+
+
+def holds(args: argparse.Namespace, wish: Wish, waits: Waits, signals: Signals, ends: contextlib.ExitStack) -> Union[Quick, Held]:
+    """A session that holds, until the end of `ends`."""
+
+    def connects(was_there: bool) -> Lab:
+        lab = lab_of(args, station=wish.station, by=wish.by)
+        lab._was_there = was_there
+        return lab
+
+    began, was_there, ticket = time.monotonic(), False, ""
+    address = address_of(args)
+    if address.startswith("unix:") and not address.startswith("unix://"):
+        quick = Quick(address.removeprefix("unix:"), wish, waits, connects, signals.begins)
+        try:
+            return ends.enter_context(quick)
+        except Odd:
+            was_there, ticket = quick.wire.was_there, quick.ticket
+    lab = ends.enter_context(connects(was_there))
+    left = wish.timeout and max(0.0, wish.timeout + began - time.monotonic())
+    held = lab.hold(*wish.instruments, any_of=wish.any_of, timeout=left, waits=waits)
+    # (it may hold by now, and the broker's word be lost)
+    held._ticket = ticket
+    return ends.enter_context(held)
+
+
+def runs(command: list[str], held: Union[Quick, Held], signals: Signals, address: str = "") -> int:
     """Runs a command, and gives its status. A session that is taken away ends it."""
-    environment = {**os.environ, "LABRUN_HELD": " ".join(held.instruments), "LABRUN_STATION": held.station}
-    taken: list[Exception] = []
+    its = {"LABRUN_HELD": " ".join(held.instruments), "LABRUN_STATION": held.station}
+    environment = {**ENVIRONMENT, **its, "LABRUN_AROUND": around(address, held)}
+    taken: list[object] = []
     try:
         process = signals.starts(command, environment, held.is_released_if_gone)
     except OSError as fault:
         say(f"{command[0]}: {fault.strerror}")
         return NOT_FOUND if isinstance(fault, FileNotFoundError) else CANT_RUN
 
-    def ends(fault: Exception) -> None:
+    def ends(fault: object) -> None:
         taken.append(fault)
         say(f"{plain(fault)}; the command is ended")
         process.terminate()
 
     held.on_taken = ends
     if not held.held and not taken:
-        ends(labrun.NotHeld("the session is over"))
+        ends("the session is over")
     status = process.wait()
     return TAKEN if taken else status if status >= 0 else 128 - status
 
@@ -75,6 +146,8 @@ PR_SET_PDEATHSIG = 1
 
 def ends_with(parent: int) -> Callable[[], None]:
     """What a child does before it becomes the command: it asks for SIGTERM once its parent is dead, however that died."""
+    import ctypes
+
     prctl = ctypes.CDLL(None).prctl
 
     def asks() -> None:
@@ -92,6 +165,10 @@ class Signals:
         self.process: Optional[subprocess.Popen[bytes]] = None
         self.is_starting = False
         self.came: list[int] = []
+
+    def begins(self) -> None:
+        """What comes from now on is for the command."""
+        self.is_starting = True
 
     def starts(self, command: list[str], environment: dict[str, str], ends_with_this: bool = False) -> subprocess.Popen[bytes]:
         self.is_starting = True

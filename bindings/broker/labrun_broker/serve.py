@@ -13,7 +13,7 @@ import sys
 from typing import TYPE_CHECKING, Any
 
 from .bay import read_bay
-from .client import DEFAULT
+from .quick import DEFAULT
 from .texts import plain, seconds
 from .words import USAGE, say
 
@@ -21,6 +21,7 @@ if TYPE_CHECKING:
     from .keeping import Keeping
 
 LEAST_GRACE = 1.0
+MOST_TOLD = 2000  # characters of a line: a pipe that can take any takes as much
 
 
 def add_serve(parser: argparse.ArgumentParser) -> None:
@@ -58,6 +59,9 @@ async def serve(args: argparse.Namespace) -> int:
     its_door = door.Door(tuple(args.listen or (DEFAULT,)), args.tls_certificate, args.tls_key, args.token_file, args.group)
     its_door.check()
     keeping = Keeping(bay, args.state, args.grace, args.sync == "data")
+    # (at first stands which bay it is, and where)
+    begins = list[str]()
+    keeping.says = begins.append
     ends = contextlib.AsyncExitStack()
     try:
         await keeping.open()
@@ -67,10 +71,10 @@ async def serve(args: argparse.Namespace) -> int:
         for runner in await web(args, keeping):
             ends.push_async_callback(runner.cleanup)
         say(f"bay {bay.name}: {len(bay.instruments)} instruments, at {' '.join(its_door.addresses)}")
-        for it in keeping.complaints:
+        for it in (*keeping.complaints, *begins):
             say(plain(it))
+        keeping.says = lambda text: say(plain(text)[:MOST_TOLD]) if door.is_read() else None
         tell_systemd("READY=1")
-        keeping.says = say
         await until_the_end()
         return 0
     finally:

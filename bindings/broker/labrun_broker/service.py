@@ -6,7 +6,6 @@ generator is too old to write, are at the end."""
 from __future__ import annotations
 
 import asyncio
-import builtins
 import collections
 import hmac
 import time
@@ -14,15 +13,15 @@ from typing import Any, AsyncIterator, Awaitable, Callable, Coroutine, Optional
 
 import grpc
 import labrun
-from google.protobuf import json_format
 
 from . import broker_pb2 as pb
 from .bay import BadAddress
-from .door import Complaints, Door, check_free
+from .door import Complaints, Door, Seldom, check_free
+from .errors import KINDS, BadWish
 from .keeping import Keeping
 from .sockets import for_the_group, give
 from .standing import Session, Standings
-from .wishes import BadWish, Ended, Wish, check_form, wish_of
+from .wishes import Ended, Wish, check_form, wish_of
 
 # when a client that waits is told for whom, when again if that has changed, and when again if it hasn't
 FIRST_WORD, NEXT_WORD, AGAIN = 0.3, 1.0, 60.0
@@ -42,29 +41,13 @@ OPTIONS = [
     ("grpc.so_reuseport", 0),
 ]
 
-# each exception by the name that clients know it by; the first that fits
-KINDS: tuple[tuple[type[BaseException], str], ...] = (
-    (builtins.TimeoutError, "TimeoutError"),
-    (labrun.TakenAway, "TakenAway"),
-    (labrun.NotHeld, "NotHeld"),
-    (labrun.MayNotUse, "MayNotUse"),
-    (labrun.JournalError, "JournalError"),
-    (labrun.Stopped, "Stopped"),
-    (labrun.Closed, "Stopped"),
-    (ValueError, "BadWish"),
-    (labrun.LabrunError, "LabrunError"),
-)
-
-
-FAULTS = (labrun.LabrunError, ValueError, builtins.TimeoutError)
 GONE = pb.Told(gone=pb.Gone())
 
 
-def fault_of(fault: BaseException) -> Any:
-    if isinstance(fault, Ended) and fault.how:
-        return pb.Fault(kind={"let_go": "LetGo", "taken": "TakenAway"}[fault.how], text=str(fault))
-    kind = next((name for kinds, name in KINDS if isinstance(fault, kinds)), "LabrunError")
-    return pb.Fault(kind=kind, text=str(fault))
+def fault_of(fault: labrun.LabrunError) -> Any:
+    """It is called as its class is, or the first that a client knows of those that it comes from."""
+    its = fault.kind if isinstance(fault, Ended) else next((it.__name__ for it in type(fault).__mro__ if it.__name__ in KINDS), "LabrunError")
+    return pb.Fault(kind=its, text=str(fault))
 
 
 class Pace:
@@ -107,7 +90,7 @@ class Client:
                     if self._waiting is not None and kind not in ("let_go", "ping"):
                         raise BadWish("this stream waits: only let_go may come meanwhile, which gives up")
                     await answers[kind](getattr(ask, kind))
-                except FAULTS as fault:
+                except labrun.LabrunError as fault:
                     await self._tell(pb.Told(fault=fault_of(fault)))
                 # (a client whose word took long, as on a slow disk, wasn't silent meanwhile)
                 self._is_heard()
@@ -168,7 +151,7 @@ class Client:
             if (lease := self.keeping.lease) is not None:
                 held.grace, held.lease = self.keeping.grace, lease
             told = pb.Told(held=held)
-        except FAULTS as fault:
+        except labrun.LabrunError as fault:
             told = pb.Told(fault=fault_of(fault))
         finally:
             self._waiting = None
@@ -183,7 +166,7 @@ class Client:
             async with self._writing:
                 if self._waiting is waiting and asks and (for_whom != said or now > said_at + AGAIN):
                     said, said_at = for_whom, now
-                    await self.context.write(json_format.ParseDict({"waits": {"text": why, "waits_for": keepers}}, pb.Told()))
+                    await self.context.write(pb.Told(waits=pb.Waits(text=why, waits_for=keepers)))
             span = NEXT_WORD
 
     async def _note(self, asked: Any) -> None:
@@ -216,7 +199,7 @@ class Service:
 
     def __init__(self, keeping: Keeping, token: Optional[str]) -> None:
         self.keeping, self.token = keeping, token
-        self.clients = 0
+        self.clients, self._seldom = 0, Seldom(60.0)
         self._pace = collections.defaultdict[str, Pace](lambda: Pace(keeping.bay.limits.requests))
 
     async def _lets_in(self, context: Any) -> None:
@@ -224,9 +207,15 @@ class Service:
         if self.token is not None and not context.peer().startswith("unix:"):
             given = next((value for key, value in context.invocation_metadata() if key == "authorization"), "")
             if not given:
-                await context.abort(grpc.StatusCode.UNAUTHENTICATED, "this broker asks for its token: give its file by --token-file")
+                await self._refuses(context, "UNAUTHENTICATED", "this broker asks for its token: give its file by --token-file")
             if not hmac.compare_digest(str(given).encode(), f"Bearer {self.token}".encode()):
-                await context.abort(grpc.StatusCode.UNAUTHENTICATED, "this isn't its token")
+                await self._refuses(context, "UNAUTHENTICATED", "this isn't its token")
+
+    async def _refuses(self, context: Any, code: str, why: str) -> None:
+        """Also whoever looks after the broker is told, now and then."""
+        if (text := self._seldom.text(why, f"{context.peer()} isn't let in: {why}")) is not None:
+            self.keeping.says(text)
+        await context.abort(getattr(grpc.StatusCode, code), why)
 
     async def _paces(self, context: Any) -> None:
         await self._lets_in(context)
@@ -235,12 +224,12 @@ class Service:
         pace = self._pace[context.peer()]
         if pace.span(DEAR) > 1:
             pace.left += DEAR
-            await context.abort(grpc.StatusCode.RESOURCE_EXHAUSTED, f"more than {pace.rate} requests a second")
+            await self._refuses(context, "RESOURCE_EXHAUSTED", f"more than {pace.rate} requests a second")
 
     async def Hold(self, _: Any, context: Any) -> None:
         await self._lets_in(context)
         if self.clients >= self.keeping.bay.limits.clients:
-            await context.abort(grpc.StatusCode.RESOURCE_EXHAUSTED, f"{self.clients} clients are here, and no more may come")
+            await self._refuses(context, "RESOURCE_EXHAUSTED", f"{self.clients} clients are here, and no more may come")
         self.clients += 1
         try:
             # (so that the client knows that it is in)
@@ -251,17 +240,14 @@ class Service:
 
     async def Status(self, _: Any, context: Any) -> Any:
         await self._paces(context)
-        return self._status()
-
-    def _status(self) -> Any:
-        return json_format.ParseDict(self.keeping.status(), pb.Bay())
+        return pb.Bay(**self.keeping.status())
 
     async def Watch(self, _: Any, context: Any) -> AsyncIterator[Any]:
         await self._paces(context)
-        yield self._status()
+        yield pb.Bay(**self.keeping.status())
         async for _ in self.keeping.changes():
             await asyncio.sleep(WATCH)
-            yield self._status()
+            yield pb.Bay(**self.keeping.status())
 
     async def Release(self, wish: Any, context: Any) -> Any:
         await self._paces(context)

@@ -5,11 +5,10 @@ from __future__ import annotations
 import asyncio
 import logging
 import re
-import socket
 from typing import Any, AsyncIterator, Awaitable, Callable, Coroutine, Optional, Union
 
 from .bay import BadAddress, is_here
-from .sockets import bound
+from .sockets import bound, family_of, parsed
 
 
 class Lacking(BadAddress, ImportError):
@@ -32,15 +31,13 @@ HEADERS = {"X-Content-Type-Options": "nosniff", "Referrer-Policy": "no-referrer"
 
 def address_of(text: str) -> Union[str, tuple[str, int]]:
     """The path of a socket, or a loopback's address and port. Others are refused: the page has no password."""
-    if text.startswith("unix:"):
-        return text[5:]
-    host, colon, port = text.rpartition(":")
-    host = host.strip("[]") or "127.0.0.1"
-    if not colon or not port.isascii() or not port.isdigit() or int(port) > 65535:
-        raise BadAddress(f"{text!r} is no address: write 127.0.0.1:8080, or unix:/run/labrun/page.sock")
+    at = parsed(text)
+    if isinstance(at, str):
+        return at
+    host, port = at[0] or "127.0.0.1", at[1]
     if not is_here(host):
-        raise BadAddress(f"{text!r}: the page has no password, so it is shown on the loopback or a Unix socket only; put a web server with TLS in front of it")
-    return host, int(port)
+        raise BadAddress(f"{text}: the page has no password, so it is shown on the loopback or a Unix socket only; put a web server with TLS in front of it")
+    return host, port
 
 
 IS_TCP, SILENT = "is tcp", "silent"
@@ -130,5 +127,4 @@ async def listener_at(at: Union[str, tuple[str, int]], group: Optional[str], new
     loop = asyncio.get_running_loop()
     if isinstance(at, str):
         return await loop.create_unix_server(new, sock=bound(at, group))
-    family = socket.AF_INET6 if ":" in at[0] else socket.AF_INET
-    return await loop.create_server(new, *at, family=family)
+    return await loop.create_server(new, *at, family=family_of(at[0]))

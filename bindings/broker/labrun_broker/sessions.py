@@ -30,12 +30,17 @@ class Session:
     why: str = ""  # what is told of its end
     notes: list[tuple[float, str]] = field(default_factory=list)
     gone: list[tuple[float, Optional[float]]] = field(default_factory=list)  # while its client was away; the last may not be over
+    # for how long it waited and held by a clock that doesn't jump, if the records say so
+    wait: Optional[float] = None
+    work: Optional[float] = None
 
     def waited(self, until: float) -> float:
-        return max(0.0, first(self.held, self.ended, until) - self.asked)
+        return max(0.0, first(self.wait, first(self.held, self.ended, until) - self.asked))
 
     def worked(self, until: float, since: float = 0.0) -> float:
         """For how long it held, between the two times."""
+        if self.work is not None and since <= first(self.held, 0.0):
+            return self.work
         return 0.0 if self.held is None else max(0.0, min(first(self.ended, until), until) - max(self.held, since))
 
 
@@ -82,6 +87,10 @@ class Past:
         if session is None:
             return None
         if what in ENDS:
+            if session.held is None:
+                session.wait = record.get("after")
+            else:
+                session.work = record.get("after")
             return self._end(key, t, ENDS[what], record.get("text") or "")
         if what == "note":
             session.notes.append((t, record.get("text") or ""))
@@ -115,7 +124,7 @@ class Past:
             over = self._ends_others(station, t, lambda it: it.held is not None)
             session = Session(station, number, record.get("by") or "", (), t)
             key = station, number
-        session.held, session.how, session.number = t, HOLDS, number
+        session.held, session.how, session.number, session.wait = t, HOLDS, number, record.get("after")
         session.instruments = tuple(record.get("instruments") or ()) or session.instruments
         self.now.pop(key, None)
         self.now[station, number] = session
@@ -155,7 +164,7 @@ def is_record(it: object) -> bool:
     t, instruments, number = it.get("t"), it.get("instruments"), it.get("session")
     return (
         isinstance(t, (int, float)) and not isinstance(t, bool) and 0 <= t < 1e11
-        and (number is None or isinstance(number, int))
+        and (number is None or isinstance(number, int)) and isinstance(it.get("after", 0.0), (int, float))
         and all(it.get(key) is None or isinstance(it[key], str) for key in ("station", "by", "text"))
         and (instruments is None or isinstance(instruments, list) and all(isinstance(one, str) for one in instruments))
     )  # fmt: skip

@@ -7,16 +7,19 @@ from __future__ import annotations
 
 import asyncio
 import builtins
-import functools
+import contextlib
 from concurrent.futures import ThreadPoolExecutor
-from typing import Callable, Optional
+from typing import Any, Callable, Optional
 
 from labrun import JournalError
 from labrun.machine import NEVER, Machine, Told
 from labrun.store import Store
 
-# what nobody waits for is on the disk after so many seconds; the records are, at least as often as the second says
-SOON, NOW_AND_THEN = 0.02, 1.0
+# what nobody waits for is on the disk after so many seconds (in a busy bay with a hold that comes before that); the records are, at least as
+# often as the second says
+SOON, NOW_AND_THEN = 0.05, 1.0
+# a sync that takes so many seconds is told of
+SLOW = 3.0
 # after a write that failed it is tried again, and ever later up to the second number; at the end, for so long
 AGAIN, LATEST, CLOSING = 0.05, 1.0, 3.0
 # for how long whoever asks waits for the disk
@@ -37,15 +40,18 @@ class Shell:
         self._timer: Optional[asyncio.TimerHandle] = None
         # how far the journal is written, and on the disk; and who waits for that
         self._written = self._durable = machine.used
-        self._waiting: list[tuple[int, asyncio.Future[None]]] = []
+        self._waiting: list[tuple[int, bool, asyncio.Future[None]]] = []
         self._thread = ThreadPoolExecutor(1, "journal")
         self._sync_timer: Optional[asyncio.TimerHandle] = None
         self._is_syncing = self._is_urgent = self._takes_all = self._is_closed = False
         self._took_all_at = self._loop.time()
         self._path = "" if store is None else store.path
-        # why a write failed, until that is mended; and the same until all is written
-        self.fault: Optional[BaseException] = None
-        self._last_fault: Optional[BaseException] = None
+        # why a write failed, until that is mended; and the same until all is written; and how many did
+        self.fault: Optional[Exception] = None
+        self._last_fault: Optional[Exception] = None
+        self.failures = 0
+        self._slow_timer: Optional[asyncio.TimerHandle] = None
+        self._is_slow = False
         self._pause = AGAIN
         self._mending: Optional[asyncio.Task[None]] = None
 
@@ -112,36 +118,60 @@ class Shell:
         self._is_syncing, self._is_urgent, self._takes_all = True, False, False
         if takes_all:
             self._took_all_at = self._loop.time()
-        work = self._loop.run_in_executor(self._thread, self._sync, takes_all)
-        work.add_done_callback(functools.partial(self._is_synced, self._written))
+        self._slow_timer = self._loop.call_later(SLOW, self._takes_long)
+        self._thread.submit(self._sync, self._written, takes_all)
 
-    def _sync(self, takes_all: bool) -> None:
+    def _sync(self, position: int, takes_all: bool) -> None:
+        """On the thread. Who holds is told before what is beside is synced, too."""
         assert self._store is not None
-        self._store.sync()
-        if takes_all:
+        fault: Optional[Exception] = None
+        try:
+            self._store.sync()
+        except Exception as it:
+            fault = it
+        if takes_all and fault is None:
+            self._to_loop(self._is_synced, position)
             self._beside()
+        self._to_loop(self._is_through, position, takes_all, fault)
 
-    def _is_synced(self, position: int, work: asyncio.Future[None]) -> None:
-        self._is_syncing = False
-        if work.cancelled() or self._is_closed:
+    def _to_loop(self, call: Callable[..., None], *given: Any) -> None:
+        with contextlib.suppress(RuntimeError):  # (the loop is closed)
+            self._loop.call_soon_threadsafe(call, *given)
+
+    def _takes_long(self) -> None:
+        if not self._is_slow:
+            self._is_slow = True
+            self._says(f"{self._path}: {self._because()}: nobody is told that it holds until it does")
+
+    def _is_synced(self, position: int, took_all: bool = False) -> None:
+        if self._slow_timer is not None:
+            self._slow_timer.cancel()
+        if self._is_closed:
             return
-        if (fault := work.exception()) is not None:
-            return self._fails(fault)
         self._durable, self._pause = position, AGAIN
-        if self._last_fault is not None and self.fault is None:
-            self._last_fault = None
+        if (self._last_fault is not None or self._is_slow) and self.fault is None:
+            self._last_fault, self._is_slow = None, False
             self._says(f"{self._path}: all is written")
         self.machine.durable(position)
-        for upto, one in self._waiting:
-            if upto <= position and not one.done():
+        for upto, wants_all, one in self._waiting:
+            if upto <= position and took_all >= wants_all and not one.done():
                 one.set_result(None)
         self.pump()
 
-    def _fails(self, fault: BaseException) -> None:
-        if self._sync_timer is not None:
-            # (what it was to sync is cut off)
-            self._sync_timer.cancel()
-            self._sync_timer = None
+    def _is_through(self, position: int, took_all: bool, fault: Optional[Exception]) -> None:
+        self._is_syncing = False
+        if fault is None:
+            self._is_synced(position, took_all)
+        elif not self._is_closed:
+            self._fails(fault)
+
+    def _fails(self, fault: Exception) -> None:
+        self.failures += 1
+        for it in (self._sync_timer, self._slow_timer):
+            if it is not None:
+                it.cancel()
+        # (what it was to sync is cut off)
+        self._sync_timer = None
         if self.fault is None:
             is_new, self.fault, self._last_fault = self._last_fault is None, fault, fault
             if is_new:
@@ -176,13 +206,13 @@ class Shell:
             position = self._written if self.fault is None else self.machine.journal()[1]
         if position <= self._durable and not takes_all:
             return
-        one = position, self._loop.create_future()
+        one = position, takes_all, self._loop.create_future()
         self._waiting.append(one)
         self._takes_all = self._takes_all or takes_all
         self._syncs_in(0.0)
         try:
             async with asyncio.timeout(DISK):
-                await one[1]
+                await one[2]
         except builtins.TimeoutError:
             raise self.why() from None
         finally:
@@ -194,7 +224,11 @@ class Shell:
 
     def _because(self) -> str:
         it = self._last_fault
-        return "the disk is slow" if it is None else f"a write failed ({getattr(it, 'strerror', None) or it})"
+        return "the disk doesn't answer" if it is None else f"a write failed ({getattr(it, 'strerror', None) or it})"
+
+    def is_wrong(self) -> str:
+        """What is wrong with the disk; mostly nothing."""
+        return self._because() if self._is_slow or self._last_fault is not None else ""
 
     async def close(self) -> None:
         """All is on the disk, as far as that can be. Nobody is told anything any more."""
@@ -206,7 +240,7 @@ class Shell:
         except (builtins.TimeoutError, JournalError):
             pass
         self._is_closed = True
-        for it in (self._timer, self._sync_timer, self._mending):
+        for it in (self._timer, self._sync_timer, self._slow_timer, self._mending):
             if it is not None:
                 it.cancel()
         self._thread.shutdown(wait=False)

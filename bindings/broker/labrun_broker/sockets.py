@@ -8,9 +8,25 @@ import os
 import shutil
 import socket
 import stat
-from typing import Iterator, Optional
+from typing import Iterator, Optional, Union
 
 from .bay import BadAddress
+
+
+def parsed(text: str) -> Union[str, tuple[str, int]]:
+    """The path of `unix:PATH`, or the host and port of `HOST:PORT`."""
+    if text.startswith("unix:"):
+        return text.removeprefix("unix:")
+    host, colon, port = text.rpartition(":")
+    if not colon or not port.isascii() or not port.isdigit():
+        raise BadAddress(f"{text}: unix:PATH or HOST:PORT is wanted")
+    if int(port) > 65535:
+        raise BadAddress(f"{text}: it can't listen there: a port is 65535 at most")
+    return host.strip("[]"), int(port)
+
+
+def family_of(host: str) -> socket.AddressFamily:
+    return socket.AF_INET6 if ":" in host else socket.AF_INET
 
 
 def clear(path: str) -> None:

@@ -8,56 +8,40 @@ import secrets
 from dataclasses import dataclass
 from typing import Any, Optional
 
-import labrun
-from labrun import LabrunError, MayNotUse, NotHeld
+from labrun import MayNotUse, NotHeld
 
 from .bay import Bay
+from .errors import BadWish
 
 MOST_CHOICES, LEAST_TICKET = 100, 16
 MOST_SECONDS = 1e9
 KEPT_IN_MEMORY = 1000  # ends
 
 
-class TimedOut(labrun.TimeoutError):
-    """The time was over while the client waited."""
-
-    def __init__(self, text: str) -> None:
-        Exception.__init__(self, text)
-
-    def __reduce__(self) -> Any:
-        return TimedOut, (str(self),)
-
-
-class BadWish(LabrunError, ValueError):
-    """What was asked for can't be."""
-
-
 class Ended(NotHeld):
-    """No session has this ticket any more. `how` it ended: `let_go`, `taken`, or, if nobody knows, nothing."""
+    """No session has this ticket any more; `kind` is what its client is told: LetGo, TakenAway, or, if nobody knows how it ended, NotHeld."""
 
-    def __init__(self, how: str, text: str) -> None:
+    def __init__(self, kind: str, text: str) -> None:
         super().__init__(text)
-        self.how = how
+        self.kind = kind
 
 
 class Ends:
-    """What became of the last sessions that are over, by their owners."""
+    """What became of the last sessions that are over, by their owners: each let go, or was taken away, as the text says."""
 
     def __init__(self) -> None:
-        self._of: dict[tuple[int, int], tuple[str, str]] = {}
+        self._of: dict[tuple[int, int], str] = {}
 
-    def add(self, owner: tuple[int, int], how: str, text: str) -> None:
-        if how:
-            self._of[owner] = how, text
-            if len(self._of) > 2 * KEPT_IN_MEMORY:
-                self._of = dict(list(self._of.items())[KEPT_IN_MEMORY:])
+    def add(self, owner: tuple[int, int], taken: str = "") -> None:
+        self._of[owner] = taken
+        if len(self._of) > 2 * KEPT_IN_MEMORY:
+            self._of = dict(list(self._of.items())[KEPT_IN_MEMORY:])
 
     def why(self, owner: tuple[int, int]) -> Ended:
         """Why nobody can come back for it."""
-        how, text = self._of.get(owner, ("", ""))
-        if not how:
-            return Ended("", "no session has this ticket: it is over, or was never told that it holds")
-        return Ended("let_go", "the session has let go") if how == "let_go" else Ended("taken", f"the session was taken away {text}")
+        if (taken := self._of.get(owner)) is None:
+            return Ended("NotHeld", "no session has this ticket: it is over, or was never told that it holds")
+        return Ended("TakenAway", f"the session was taken away {taken}") if taken else Ended("LetGo", "the session has let go")
 
 
 @dataclass(frozen=True)

@@ -3,10 +3,14 @@
 from __future__ import annotations
 
 import argparse
+import os
 import sys
-from typing import Any, Callable, NamedTuple
+from typing import TYPE_CHECKING, Any, Callable, NamedTuple
 
-from .client import DEFAULT, Lab, connect
+from .quick import DEFAULT
+
+if TYPE_CHECKING:
+    from .client import Lab
 
 PROGRAM, ABOUT = "labrun-broker", "a lab's instruments, shared by programs, people and machines"
 
@@ -49,4 +53,8 @@ def add_client(parser: argparse.ArgumentParser) -> None:
 
 
 def lab_of(args: argparse.Namespace, **more: Any) -> Lab:
+    # (what a `hold` does without; gRPC's own lines say no more than ours)
+    os.environ.setdefault("GRPC_VERBOSITY", "NONE")
+    from .client import connect
+
     return connect(args.broker, token_file=args.token_file, certificate_file=args.certificate, **more)

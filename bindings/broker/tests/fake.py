@@ -18,7 +18,8 @@ class Keeping:
     def __init__(self, bay: dict[str, list[str]], name: str = "bay-3", now: Optional[float] = None, most: int = 1000) -> None:
         self.bay, self.name, self.now = bay, name, now
         self.history: deque[Record] = deque(maxlen=most)
-        self.refusals = 0
+        self.refusals = self.write_failures = 0
+        self.disk, self.notice = "", ""
         self.state: Optional[str] = None
         self.since = self._t()
         self.instruments = list(dict.fromkeys(it for uses in bay.values() for it in uses))
@@ -83,6 +84,9 @@ class Keeping:
 
     def recent(self) -> list[Record]:
         return recent_records(self.state) if self.state else []
+
+    def disk_fault(self) -> str:
+        return self.disk
 
     def status(self) -> Record:
         stations = [{**it, "waits_for": self._waits_for(it)} for it in self.stations.values()]

@@ -86,6 +86,9 @@ class Programs:
             one.kill()
             one.wait()
 
+    def processes(self) -> set[int]:
+        return {one.pid for one in self.running}
+
     def ended(self) -> list[int]:
         """The statuses of those that ended by themselves, which none may."""
         return [status for one in self.running if (status := one.poll()) is not None]
@@ -111,11 +114,13 @@ def patiently(call: Callable[..., Any], *given: Any) -> Any:
             time.sleep(0.05)
 
 
-def release_who_is_gone(lab: labrun_broker.Lab, longer_than: float) -> int:
-    """As an operator: the talk of a program that was killed is over. One whose broker was killed comes back by itself, and sooner."""
+def release_who_is_gone(lab: labrun_broker.Lab, running: set[int]) -> int:
+    """As an operator who sees to it: the talk of a program that was killed is over. One whose broker was killed comes back by itself."""
     status, count = patiently(lab.status), 0
     for one in status["stations"]:
-        if one["state"] == "gone" and status["at"] - one["gone_since"] >= longer_than:
+        # (who holds is USER@HOST PROCESS NAME; of one that was let in as its broker was killed that may be in no file)
+        is_dead = int(one["by"].split()[1]) not in running if one["by"] else status["at"] - (one["gone_since"] or status["at"]) > 5
+        if one["state"] == "gone" and is_dead:
             try:
                 patiently(lab.release, one["name"])
                 count += 1
@@ -150,14 +155,14 @@ def kills(times: int, seed: int, brokers_too: bool = True, pause: float = 0.3) -
                 else:
                     broker.kill()
                     broker.begin()
-                killed["released"] += release_who_is_gone(lab, 2.0)
+                killed["released"] += release_who_is_gone(lab, programs.processes())
                 if programs.ended():
                     break
             # all who were only cut off come back
             time.sleep(1.0)
             ended = programs.ended()
             programs.kill_all()
-            until(lambda: is_idle(lab) or release_who_is_gone(lab, 0.0) * 0, "all is released")
+            until(lambda: is_idle(lab) or release_who_is_gone(lab, set()) * 0, "all is released")
             with lab.hold(*NAMES, timeout=LIMIT):
                 pass
         faults = programs.text("faults")

@@ -1,9 +1,12 @@
 """The bay's file: what it says, and each fault with its key or line."""
 
+import re
+import tomllib
 import unittest
+from dataclasses import replace
 
 from labrun_broker.bay import Bay, BayFault, Limits, bay_of
-from tests.brokers import BAY
+from tests.brokers import BAY, TOP
 
 ONE = 'instruments = ["scope"]\n[guests]\ncount = 1\n'
 
@@ -68,3 +71,25 @@ class Bays(unittest.TestCase):
         stations = "".join(f's{it} = ["i{it}", "i63"]\n' for it in range(31))
         bay = bay_of(f"instruments = [{names}]\n[stations]\n{stations}[guests]\ncount = 1000\n")
         self.assertEqual((len(bay.instruments), len(bay.stations), bay.guests), (64, 31, 1000))
+
+
+class Example(unittest.TestCase):
+    def test_the_bay_to_begin_with(self) -> None:
+        """It is sound, has every key, and a limit that stands in a comment is as it is without the line."""
+        with open(f"{TOP}/examples/bay.toml", encoding="utf-8") as file:
+            text = file.read()
+        bay = bay_of(text)
+        self.assertEqual((bay.name, bay.gone, bay.guests, bay.overtakes, bay.limits), ("north", "keep", 8, None, Limits()))
+        self.assertEqual((len(bay.instruments), list(bay.stations)), (6, ["board", "burn-in"]))
+        whole = re.sub(r"(?m)^# (?=\w+ = |\[)", "", text)
+        self.assertEqual(bay_of(whole), replace(bay, overtakes=16))
+        given = tomllib.loads(whole)
+        self.assertEqual(set(given), {"bay", "instruments", "gone", "overtakes", "stations", "guests", "limits"})
+        self.assertEqual((set(given["guests"]), set(given["limits"])), ({"count", "may_use"}, {"clients", "requests", "name", "note"}))
+
+    def test_each_key_is_in_formats(self) -> None:
+        with open(f"{TOP}/docs/FORMATS.md", encoding="utf-8") as file:
+            part = file.read().partition("## A bay's file")[2].partition("\n## ")[0]
+        rows = set(re.findall(r"(?m)^\| `([\w.]+)` \|", part))
+        limits = {f"limits.{it}" for it in vars(Limits())}
+        self.assertEqual(rows, {"bay", "instruments", "gone", "overtakes", "stations.NAME", "guests.count", "guests.may_use", *limits})

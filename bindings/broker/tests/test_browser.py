@@ -17,6 +17,7 @@ except ImportError as lacking:
 
 try:
     from selenium import webdriver
+    from selenium.webdriver import ActionChains, Keys
     from selenium.webdriver.chrome.service import Service
 except ImportError:
     webdriver = None
@@ -127,15 +128,99 @@ class Browser(unittest.TestCase):
         self.seen(self.row("scope"), lambda text: text.count("<img src=x") == 2)
         made = self.browser.execute_script("return [document.querySelectorAll('img').length, document.querySelectorAll('script').length, document.title]")
         self.assertEqual(made, [0, 1, "bay-3"])
-        for width in (1280, 400, 320):
+        for width in (1920, 1280, 390, 320):
             self.assertLessEqual(self.width_at(width), width)
 
-    def width_at(self, width: int) -> int:
-        about = {"width": width, "height": 900, "deviceScaleFactor": 1, "mobile": False}
+    def width_at(self, width: int, height: int = 900) -> int:
+        about = {"width": width, "height": height, "deviceScaleFactor": 1, "mobile": False}
         self.browser.execute_cdp_cmd("Emulation.setDeviceMetricsOverride", about)
         self.addCleanup(self.browser.execute_cdp_cmd, "Emulation.clearDeviceMetricsOverride", {})
         time.sleep(0.3)
         return int(self.browser.execute_script("return document.documentElement.scrollWidth"))
+
+    def test_a_wall_shows_all_of_a_large_bay(self) -> None:
+        """Of 56 instruments and 32 stations, of which each waits or holds, nothing is below the screen, and nothing has to be scrolled."""
+        self.close()
+        names = [f"instrument-{at:02}" for at in range(56)]
+        self.is_open, self.web = True, Web(serve_page, lambda: Keeping({f"station-{at:02}": names for at in range(32)}))
+        self.at(900)
+        for at in range(32):
+            by = "nightly_regression.py of somebody with a long name"
+            self.do("hold" if at < 20 else "ask", f"station-{at:02}", *(names[2 * at : 2 * at + 2] if at < 20 else names[:2]), by=by)
+            if at < 4:
+                self.do("gone", f"station-{at:02}")
+        self.at(0)
+        self.do("note", "station-05", "V = 5.000 " * 20)
+        for scheme in ("light", "dark"):
+            self.browser.execute_cdp_cmd("Emulation.setEmulatedMedia", {"features": [{"name": "prefers-color-scheme", "value": scheme}]})
+            self.width_at(1920, 1080)
+            self.browser.get(f"http://127.0.0.1:{self.web.port}/?wall")
+            self.seen("#waits", lambda text: "station-20" in text)
+            self.seen("#gantt", lambda text: ":" in text)
+            found = self.browser.execute_script(
+                "const all = [...document.querySelectorAll('.row')].map(it => it.getBoundingClientRect());"
+                "const root = document.documentElement, names = [...document.querySelectorAll('.row .name')];"
+                "return [root.scrollHeight, root.scrollWidth, all.length, Math.max(...all.map(it => it.bottom)), Math.min(...all.map(it => it.height)),"
+                " names.filter(it => it.scrollWidth > it.clientWidth).length, document.querySelector('#gantt svg').getBoundingClientRect().bottom]"
+            )
+            self.assertEqual((found[0], found[1], found[2], found[5]), (1080, 1920, 56, 0))
+            self.assertLess(max(found[3], found[6]), 1080)
+            self.assertGreaterEqual(found[4], 12)
+            self.assertNotIn("notes", self.text("#records"))
+        # on a smaller screen all is there, too, and below its edge
+        self.width_at(1280, 800)
+        self.seen("body", lambda _: "tall" in self.browser.execute_script("return document.body.className"))
+        self.assertGreater(self.browser.execute_script("return document.documentElement.scrollHeight"), 800)
+
+    def test_the_focus_stays(self) -> None:
+        self.browser.execute_script("document.querySelector('#spans button:nth-of-type(3)').focus()")
+        ActionChains(self.browser).send_keys(Keys.ENTER).perform()
+        for number in range(3):
+            self.do("hold", "board", "scope", by=f"ana {number}")
+            self.seen(self.row("scope"), lambda text: f"board by ana {number}" in text)
+            self.do("end", "board")
+            time.sleep(0.9)
+            found = self.browser.execute_script("const it = document.activeElement; return [it.tagName, it.innerText, it.getAttribute('aria-pressed')]")
+            self.assertEqual(found, ["BUTTON", "4 h", "true"])
+
+    def test_who_listens_to_the_page_hears_what_changes_alone(self) -> None:
+        self.do("hold", "board", "scope")
+        self.do("gone", "board")
+        self.seen("#told", lambda text: text == "board is gone, and still holds scope")
+        self.browser.execute_script(
+            "window.heard = 0; new MutationObserver(all => window.heard += all.length)"
+            ".observe(document.querySelector('[role=status]'), {childList: true, characterData: true, subtree: true})"
+        )
+        first = self.text("#stuck")
+        self.seen("#stuck", lambda text: text != first)  # it ticks
+        self.do("note", "board", "V = 5")
+        self.seen(self.row("scope"), lambda text: "V = 5" in text)
+        self.assertEqual(self.browser.execute_script("return [window.heard, document.querySelectorAll('[role=status] .ticks, [aria-live] .ticks').length]"), [0, 0])
+        self.do("end", "board")
+        self.seen("#told", lambda text: text == "Nothing is stuck.")
+
+    def test_notes_drive_nothing_out(self) -> None:
+        self.do("hold", "board", "scope")
+        for number in range(200):
+            self.do("note", "board", f"V = {number}")
+        for _ in range(2):
+            self.seen("#records", lambda text: "V = 199" in text and "board holds scope" in text and "asks for" in text)
+            self.assertEqual(self.text("#records").count("notes"), 4)
+            self.browser.refresh()
+
+    def test_a_disk_that_is_full(self) -> None:
+        self.web.keeping.disk = "a write failed (No space left on device)"
+        self.do("hold", "board", "scope")
+        self.seen("#disk", lambda text: text == "The broker can't write: a write failed (No space left on device). Nobody comes to hold until it can.")
+        self.web.keeping.disk = ""
+        self.seen("#disk", lambda text: text == "", 8.0)
+        self.assertFalse(self.browser.execute_script("return document.querySelector('#disk').checkVisibility()"))
+
+    def test_what_is_simulated_says_so(self) -> None:
+        self.assertEqual(self.text("#notice"), "")
+        self.web.keeping.notice = "Simulated: it isn't the proved one"
+        self.do("hold", "board", "scope")
+        self.seen("header", lambda text: "Simulated: it isn't the proved one" in text)
 
     def test_light_and_dark(self) -> None:
         colours = []

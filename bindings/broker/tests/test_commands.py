@@ -1,6 +1,7 @@
 """The command: its words, what they say, and their statuses."""
 
 import contextlib
+import fcntl
 import io
 import json
 import os
@@ -8,11 +9,14 @@ import re
 import signal
 import socket
 import subprocess
+import sys
 import tempfile
 import unittest
 from typing import Any
 from unittest import mock
 
+import labrun
+from labrun_broker.client import _who
 from labrun_broker.command import main
 from labrun_broker.run import Signals
 from tests.brokers import BAY, COMMAND, LIMIT, OnBroker, station, until
@@ -112,6 +116,49 @@ class WithBroker(OnBroker):
                     self.assertIn(fault, done.stderr)
                     self.assertNotIn("Traceback", done.stderr)
 
+    def test_a_choice_by_a_pattern(self) -> None:
+        broker = self.broker()
+        with self.lab(broker, "board").hold("supply"), self.lab(broker).hold("load-1"):
+            rows = (
+                (["--any", "load-*"], 0, "load-2\n", ""),
+                (["--any", "supply", "l*2"], 0, "load-2\n", ""),
+                (["--any", "lamp-*"], 1, "", "labrun-broker: no instrument of this bay is like lamp-*: there are scope, supply, load-1, load-2\n"),
+                (["-n", "load-1"], 75, "", "load-1 is held by guest-1"),
+                (["--no-wait", "scope"], 0, "scope\n", ""),
+            )
+            for words, status, out, fault in rows:
+                with self.subTest(words):
+                    done = broker.ran("hold", *words, "--", "sh", "-c", "echo $LABRUN_HELD")
+                    self.assertEqual((done.returncode, done.stdout), (status, out), done.stderr)
+                    self.assertIn(fault, done.stderr)
+
+    def test_a_hold_within_a_hold(self) -> None:
+        """One that would wait for itself is told so at once; one that may wait for ever with another is told that."""
+        broker = self.broker()
+        inner = "labrun-broker: within a hold of scope by guest-1, which waits for this command: it would wait for itself. Name all in one hold\n"
+        as_board = inner.replace("guest-1", "board")
+        told = "labrun-broker: within a hold of scope: another that holds what this wants, and wants those, waits for ever with it. Name all in one hold\n"
+        rows = (
+            ([], ["scope"], 2, inner),
+            ([], ["scope", "supply"], 2, inner),
+            ([], ["--any", "scope", "scope,supply"], 2, inner),
+            ([], ["--any", "scope", "supply"], 0, told),
+            ([], ["supply"], 0, told),
+            ([], ["supply", "--timeout", "9"], 0, ""),
+            (["--station", "board"], ["--station", "board", "supply"], 2, as_board),
+            ([], ["scope", "--broker", f"unix:{broker.folder}/other.sock"], 69, "can't be reached"),
+        )
+        for outer, words, status, said in rows:
+            with self.subTest(words):
+                done = broker.ran("hold", "scope", *outer, "--", *COMMAND, "hold", *words, "--", "true")
+                self.assertEqual(done.returncode, status, done.stderr)
+                self.assertIn(said, done.stderr)
+                self.assertEqual(bool(said), bool(done.stderr))
+        # and a hold that is over is around nobody
+        later = f"{COMMAND[0]} -m labrun_broker hold scope -n -- echo ran > {broker.folder}/later"
+        self.assertEqual(broker.ran("hold", "scope", "--", "sh", "-c", f"(sleep 1; {later}) >&- 2>&- &").returncode, 0)
+        until(lambda: os.path.exists(f"{broker.folder}/later") and os.path.getsize(f"{broker.folder}/later"))
+
     def test_it_says_for_whom_it_waits(self) -> None:
         broker = self.broker()
         held = self.lab(broker, "board").hold("scope")
@@ -192,10 +239,32 @@ class WithBroker(OnBroker):
         _, said = runs.communicate(timeout=LIMIT)
         self.assertEqual(runs.returncode, 76)
         self.assertIn("board: the session was taken away by", said)
+        with self.lab(broker, "board").hold("scope"):
+            done = broker.ran("release", "board", "--session", "1")
+            self.assertEqual((done.returncode, done.stderr), (1, "labrun-broker: board is in session 2, and not in 1 any more\n"))
+            self.assertEqual(station(lab, "board")["state"], "holding")
         for name, text in (("board", "board holds nothing"), ("moon", "moon is no station of this bay")):
             done = broker.ran("release", name)
             self.assertEqual((done.returncode, done.stdout), (1, ""))
             self.assertIn(text, done.stderr)
+
+        broker.end()
+        self.assertRegex(broker.said, "^labrun-broker: session 1 of board was taken away by .*: scope\n$")
+
+    def test_nobody_reads_what_is_told(self) -> None:
+        """The pipe of its standard error is full: the broker goes on."""
+        broker = self.broker(BAY + "[limits]\nrequests = 100000\n")
+        assert broker.process is not None and broker.process.stderr is not None
+        fcntl.fcntl(broker.process.stderr, fcntl.F_SETPIPE_SZ, 4096)
+        with self.lab(broker, "board") as lab:
+            for _ in range(120):
+                held = lab.hold("scope", timeout=LIMIT)
+                held.acquire()
+                lab.release("board")
+                with self.assertRaises(labrun.TakenAway):
+                    held.release()
+        broker.end()
+        self.assertIn(len(broker.said.splitlines()), range(1, 100))
 
     def test_one_broker_at_a_socket(self) -> None:
         broker = self.broker()
@@ -207,3 +276,11 @@ class WithBroker(OnBroker):
         broker.begin()
         self.assertEqual(broker.ran("status").returncode, 0)
         self.assertEqual(broker.end(), 0)
+
+
+class Names(unittest.TestCase):
+    def test_who_it_is(self) -> None:
+        """Of `python3 -m pytest` it is pytest, and not its file's name."""
+        for program, name in (("/usr/lib/python3/dist-packages/pytest/__main__.py", "pytest"), ("./measure.py", "measure.py"), ("", "python")):
+            with mock.patch.object(sys, "argv", [program]):
+                self.assertEqual(_who().split(" ")[1:], [str(os.getpid()), name])

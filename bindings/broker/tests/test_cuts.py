@@ -13,6 +13,11 @@ import unittest
 
 import labrun
 import labrun_broker
+from labrun_broker import broker_pb2 as pb
+from labrun_broker.bay import bay_of
+from labrun_broker.held import Held
+from labrun_broker.keeping import Keeping
+from labrun_broker.work import clock
 from tests.brokers import BAY, LIMIT, Broker, OnBroker, free_port, station, until
 from tests.cuts import cuts
 from tests.proxies import Proxy, Ways
@@ -28,6 +33,26 @@ class Cuts(unittest.TestCase):
         counts = came["counts"]
         self.assertGreater(counts["held"], 30)
         self.assertGreater(counts.get("TakenAway", 0) + counts.get("told", 0), 0)
+
+
+class Deadlines(unittest.TestCase):
+    def test_from_what_was_sent(self) -> None:
+        """It is never later than the last word that was answered allows, however late that was."""
+        held = Held(None, pb.Wish(), None, None)  # type: ignore[arg-type]
+        now = clock()
+        held._holds(None, pb.Told(held=pb.Held(lease=3)).held, now - 2)  # type: ignore[arg-type]
+        self.assertEqual(held._until, now + 1)
+        held._is_sure(now - 1)
+        self.assertEqual(held._until, now + 2)
+        held._is_sure(now - 9)
+        self.assertEqual(held._until, now + 2)
+
+    def test_the_grace_ends_later(self) -> None:
+        """By a quarter of it, wherever the client's last word was when the broker heard it."""
+        for grace in (1.0, 60.0):
+            keeping = Keeping(bay_of(RELEASES), grace=grace)
+            self.assertEqual((keeping.lease, keeping.grace), (0.75 * grace, grace))
+        self.assertIsNone(Keeping(bay_of(BAY)).lease)
 
 
 class OnAWay(OnBroker):

@@ -1,6 +1,7 @@
 """The keeping of the bay, on a loop and without a network."""
 
 import asyncio
+import json
 import os
 import random
 import tempfile
@@ -11,12 +12,16 @@ from typing import Any, Optional
 from unittest import mock
 
 import labrun
-from labrun_broker import keeping as kept
+from labrun_broker import broker_pb2 as pb
+from labrun_broker import leases, wishes
 from labrun_broker.bay import bay_of
+from labrun_broker.errors import BadWish
+from labrun_broker.errors import TimeoutError as TimedOut
 from labrun_broker.keeping import Keeping
 from labrun_broker.places import Places
-from labrun_broker.standing import Session
-from labrun_broker.wishes import BadWish, Ended, TimedOut, Wish
+from labrun_broker.sessions import Past, read_records
+from labrun_broker.standing import Session, Standings
+from labrun_broker.wishes import Ended, Wish
 from tests.brokers import BAY
 
 TICKET = "a ticket of a test"
@@ -101,6 +106,30 @@ class Sessions(OnKeeping):
         await keeping.let_go(radio, self.owner)
         await keeping.let_go(await board, self.owner)
         await keeping.let_go(await guest, self.owner)
+
+    async def test_a_status_holds_up_nobody(self) -> None:
+        """Of two hundred clients at as many instruments as may be: all of it is done on the loop, in less than 5 ms of its time."""
+        names, chance = [f"i-{at}" for at in range(64)], random.Random(1)
+        keeping = await self.keeping(f"instruments = {json.dumps(names)}\n[guests]\ncount = 200\n")
+        asks = [asyncio.create_task(self.holds(keeping, *chance.sample(names, chance.randint(1, 3)), by=f"ann@bench-{at} 471")) for at in range(200)]
+        await asyncio.sleep(0.05)
+
+        def cost() -> float:
+            begun = time.thread_time()
+            self.assertEqual(len(pb.Bay(**keeping.status()).SerializeToString()) > 40000, True)
+            return time.thread_time() - begun
+
+        self.assertLess(min(cost() for _ in range(20)), 0.005)
+        self.assertLess(min(self.cost_of_a_line(keeping) for _ in range(20)), 0.001)
+        for task in asks:
+            task.cancel()
+        await asyncio.gather(*asks, return_exceptions=True)
+
+    def cost_of_a_line(self, keeping: Keeping) -> float:
+        """What whoever waits is told."""
+        session, begun = next(it for it in keeping.by_number.values() if it.state == "waiting"), time.thread_time()
+        self.assertIn("is held by", Standings(keeping).for_whom(session)[1])
+        return time.thread_time() - begun
 
     async def test_timeout(self) -> None:
         keeping = await self.keeping()
@@ -232,6 +261,19 @@ class Gone(OnKeeping):
         with self.assertRaisesRegex(Ended, "the session has let go"):
             await keeping.hold(Wish(ticket=TICKET, comes_back=True), other)
 
+    async def test_a_ticket_of_another(self) -> None:
+        """It opens nothing, and the session's owner keeps it."""
+        keeping, other = await self.keeping(), Owner()
+        seat = await self.holds(keeping, "scope", ticket=TICKET)
+        for ticket in ("a ticket of another test", "", wishes.digits_of(seat.key)):
+            with self.subTest(ticket), self.assertRaisesRegex(Ended, "no session has this ticket"):
+                await keeping.hold(Wish(ticket=ticket, comes_back=True), other)
+        for call in (keeping.let_go(seat, other), keeping.note(seat, other, "5 V")):
+            with self.assertRaises(labrun.NotHeld):
+                await call
+        self.assertEqual((seat.owner, self.owner.told, whats(keeping)[1:]), (self.owner, [], ["asked", "held"]))
+        await keeping.let_go(seat, self.owner)
+
     async def test_the_newer_connection_counts(self) -> None:
         keeping, other = await self.keeping(), Owner()
         seat = await self.holds(keeping, "scope", ticket=TICKET)
@@ -280,7 +322,7 @@ class Gone(OnKeeping):
         for pings, words, gone in ((True, 0, 1.0), (True, 1, 1.5), (False, 1, None)):
             with self.subTest((pings, words)):
                 session = await self.holds(keeping, "scope", pings=pings)
-                begun = keeping.now()
+                begun = keeping.now() if session.heard_at is None else session.heard_at
                 await asyncio.sleep(0.5)
                 for _ in range(words):
                     self.assertTrue(keeping.heard(session, self.owner))
@@ -312,7 +354,7 @@ class Gone(OnKeeping):
     async def test_who_comes_back_again_at_once_waits(self) -> None:
         keeping = await self.keeping()
         seat = await self.holds(keeping, "scope", ticket=TICKET)
-        with mock.patch.object(kept, "BACK", 0.3):
+        with mock.patch.object(leases, "BACK", 0.3):
             begun, owners = time.monotonic(), [Owner() for _ in range(4)]
             for owner in owners[:3]:
                 keeping.gone(seat, seat.owner)
@@ -372,6 +414,24 @@ class Gone(OnKeeping):
         self.assertEqual(how(keeping, "scope")["holder"], None)
         self.assertEqual((await self.holds(keeping, "scope", station="board")).state, "holding")
 
+    async def test_what_it_holds_before_its_client_is_told(self) -> None:
+        """Of its choices the one that it holds is shown and released, and not all that it asked for."""
+        folder, may = self.enterContext(tempfile.TemporaryDirectory()), threading.Event()
+        keeping = Keeping(bay_of(BAY), folder)
+        await keeping.open()
+        self.addAsyncCleanup(keeping.close)
+        self.addCleanup(may.set)
+        with mock.patch("os.fdatasync", lambda file: may.wait(5)):
+            waits = asyncio.create_task(keeping.hold(Wish(any_of=(("supply",), ("scope",)), station="board"), self.owner))
+            await asyncio.sleep(0.02)
+            self.assertEqual((how(keeping, "board")["state"], how(keeping, "board")["instruments"], waits.done()), ("holding", ["supply"], False))
+            self.assertEqual([how(keeping, name)["holder"] for name in ("supply", "scope")], ["board", None])
+            releases = asyncio.create_task(keeping.release("board", "eve"))
+            with self.assertRaisesRegex(Ended, "taken away before its client was told"):
+                await waits
+            may.set()
+            self.assertEqual(await releases, ("supply",))
+
     async def test_the_clock_jumps(self) -> None:
         """Spans are those of a clock that doesn't, and times are told by the wall clock as it is now."""
         keeping = await self.keeping()
@@ -384,6 +444,25 @@ class Gone(OnKeeping):
             self.assertEqual(status["at"], round(now + jump, 3))
             guest = next(it for it in status["stations"] if it["name"] == seat.name)
             self.assertTrue(0 <= status["at"] - guest["gone_since"] < 5 and 0 <= status["at"] - guest["since"] < 5)
+
+
+class Jumps(OnFolder):
+    async def test_spans_of_records(self) -> None:
+        """They are right though the wall clock is set back meanwhile."""
+        folder, owner, now = self.folder(), Owner(), time.time()
+        keeping = await self.keeping(folder)
+        board = await keeping.hold(Wish(("scope",), station="board"), owner)
+        radio = asyncio.create_task(keeping.hold(Wish(("scope",), station="radio"), owner))
+        await asyncio.sleep(0.2)
+        with mock.patch("time.time", return_value=now - 7200):
+            await keeping.let_go(board, owner)
+            await keeping.let_go(await radio, owner)
+        await keeping.close()
+        past = Past()
+        for record in read_records(folder)[0]:
+            past.take(record)
+        board_was, radio_was = past.ended
+        self.assertTrue(0.19 < board_was.worked(now) < 5 and 0.19 < radio_was.waited(now) < 5, past.ended)
 
 
 class Memory:

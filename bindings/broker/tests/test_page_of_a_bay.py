@@ -2,8 +2,10 @@
 
 from __future__ import annotations
 
+import asyncio
 import json
 import os
+import re
 import tempfile
 import unittest
 from typing import Any
@@ -13,12 +15,13 @@ from labrun_broker.keeping import Keeping
 from labrun_broker.past import read_past
 from labrun_broker.wishes import Wish
 
-from .brokers import BAY
+from . import test_written
+from .brokers import BAY, TOP
 
 try:
     from aiohttp import ClientSession
 
-    from labrun_broker.page import serve_page
+    from labrun_broker.page import Watch, serve_page
 except ImportError as lacking:
     raise unittest.SkipTest(str(lacking)) from None
 
@@ -59,6 +62,22 @@ class OfABay(unittest.IsolatedAsyncioTestCase):
         self.assertIn('labrun_sessions_total{end="done",station="board"} 1.0', await self.get("/metrics"))
         self.assertIn('labrun_wait_seconds_count{instrument="scope"} 1.0', await self.get("/metrics"))
 
+    async def test_formats_has_each_key(self) -> None:
+        with open(f"{TOP}/docs/FORMATS.md", encoding="utf-8") as file:
+            text = file.read()
+        tables = {head: text.partition(f"## {head}")[2].partition("\n## ")[0] for head in ("How a bay stands", "The broker's records")}
+        rows = {name: set(re.findall(r"`(\w+)`", names)) for name, names in ((it, "".join(re.findall(r"(?m)^\| ([^|]*) \|", part))) for it, part in tables.items())}
+        await self.keeping.hold(Wish(("scope",), station="board"), Owner())
+        waits = asyncio.create_task(self.keeping.hold(Wish(("scope",), station="radio"), Owner()))
+        await asyncio.sleep(0.1)
+        status = json.loads(await self.get("/status"))
+        self.assertEqual({*status, "waits_for"}, rows["How a bay stands"])
+        parts = [status["instruments"][0], status["stations"][0], next(it["waits_for"][0] for it in status["stations"] if it["waits_for"])]
+        for it in (name for part in parts for name in part):
+            self.assertIn(f"`{it}`", tables["How a bay stands"])
+        self.assertEqual({*self.keeping._news.history[-1], "ticket", "after"}, rows["The broker's records"])
+        waits.cancel()
+
     async def told(self, events: Any, count: int = 1) -> Any:
         """What is told until there are so many records, in one."""
         news: dict[str, Any] = {"records": [], "ended": []}
@@ -68,6 +87,25 @@ class OfABay(unittest.IsolatedAsyncioTestCase):
                 news = {"status": more["status"], **{it: news[it] + more[it] for it in ("records", "ended")}}
                 if len(news["records"]) >= count:
                     return news
+
+
+class OfAFullDisk(test_written.FullDisk):
+    async def test_the_page_says_so(self) -> None:
+        keeping = await self.on_disk()
+        watch = Watch(keeping)
+        disk = lambda: watch.news(0)["status"]["disk"]
+        self.assertEqual(disk(), "")
+        self.breaks("full")
+        waits = asyncio.create_task(keeping.hold(Wish(("scope",), station="board"), self.owner))
+        await asyncio.sleep(1.1)
+        self.assertEqual(disk(), "a write failed (No space left on device)")
+        self.breaks("")
+        await waits
+        await asyncio.sleep(1.1)
+        self.assertEqual(disk(), "")
+
+    # (those of the disk are run where they stand)
+    test_who_asks = test_who_asks_without_a_time = test_who_lets_go = test_who_notes = test_a_broker_begins = test_grace_that_ends_meanwhile = None
 
 
 class WhatWas(unittest.IsolatedAsyncioTestCase):

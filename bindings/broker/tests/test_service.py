@@ -19,7 +19,7 @@ import labrun_broker
 from labrun_broker import broker_pb2 as pb
 from labrun_broker import held as sessions
 from labrun_broker.bay import BadAddress
-from labrun_broker.door import Door, is_loopback
+from labrun_broker.door import Door, Seldom, is_loopback
 from labrun_broker.service import Pace
 from labrun_broker.stream import Lost, Stream
 from tests.brokers import BAY, LIMIT, Broker, OnBroker, free_port, station, until
@@ -54,6 +54,12 @@ class Clients(OnBroker):
             held.release()
         with lab.hold(any_of=["scope", ("scope", "supply")]) as held:
             self.assertEqual(held.instruments, ("scope",))
+
+    def test_timeouts(self) -> None:
+        lab = self.lab(self.broker())
+        for timeout in (-1, float("nan")):
+            with self.assertRaisesRegex(labrun_broker.BadWish, "it is 0 or more"):
+                lab.hold("scope", timeout=timeout)
 
     def test_errors_are_the_packages(self) -> None:
         lab = self.lab(self.broker())
@@ -139,7 +145,53 @@ class Clients(OnBroker):
             self.assertRegex(line, r"^scope is held by guest-1 for \d+(\.\d)? s \(a program\)$")
         one.kill()
         until(lambda: len(told) > 2 and "gone" in told[-1])
-        self.assertRegex(told[-1], r"guest-1 for .* \(a program, gone for \d\.\d s: see to it, and then run labrun-broker release guest-1\)$")
+        see = f"see to it, and then run labrun-broker release guest-1 --session {station(lab, 'guest-1')['session']}"
+        self.assertRegex(told[-1], rf"guest-1 for .* \(a program, gone for \d\.\d s: {see}\)$")
+        (shown,) = station(lab, "guest-2")["waits_for"]
+        self.assertIn(see, shown["text"])
+        with self.assertRaisesRegex(labrun_broker.TimeoutError, see):
+            lab.hold("scope", timeout=0.1).acquire()
+        lab.release("guest-1")
+        thread.join(LIMIT)
+
+    def test_who_waits_while_brokers_come_and_go(self) -> None:
+        """It tries for a while to reach each of them, however long ago it lost the first."""
+        broker = self.broker(BAY, "--state", "FOLDER/state")
+        self.enterContext(unittest.mock.patch.object(sessions, "GRACE", 5.0))
+        lab, got = self.lab(broker), list[str]()
+        held = lab.hold("scope")
+        held.acquire()
+
+        def waits() -> None:
+            with lab.hold("scope", station="radio") as it:
+                got.append(it.station)
+
+        thread = threading.Thread(target=waits)
+        thread.start()
+        for pause in (5.5, 0.0):
+            until(lambda: station(lab, "radio")["state"] == "waiting")
+            broker.kill()
+            time.sleep(0.5)
+            broker.begin()
+            until(lambda: station(self.lab(broker), "radio")["state"] == "waiting")
+            time.sleep(pause)
+        held.release()
+        thread.join(LIMIT)
+        self.assertEqual(got, ["radio"])
+
+    def test_whose_client_is_gone(self) -> None:
+        """Who waits is told so at once, though nothing else has changed."""
+        broker = self.broker()
+        one = self.program(broker, "scope")
+        assert one.stdout is not None
+        one.stdout.readline()
+        lab, told = self.lab(broker), list[str]()
+        thread = threading.Thread(target=lambda: lab.hold("scope", timeout=LIMIT, waits=told.append).acquire())
+        thread.start()
+        until(lambda: told)
+        one.kill()
+        until(lambda: len(told) == 2)
+        self.assertEqual(["gone for" in line for line in told], [False, True])
         lab.release("guest-1")
         thread.join(LIMIT)
 
@@ -150,9 +202,13 @@ class Clients(OnBroker):
         assert one.stdout is not None
         one.stdout.readline()
         one.kill()
-        begun = time.monotonic()
-        with lab.hold("scope", timeout=10):
+        begun, told = time.monotonic(), list[str]()
+        with lab.hold("scope", timeout=10, waits=told.append):
             self.assertGreater(time.monotonic() - begun, 0.5)
+        self.assertRegex(told[0], r"^scope is held by guest-1 for .* \(a program, gone for 0\.\d s: it is released after 1 s\)$")
+        broker.end()
+        line = "labrun-broker: session 1 of guest-1 was taken away by the broker, because its client was gone for 1 s: scope\n"
+        self.assertEqual(broker.said, line)
 
     def test_who_stops_is_no_trouble(self) -> None:
         """A client that is stopped while it holds, or waits, keeps nobody else waiting for anything but its instruments."""
@@ -277,6 +333,11 @@ class WhoIsLetIn(OnBroker):
         self.assertEqual(done.returncode, 69)
         self.assertIn("asks for its token", done.stderr)
         self.assertEqual(broker.ran("status", "--broker", at, "--certificate", certificate, "--token-file", token).returncode, 0)
+        broker.end()
+        # (of each kind a line a minute at most)
+        first, second = (line for line in broker.said.splitlines() if line.startswith("labrun-broker: "))
+        self.assertRegex(first, r"^labrun-broker: ipv[46]:\S+ isn't let in: this broker asks for its token: give its file by --token-file$")
+        self.assertRegex(second, r"^labrun-broker: ipv[46]:\S+ isn't let in: this isn't its token$")
 
 
 class Floods(OnBroker):
@@ -438,6 +499,8 @@ class Floods(OnBroker):
         for one in held:
             one.release()
         self.goes_on(lab)
+        broker.end()
+        self.assertEqual(broker.said, "labrun-broker: unix: isn't let in: 3 clients are here, and no more may come\n")
 
     def test_a_flood_of_notes(self) -> None:
         """One client's notes come at its pace, and another goes on meanwhile."""
@@ -481,6 +544,13 @@ class Floods(OnBroker):
             self.goes_on(self.lab(broker))
             ended.set()
             self.assertEqual([list(it) for it in calls], [[]] * 50)
+
+    def test_what_may_be_told(self) -> None:
+        with unittest.mock.patch("time.monotonic", lambda: now):
+            now, seldom = 100.0, Seldom(60)
+            self.assertEqual([seldom.text(kind, kind) for kind in ("a", "a", "b", "a")], ["a", None, "b", None])
+            now = 161.0
+            self.assertEqual([seldom.text(kind, kind) for kind in ("a", "a", "b")], ["a (and 2 before it)", None, "b"])
 
     def test_pace(self) -> None:
         """Ten at once, and from there on ten a second."""

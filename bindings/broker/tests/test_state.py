@@ -13,6 +13,8 @@ from unittest import mock
 import labrun
 import labrun_broker
 from labrun_broker.keeping import Keeping
+from labrun_broker.past import read_past
+from labrun_broker.service import fault_of
 from labrun_broker.wishes import Ended, Wish
 from tests.brokers import BAY, COMMAND, LIMIT, Broker, OnBroker, station, until
 from tests.test_keeping import TICKET, OnFolder, Owner, how
@@ -211,7 +213,7 @@ class TakenUp(OnFolder):
         gone = await keeping.hold(Wish(("load-2",), ticket="the ticket of a third"), owner)
         await keeping.release(gone.name, "eve")
         with mock.patch("os.fdatasync", lambda file: may.wait(5)):
-            untold = asyncio.create_task(keeping.hold(Wish(("supply",), station="board", ticket="the ticket of one untold"), owner))
+            untold = asyncio.create_task(keeping.hold(Wish(("supply",), station="board", by="bob", ticket="the ticket of one untold"), owner))
             await asyncio.sleep(0.1)
             self.assertFalse(untold.done())
             subprocess.run(["cp", "-a", f"{folder}/.", copy], check=True)
@@ -220,17 +222,17 @@ class TakenUp(OnFolder):
         keeping = await self.keeping(copy)
         status = {it["name"]: it for it in keeping.status()["stations"]}
         told = [(it["name"], it["by"], it["note"]) for it in status.values() if it["state"] != "idle"]
-        self.assertEqual(told, [("board", None, None), ("radio", "ann", "5 V")])
+        self.assertEqual(told, [("board", "bob", None), ("radio", "ann", "5 V")])
         back = await keeping.hold(Wish(ticket="a ticket of a test", comes_back=True), owner)
         self.assertEqual((back.name, back.instruments), ("radio", ("scope",)))
         again = await keeping.hold(Wish(("supply",), station="board", ticket="the ticket of one untold"), owner)
         self.assertEqual((again.name, again.instruments), ("board", ("supply",)))
         for ticket, ended, text in (
-            ("another ticket of it", "let_go", "has let go"), ("the ticket of a third", "taken", "taken away by eve"), ("a ticket of nobody", "", "no session"),
+            ("another ticket of it", "LetGo", "has let go"), ("the ticket of a third", "TakenAway", "taken away by eve"), ("a ticket of nobody", "NotHeld", "no session"),
         ):  # fmt: skip
             with self.assertRaisesRegex(Ended, text) as caught:
                 await keeping.hold(Wish(ticket=ticket, comes_back=True), owner)
-            self.assertEqual(caught.exception.how, ended)
+            self.assertEqual(fault_of(caught.exception).kind, ended)
 
     async def test_a_guest_is_the_same(self) -> None:
         """It has the name that it had, and nobody else gets that meanwhile."""
@@ -246,6 +248,46 @@ class TakenUp(OnFolder):
         self.assertEqual([it.name for it in others], ["guest-1", "guest-3"])
         back = await keeping.hold(Wish(ticket=TICKET, comes_back=True), owner)
         self.assertEqual((back.name, back.number), ("guest-2", second.number))
+
+    async def test_who_gave_up_before_it_was_told(self) -> None:
+        """Its client gave up while the line that says that it holds wasn't on the disk yet: it never held, also for a broker that begins again."""
+        folder, may = self.folder(), threading.Event()
+        self.addCleanup(may.set)
+        keeping = await self.keeping(folder)
+        with mock.patch("os.fdatasync", lambda file: may.wait(5)):
+            untold = asyncio.create_task(keeping.hold(Wish(("scope",), station="radio"), Owner()))
+            await asyncio.sleep(0.02)
+            untold.cancel()
+            await asyncio.wait({untold})
+            may.set()
+        await keeping.close()
+        for _ in range(2):
+            keeping = await self.keeping(folder)
+            self.assertEqual(how(keeping, "radio")["state"], "idle")
+            await keeping.close()
+        past, _ = read_past(folder)
+        self.assertEqual([(it.station, it.held, it.how) for it in past.sessions()], [("radio", None, "gave up")])
+
+    async def test_two_guests_of_whom_nobody_was_told(self) -> None:
+        """They hold, and their records are lost, as by a power cut: each has a name of its own, and keeps it."""
+        folder, copy, may = self.folder(), self.folder(), threading.Event()
+        self.addCleanup(may.set)
+        keeping = await self.keeping(folder)
+        with mock.patch("os.fdatasync", lambda file: may.wait(5)):
+            untold = [asyncio.create_task(keeping.hold(Wish((name,)), Owner())) for name in ("scope", "supply")]
+            await asyncio.sleep(0.02)
+            subprocess.run(["cp", f"{folder}/bay.journal", f"{folder}/bay.json", copy], check=True)
+            may.set()
+            await asyncio.gather(*untold)
+        for _ in range(3):
+            keeping = await self.keeping(copy)
+            rows = [(it["name"], it["instruments"]) for it in keeping.status()["stations"] if it["state"] == "gone"]
+            self.assertEqual(rows, [("guest-1", ["scope"]), ("guest-2", ["supply"])])
+            await keeping.close()
+            # (the power is cut again, behind the first two records)
+            with open(f"{copy}/records.jsonl", "r+b") as file:
+                file.truncate(sum(len(file.readline()) for _ in range(2)))
+        self.assertEqual(await (await self.keeping(copy)).release("guest-2", "eve"), ("supply",))
 
     async def test_a_bay_that_has_no_room_for_them(self) -> None:
         """Fewer guests than hold, or a station less, or an instrument less: it says who holds, and nothing is lost by it."""

@@ -210,6 +210,15 @@ class OnDisk(OnFolder):
                     self.assertIn(b" let_go ", on_disk["bay.journal"], "though nobody waits for it")
                     await keeping.close()
 
+    async def test_a_let_go_is_written_before_it_is_answered(self) -> None:
+        """Whoever is told that it let go has let go, also if the broker is killed right then."""
+        folder, owner = self.folder(), Owner()
+        keeping = await self.keeping(folder)
+        session = await keeping.hold(Wish(("scope",), station="radio", ticket=TICKET), owner)
+        await keeping.let_go(session, owner)
+        with open(f"{folder}/bay.journal", "rb") as file:
+            self.assertEqual(file.read().count(b" let_go "), 1)
+
     async def test_who_comes_during_a_sync_shares_the_next(self) -> None:
         folder, owner, may, syncs = self.folder(), Owner(), threading.Event(), list[int]()
         self.addCleanup(may.set)
@@ -230,6 +239,109 @@ class OnDisk(OnFolder):
         # (one more may be for those lines that nobody waits for)
         self.assertLessEqual(len(set(syncs)), 2)
         self.assertLessEqual(syncs.count(syncs[0]), 3)
+
+
+class Soon(OnFolder):
+    """A record is in the file with the next turn of the loop."""
+
+    def whats(self, folder: str) -> list[str]:
+        with open(f"{folder}/records.jsonl", encoding="utf-8") as file:
+            return [json.loads(line)["what"] for line in file if line.endswith("}\n")]
+
+    async def test_behind_a_line_that_lost_its_end(self) -> None:
+        folder = self.folder()
+        with open(f"{folder}/records.jsonl", "w", encoding="utf-8") as file:
+            file.write('{"t":1,"what":"as')
+        keeping = await self.keeping(folder)
+        await keeping.hold(Wish(("scope",), station="radio"), Owner())
+        await asyncio.sleep(0.01)
+        self.assertEqual(self.whats(folder), ["opened", "asked", "held"])
+
+    async def test_once_the_disk_is_sound_again(self) -> None:
+        folder = self.folder()
+        keeping, owner = await self.keeping(folder), Owner()
+        with mock.patch("os.write", side_effect=OSError(28, "No space left on device")):
+            radio = await keeping.hold(Wish(("scope",), station="radio"), owner)
+            await asyncio.sleep(0.01)
+        keeping.gone(radio, owner)
+        await asyncio.sleep(0.01)
+        self.assertEqual(self.whats(folder), ["opened", "asked", "held", "gone"])
+
+
+class Hanging(OnFolder):
+    async def test_who_asks(self) -> None:
+        """A disk that doesn't answer: who waits for it is told so, and given up after some seconds if its time is over; whoever looks after the
+        broker is told, too. Once it answers, all goes on."""
+        self.enterContext(mock.patch.multiple(shell, SLOW=0.1, DISK=0.5))
+        keeping, owner, said, may = await self.keeping(self.folder()), Owner(), list[str](), threading.Event()
+        self.addCleanup(may.set)
+        keeping.says = said.append
+        real = os.fdatasync
+
+        def fdatasync(file: int) -> None:
+            may.wait(LIMIT)
+            real(file)
+
+        with mock.patch("os.fdatasync", fdatasync):
+            asks = list[Session]()
+            waits = asyncio.create_task(keeping.hold(Wish(("scope",), station="board"), owner, asks.append))
+            begun = time.monotonic()
+            with self.assertRaisesRegex(labrun.JournalError, "it isn't on the disk after 0.5 s: the disk doesn't answer"):
+                await keeping.hold(Wish(("supply",), timeout=0), owner)
+            self.assertLess(time.monotonic() - begun, 5)
+            self.assertEqual(Standings(keeping).why(asks[0]), "it is its turn, and it holds once that is on the disk (the disk doesn't answer)")
+            self.assertRegex(said[0], "bay.journal: the disk doesn't answer: nobody is told that it holds until it does$")
+            may.set()
+            self.assertEqual((await asyncio.wait_for(waits, LIMIT)).name, "board")
+        self.assertRegex(said[1], "bay.journal: all is written$")
+        self.assertEqual(len(said), 2)
+
+    async def test_records_that_hang(self) -> None:
+        """Who holds is told without them."""
+        keeping, owner, may = await self.keeping(self.folder()), Owner(), threading.Event()
+        self.addCleanup(may.set)
+        with mock.patch.object(shell, "NOW_AND_THEN", -1.0), mock.patch("labrun_broker.records.Records.sync", lambda self: may.wait(LIMIT)):
+            held = await asyncio.wait_for(keeping.hold(Wish(("scope",), station="board"), owner), 5)
+            note = asyncio.create_task(keeping.note(held, owner, "5 V"))
+            await asyncio.sleep(0.1)
+            self.assertFalse(note.done(), "a note is in the records before it is answered")
+            may.set()
+            await asyncio.wait_for(note, LIMIT)
+
+
+class Since(OnFolder):
+    async def test_gone_since_before_a_restart(self) -> None:
+        """Also if the broker begins again and again; and not if the client came back meanwhile."""
+        folder, owner = self.folder(), Owner()
+        keeping = await self.keeping(folder)
+        board = await keeping.hold(Wish(("scope",), station="board", ticket=TICKET), owner)
+        radio = await keeping.hold(Wish(("supply",), ticket="a ticket of another test"), owner)
+        keeping.gone(board, owner)
+        keeping.gone(radio, owner)
+        since = how(keeping, "board")["gone_since"]
+        await keeping.hold(Wish(ticket="a ticket of another test", comes_back=True), owner)
+        for _ in range(2):
+            await asyncio.sleep(0.6)
+            await keeping.close()
+            keeping = await self.keeping(folder)
+        self.assertAlmostEqual(how(keeping, "board")["gone_since"], since, delta=0.1)
+        self.assertGreater(how(keeping, "guest-1")["gone_since"], since + 0.5)
+        with self.assertRaisesRegex(labrun.TimeoutError, r"gone for [1-5]\.\d s: see to it"):
+            await keeping.hold(Wish(("scope",), timeout=0), owner)
+
+    async def test_spans_after_a_restart(self) -> None:
+        """Who holds has held since before it."""
+        folder, owner = self.folder(), Owner()
+        keeping = await self.keeping(folder)
+        await keeping.hold(Wish(("scope",), station="board", ticket=TICKET, by="ann"), owner)
+        since = how(keeping, "board")["since"]
+        await asyncio.sleep(1.2)
+        await keeping.close()
+        keeping = await self.keeping(folder)
+        self.assertAlmostEqual(how(keeping, "board")["since"], since, delta=0.1)
+        self.assertAlmostEqual(how(keeping, "scope")["since"], since, delta=0.1)
+        with self.assertRaisesRegex(labrun.TimeoutError, r"scope is held by board for [1-4]\.\d s \(ann, gone for 0\.\d s: see to it"):
+            await keeping.hold(Wish(("scope",), timeout=0), owner)
 
 
 class FullDisk(OnFolder):
@@ -278,6 +390,7 @@ class FullDisk(OnFolder):
                 self.assertGreater(time.monotonic() - begun, 0.4)
                 self.assertEqual((how(keeping, "board")["state"], whats(keeping, "board")), ("idle", ["asked", "failed"]))
                 self.assertIn(why, self.said[-1])
+                self.assertGreater(keeping.write_failures, 1)
                 self.breaks("")
                 held = await keeping.hold(Wish(("scope",), station="radio", timeout=LIMIT), self.owner)
                 self.assertEqual(held.name, "radio")
@@ -294,7 +407,8 @@ class FullDisk(OnFolder):
         waits = asyncio.create_task(keeping.hold(Wish(("scope",), station="board"), self.owner, asks.append))
         await asyncio.sleep(1)
         self.assertFalse(waits.done())
-        self.assertEqual(Standings(keeping).for_whom(asks[0])[:2], ([], "it is its turn, and it holds once that is on the disk"))
+        why = "it is its turn, and it holds once that is on the disk (a write failed (No space left on device))"
+        self.assertEqual(Standings(keeping).for_whom(asks[0])[:2], ([], why))
         self.breaks("")
         self.assertEqual((await waits).name, "board")
 

@@ -18,7 +18,7 @@ from ._library import NO_MEMORY, NO_ROOM, NOT_NOW, NOT_OPEN, library_path, may_l
 NUMBER, STOPPED, NO_CLASS, EMPTY, MAY_NOT, LINE_FULL, OVER, ANOTHER, UNSOUND, OWNER = range(20, 30)
 NEVER = 2**64 - 1  # no moment, no limit
 
-# what an ask is told; the last only of `look` and `keeper`
+# what an ask is told; the last only of `standings` and `keeper`
 HOLDS, LET_GO, LEFT, LAPSED, NOT_WRITTEN, LIMIT, GRACE, TAKEN, REPLACED, WAS_STOPPED, WAITS = range(11)
 
 
@@ -35,8 +35,8 @@ class Told(NamedTuple):
 
     serial: int
     number: int
-    what: int
     needs: int
+    what: int
 
 
 class Standing(NamedTuple):
@@ -53,7 +53,7 @@ class Standing(NamedTuple):
 class Terms(NamedTuple):
     """What holds of a bay for as long as it is open: `struct lab_terms`, whose comments say what each is."""
 
-    name: bytes
+    bay: bytes
     line: int
     grace: int
     disk: int
@@ -61,38 +61,16 @@ class Terms(NamedTuple):
     keeps: bool
 
 
-_WORD, _LONG, _SIZE, _PLACE = ctypes.c_uint32, ctypes.c_uint64, ctypes.c_size_t, ctypes.c_void_p
+# the structures, by their fields (structures of ctypes take as long for each of them as these for all)
+_HANDLE, _CLASS, _TERMS = struct.Struct("=QQ"), struct.Struct("=QII"), struct.Struct("=32sQQQII")
+_ASKED, _OUTCOME, _STANDING = struct.Struct("=QQQQQII"), struct.Struct("=QQQI4x"), struct.Struct("=QQQQQII")
 
+_packs, _unpacks = _ASKED.pack_into, _OUTCOME.unpack
 
-class _Handle(ctypes.Structure):
-    _fields_ = [("at", _PLACE), ("live", _LONG)]
-
-
-class _Class(ctypes.Structure):
-    _fields_ = [("uses", _LONG), ("places", _WORD), ("unused", _WORD)]
-
-
-class _Terms(ctypes.Structure):
-    _fields_ = [
-        ("bay", ctypes.c_ubyte * 32),
-        *((name, _LONG) for name in ("line", "grace", "disk")),
-        *((name, _WORD) for name in ("overtakes", "keeps")),
-    ]
-
-
-# `struct lab_asked` and `struct lab_outcome`: a structure of ctypes takes as long for each field as these for all
-_ASKED, _OUTCOME = struct.Struct("=QQQQQII"), struct.Struct("=QQQI4x")
-_packs, _unpacks = _ASKED.pack_into, _OUTCOME.unpack_from
-
-
-class _Standing(ctypes.Structure):
-    _fields_ = [("number", _LONG), ("owner", _LONG * 2), ("needs", _LONG), ("since", _LONG), ("kind", _WORD), ("what", _WORD)]
-
-
-# calls that may take long: the interpreter's lock is let go meanwhile. Of all others handing it round would cost more than the call
+_WORD, _LONG, _SIZE, _PLACE, _TEXT = ctypes.c_uint32, ctypes.c_uint64, ctypes.c_size_t, ctypes.c_void_p, ctypes.c_char_p
 _CALLS: dict[str, list[Any]] = {
     "open": [_PLACE, _SIZE, _PLACE, _PLACE],
-    "resume": [_PLACE, _SIZE, _PLACE, ctypes.c_char_p, _SIZE, _LONG, _PLACE, _PLACE, _PLACE],
+    "resume": [_PLACE, _SIZE, _PLACE, _TEXT, _SIZE, _LONG, _PLACE, _PLACE, _PLACE],
     "ask": [_PLACE, _PLACE, _PLACE, _SIZE, _LONG],
     "let_go": [_PLACE, _LONG, _LONG],
     "leave": [_PLACE, _LONG, _LONG],
@@ -101,7 +79,7 @@ _CALLS: dict[str, list[Any]] = {
     "back": [_PLACE, _LONG, _LONG, _LONG, _LONG, _PLACE],
     "time": [_PLACE, _LONG, _PLACE],
     "stop": [_PLACE, _LONG],
-    "note": [_PLACE, _LONG, ctypes.c_char_p, _SIZE, _PLACE],
+    "note": [_PLACE, _LONG, _TEXT, _SIZE, _PLACE],
     "journal": [_PLACE, _PLACE, _SIZE, _PLACE, _PLACE],
     "durable": [_PLACE, _LONG],
     "failed": [_PLACE],
@@ -111,10 +89,23 @@ _CALLS: dict[str, list[Any]] = {
     "waits": [_PLACE, _LONG, _SIZE, _PLACE, _PLACE],
     "free": [_PLACE],
 }
+# what each may refuse
+_MAY: dict[str, tuple[int, ...]] = {
+    "open": (NO_CLASS,),
+    "resume": (NO_CLASS, MAY_NOT, ANOTHER, UNSOUND),
+    "ask": (NUMBER, STOPPED, NO_CLASS, EMPTY, MAY_NOT, LINE_FULL, OWNER),
+    "let_go": (NOT_NOW, OVER),
+    "take_away": (NOT_NOW, OVER),
+    "back": (OVER,),
+    "note": (NOT_NOW, MAY_NOT),
+    "journal": (NO_ROOM,),
+}
+# whose NOT_NOW says that there is nothing
+_MAY_FIND_NONE = ("tell", "look", "keeper", "waits")
 
 
 def _bound(path: str) -> dict[str, Callable[..., int]]:
-    """The bay's calls of a library. (`resume` reads a whole journal: the interpreter's lock is let go meanwhile.)"""
+    """The bay's calls of a library. They take microseconds, so the interpreter's lock is held; but `resume` reads a whole journal."""
     may_load()
     try:
         short, long = ctypes.PyDLL(path), ctypes.CDLL(path)
@@ -142,7 +133,7 @@ def _calls() -> dict[str, Callable[..., int]]:
     return _loaded[path]
 
 
-def _freed(free: Callable[..., int], handle: _Handle) -> None:
+def _freed(free: Callable[..., int], handle: Any) -> None:
     status = free(ctypes.addressof(handle))
     if status not in (0, NOT_OPEN):
         raise LabrunError(f"lab_bay_free: status {status}")
@@ -154,176 +145,159 @@ class Machine:
 
     def __init__(self, classes: Sequence[tuple[int, int]], terms: Terms, journal: bytes = b"", now: int = 0) -> None:
         self._calls = _calls()
-        self.used = 0
-        self._handle = _Handle()
-        self._at = ctypes.addressof(self._handle)
-        self._asked, self._outcome = (ctypes.create_string_buffer(it.size) for it in (_ASKED, _OUTCOME))
-        self._standing = _Standing()
-        self._asked_at, self._outcome_at, self._standing_at = (ctypes.addressof(it) for it in (self._asked, self._outcome, self._standing))
-        self._has_room_for(16)
-        # (looked up once)
-        self._ask, self._tell, self._leave = self._calls["ask"], self._calls["tell"], self._calls["leave"]
-        self._number = _LONG()
-        self._number_at = ctypes.addressof(self._number)
-        self._room = ctypes.create_string_buffer(1 << 14)
-        self._opens(classes, terms, journal, now)
+        handle, self._asked, self._outcome, self._standing = map(_room_for, (_HANDLE, _ASKED, _OUTCOME, _STANDING))
+        self._at, self._asked_at, self._outcome_at, self._standing_at = map(ctypes.addressof, (handle, self._asked, self._outcome, self._standing))
+        # what a call answers beside
+        self._number, self._other = _LONG(), _LONG()
+        self._number_at, self._other_at = ctypes.addressof(self._number), ctypes.addressof(self._other)
+        self._has_sets(())
+        # (every session makes these)
+        self._ask, self._tell, self._leave = (self._calls[name] for name in ("ask", "tell", "leave"))
+        self._text = ctypes.create_string_buffer(1 << 14)
+        self.used = self._opens(b"".join(_CLASS.pack(*it, 0) for it in classes), len(classes), _TERMS.pack(*terms), journal, now)
         # (freed once, whether by `free` or because nobody has the machine any more; the handle stays until then)
-        self.free = weakref.finalize(self, _freed, self._calls["free"], self._handle)
+        self.free = weakref.finalize(self, _freed, self._calls["free"], handle)
         # (at the end of the process a thread may be calling it yet)
         self.free.atexit = False
 
-    def _opens(self, classes: Sequence[tuple[int, int]], terms: Terms, journal: bytes, now: int) -> None:
-        rows = (_Class * max(1, len(classes)))(*(_Class(uses, places, 0) for uses, places in classes))
-        its = _Terms((ctypes.c_ubyte * 32)(*terms.name[:32]), terms.line, terms.grace, terms.disk, terms.overtakes, int(terms.keeps))
-        given = ctypes.addressof(rows), len(classes), ctypes.addressof(its)
+    def _opens(self, classes: bytes, count: int, terms: bytes, journal: bytes, now: int) -> int:
+        rows, its = ctypes.create_string_buffer(classes), ctypes.create_string_buffer(terms)
+        given = ctypes.addressof(rows), count, ctypes.addressof(its)
         if not journal:
-            self._done("open", self._calls["open"](*given, self._at), (NO_CLASS,))
-            return
-        used, fault = _SIZE(), _LONG()
-        its_at = ctypes.addressof(used), ctypes.addressof(fault)
-        status = self._calls["resume"](*given, journal, len(journal), now, self._at, *its_at)
-        self._done("resume", status, (NO_CLASS, MAY_NOT, ANOTHER, UNSOUND), fault.value)
-        self.used = used.value
+            self._does("open", *given, self._at)
+            return 0
+        self._does("resume", *given, journal, len(journal), now, self._at, self._number_at, self._other_at)
+        return self._number.value
 
-    def _done(self, name: str, status: int, refusals: tuple[int, ...] = (), fault: int = 0) -> None:
-        if status:
-            raise self._why(name, status, refusals, fault)
+    def _does(self, name: str, *given: Any) -> bool:
+        """False: there is nothing."""
+        status = self._calls[name](*given)
+        return not status or self._finds(name, status)
 
-    def _why(self, name: str, status: int, refusals: tuple[int, ...], fault: int = 0) -> Exception:
-        if status in refusals:
-            return Refusal(status, fault)
-        return MemoryError() if status == NO_MEMORY else LabrunError(f"lab_bay_{name}: status {status}")
+    def _finds(self, name: str, status: int) -> bool:
+        if status == NOT_NOW and name in _MAY_FIND_NONE:
+            return False
+        if status in _MAY.get(name, ()):
+            raise Refusal(status, self._other.value if name == "resume" else 0)
+        raise MemoryError() if status == NO_MEMORY else LabrunError(f"lab_bay_{name}: status {status}")
 
     # whoever asks
 
     def ask(self, number: int, owner: tuple[int, int], kind: int, sets: Sequence[int], deadline: int, limit: int, now: int) -> None:
         """Refusal: NUMBER, STOPPED, NO_CLASS, EMPTY, MAY_NOT, LINE_FULL, OWNER."""
-        _packs(self._asked, 0, number, owner[0], owner[1], deadline, limit, kind, 0)
         count = len(sets)
-        if count > len(self._sets):
-            self._has_room_for(2 * count)
-        self._sets[:count] = sets
+        if count == 1:
+            self._sets[0] = sets[0]
+        else:
+            self._has_sets(sets)
+        _packs(self._asked, 0, number, owner[0], owner[1], deadline, limit, kind, 0)
         status = self._ask(self._at, self._asked_at, self._sets_at, count, now)
         if status:
-            raise self._why("ask", status, (NUMBER, STOPPED, NO_CLASS, EMPTY, MAY_NOT, LINE_FULL, OWNER))
+            self._finds("ask", status)
 
-    def _has_room_for(self, sets: int) -> None:
-        self._sets: Any = (_LONG * sets)()
+    def holds(self, number: int, kind: int, sets: Sequence[int], deadline: int, now: int, done: int) -> Optional[tuple[int, int]]:
+        """It asks, as an owner of its own, and is told at once that it holds: the serial number of that, and what it holds. None: it is told
+        nothing, or something else, which `tell` tells again. Refusal: as `ask`."""
+        self.ask(number, (1, number), kind, sets, deadline, NEVER, now)
+        if self._tell(self._at, done, self._outcome_at):
+            return None
+        serial, whose, needs, what = _unpacks(self._outcome)
+        return (serial, needs) if whose == number and what == HOLDS else None
+
+    def _has_sets(self, sets: Sequence[int]) -> None:
+        self._sets: Any = (_LONG * max(1, len(sets)))(*sets)
         self._sets_at = ctypes.addressof(self._sets)
 
     def let_go(self, number: int, now: int) -> None:
         """Refusal: NOT_NOW if it waits; OVER."""
-        self._done("let_go", self._calls["let_go"](self._at, number, now), (NOT_NOW, OVER))
+        self._does("let_go", self._at, number, now)
 
     def leave(self, number: int, now: int) -> None:
         status = self._leave(self._at, number, now)
         if status:
-            raise self._why("leave", status, ())
+            self._finds("leave", status)
 
     def take_away(self, number: int, now: int) -> None:
         """Refusal: NOT_NOW if it waits; OVER."""
-        self._done("take_away", self._calls["take_away"](self._at, number, now), (NOT_NOW, OVER))
+        self._does("take_away", self._at, number, now)
 
     def gone(self, number: int, now: int) -> None:
-        self._done("gone", self._calls["gone"](self._at, number, now))
+        self._does("gone", self._at, number, now)
 
     def back(self, number: int, owner: tuple[int, int], now: int) -> int:
         """What it holds. Refusal: OVER, also if the owner isn't the one that asked."""
-        self._done("back", self._calls["back"](self._at, number, *owner, now, self._number_at), (OVER,))
+        self._does("back", self._at, number, *owner, now, self._number_at)
         return self._number.value
 
     def note(self, number: int, text: bytes) -> int:
         """The position up to which the journal has to be durable, so that it is noted. Refusal: NOT_NOW if it doesn't hold or wasn't told
         yet; MAY_NOT for a text that is none."""
-        self._done("note", self._calls["note"](self._at, number, text, len(text), self._number_at), (NOT_NOW, MAY_NOT))
+        self._does("note", self._at, number, text, len(text), self._number_at)
         return self._number.value
 
     # the world outside
 
     def time(self, now: int) -> int:
         """The next moment at which something is due, or NEVER."""
-        status = self._calls["time"](self._at, now, self._number_at)
-        if status:
-            raise self._why("time", status, ())
+        self._does("time", self._at, now, self._number_at)
         return self._number.value
 
     def stop(self, now: int) -> None:
-        self._done("stop", self._calls["stop"](self._at, now))
+        self._does("stop", self._at, now)
 
     def journal(self) -> tuple[bytes, int]:
         """What is to be written, and how long the journal is behind it. The text is handed out once, until `failed`."""
-        written = _SIZE()
         while True:
-            room = ctypes.addressof(self._room), len(self._room)
-            status = self._calls["journal"](self._at, *room, ctypes.addressof(written), self._number_at)
-            if status != NO_ROOM:
-                break
-            self._room = ctypes.create_string_buffer(2 * written.value)
-        self._done("journal", status)
-        return ctypes.string_at(self._room, written.value), self._number.value
+            try:
+                self._does("journal", self._at, ctypes.addressof(self._text), len(self._text), self._other_at, self._number_at)
+                return ctypes.string_at(self._text, self._other.value), self._number.value
+            except Refusal:
+                self._text = ctypes.create_string_buffer(2 * self._other.value)
 
     def durable(self, position: int) -> None:
-        self._done("durable", self._calls["durable"](self._at, position))
+        self._does("durable", self._at, position)
 
     def failed(self) -> None:
-        self._done("failed", self._calls["failed"](self._at))
+        self._does("failed", self._at)
 
     def tell(self, done: int) -> Optional[Told]:
         """What is told next; it is told again until its serial number is given back as `done`. None: there is nothing."""
-        it = self.told(done)
-        return None if it is None else Told(it[0], it[1], it[3], it[2])
-
-    def told(self, done: int) -> Optional[tuple[int, int, int, int]]:
-        """The same in less time: the serial number, the ask's number, what it holds, and what it is told."""
         status = self._tell(self._at, done, self._outcome_at)
-        if not status:
-            serial, number, needs, what = _unpacks(self._outcome)
-            return serial, number, needs, what
-        if status == NOT_NOW:
-            return None
-        raise self._why("tell", status, ())
-
-    def look(self, place: int) -> Optional[Standing]:
-        """The ask at this place of the bay's book, counted from 0; None behind the last."""
-        status = self._calls["look"](self._at, place, self._standing_at, self._number_at)
-        if status == NOT_NOW:
-            return None
-        self._done("look", status)
-        return self._stands()
-
-    def _stands(self) -> Standing:
-        it = self._standing
-        return Standing(it.number, (it.owner[0], it.owner[1]), it.needs, it.since, it.kind, it.what)
+        return None if status and not self._finds("tell", status) else Told(*_unpacks(self._outcome))
 
     def keeper(self, number: int, instrument: int) -> Optional[Standing]:
         """Who keeps this instrument, counted from 0, from the ask with this number, which may just have lapsed: whoever holds it, or else the first in
         line for which it is kept. None: nobody does."""
-        status = self._calls["keeper"](self._at, number, instrument, self._standing_at)
-        if status == NOT_NOW:
-            return None
-        self._done("keeper", status)
-        return self._stands()
+        return self._stands() if self._does("keeper", self._at, number, instrument, self._standing_at) else None
+
+    def _stands(self) -> Standing:
+        number, high, low, *others = _STANDING.unpack(self._standing)
+        return Standing(number, (high, low), *others)
 
     def waits(self, number: int, place: int) -> Optional[tuple[int, int]]:
         """A set that an ask waits for, by its place among its sets, counted from 0, and how often it was passed there. None: there is no such set, or it
         doesn't wait."""
         passed = _WORD()
-        status = self._calls["waits"](self._at, number, place, self._number_at, ctypes.addressof(passed))
-        if status == NOT_NOW:
-            return None
-        self._done("waits", status)
-        return self._number.value, passed.value
+        found = self._does("waits", self._at, number, place, self._number_at, ctypes.addressof(passed))
+        return (self._number.value, passed.value) if found else None
 
     def standings(self) -> list[Standing]:
         """How each ask stands that is in the book, in the order of their numbers."""
         found: list[Standing] = []
-        while (it := self.look(len(found))) is not None:
-            found.append(it)
+        while self._does("look", self._at, len(found), self._standing_at, self._number_at):
+            found.append(self._stands())
         return found
+
+    def addresses(self) -> tuple[int, int, int, int, int]:
+        """The least number of the next ask, and where `struct lab_bay` is and the calls that every session makes: for an extension."""
+        ask, tell, leave = (ctypes.cast(self._calls[name], _PLACE).value or 0 for name in ("ask", "tell", "leave"))  # type: ignore[arg-type]
+        return max(1, self.next_number()), self._at, ask, tell, leave
 
     def next_number(self) -> int:
         """The least number that the next ask may have."""
-        status = self._calls["look"](self._at, 2**63, self._standing_at, self._number_at)
-        if status not in (0, NOT_NOW):
-            self._done("look", status)
+        self._does("look", self._at, 2**63, self._standing_at, self._number_at)
         return self._number.value
+
+
+def _room_for(it: struct.Struct) -> Any:
+    return ctypes.create_string_buffer(it.size)

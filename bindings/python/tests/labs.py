@@ -3,6 +3,7 @@
 from __future__ import annotations
 
 import contextlib
+import gc
 import os
 import tempfile
 import threading
@@ -117,6 +118,17 @@ class OnFile(OnLab):
         real = store.append
         with mock.patch.object(store, "append", lambda text: append(text, real)), mock.patch.object(_shell, "AGAIN", 0.002):
             yield
+
+
+def threads_since(before: set[threading.Thread]) -> set[threading.Thread]:
+    """(Some of those before may end meanwhile.)"""
+    return set(threading.enumerate()) - before
+
+
+def are_gone(before: set[threading.Thread]) -> bool:
+    """(A thread that was at work just now had the lab: so the collector has to come again.)"""
+    gc.collect()
+    return not threads_since(before)
 
 
 def full() -> OSError:

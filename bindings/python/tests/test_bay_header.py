@@ -8,18 +8,15 @@ import unittest
 from labrun import machine
 from tests.test_runs import TOP
 
-STRUCTURES = {
-    "bay": machine._Handle,
-    "class": machine._Class,
-    "terms": machine._Terms,
-    "standing": machine._Standing,
-}
-# Those that are packed by a format.
-FORMATS = {"asked": machine._ASKED.format, "outcome": machine._OUTCOME.format}
-LETTERS = {"uint64_t": "Q", "uint64_t[2]": "QQ", "uint32_t": "I"}
+# The structures, each packed by a format.
+FORMATS = {name: getattr(machine, f"_{name.upper()}") for name in ("class", "terms", "asked", "outcome", "standing")}
+FORMATS["bay"] = machine._HANDLE
+LETTERS = {"uint64_t": "Q", "uint64_t[2]": "QQ", "uint32_t": "I", "uint8_t[32]": "32s", "void *": "Q"}
+# Those whose fields have names in Python, too.
+TUPLES = {"terms": machine.Terms, "standing": machine.Standing, "outcome": machine.Told}
 # What the header calls otherwise.
 CALLED = {"BAY_NUMBER": "NUMBER", "BAY_STOPPED": "STOPPED", "BAY_OWNER": "OWNER", "STOPPED": "WAS_STOPPED"}
-SIZES = {"uint8_t": ctypes.c_ubyte, "uint32_t": ctypes.c_uint32, "uint64_t": ctypes.c_uint64, "size_t": ctypes.c_size_t, "void *": ctypes.c_void_p}
+SIZES = {"uint32_t": ctypes.c_uint32, "uint64_t": ctypes.c_uint64, "size_t": ctypes.c_size_t, "void *": ctypes.c_void_p}
 
 
 def header() -> str:
@@ -33,28 +30,17 @@ def fields_of(body: str) -> list[tuple[str, str]]:
     return [(name, kind + many) for kind, name, many in found]
 
 
-def said(kind: object) -> str:
-    """A type of ctypes as the header has it."""
-    for name, it in SIZES.items():
-        if kind is it:
-            return name
-        for count in (2, 32):
-            if kind == it * count:
-                return f"{name}[{count}]"
-    raise AssertionError(kind)
-
-
 class Header(unittest.TestCase):
     def test_structures(self) -> None:
         there = dict(re.findall(r"struct lab_(\w+) \{(.*?)\};", header(), re.DOTALL))
-        self.assertEqual(set(there), {*STRUCTURES, *FORMATS})
-        for name, structure in STRUCTURES.items():
-            fields: list[tuple[str, object]] = [(it[0], it[1]) for it in structure._fields_]
-            self.assertEqual([(field, said(kind)) for field, kind in fields], fields_of(there[name]), name)
+        self.assertEqual(set(there), set(FORMATS))
         for name, packed in FORMATS.items():
-            letters = "".join(LETTERS[kind] for _, kind in fields_of(there[name]))
+            fields = fields_of(there[name])
+            letters = "".join(LETTERS[kind] for _, kind in fields)
             # (what isn't used is last, and is left out of what is read)
-            self.assertIn(packed, ("=" + letters, f"={letters[:-1]}4x"), name)
+            self.assertIn(packed.format, ("=" + letters, f"={letters[:-1]}4x"), name)
+            if name in TUPLES:
+                self.assertEqual(list(TUPLES[name]._fields), [it for it, _ in fields if it != "unused"], name)
 
     def test_numbers(self) -> None:
         """Each status, and each thing that an ask is told."""

@@ -192,7 +192,7 @@ class Holding(OnLab):
         """The clock is read in whole milliseconds: one of 50 that begins at 10.9 isn't over at 60.5."""
         clock = mock.Mock(monotonic_ns=lambda: nanoseconds[0])
         nanoseconds = [10900000]
-        with mock.patch.object(_shell, "time", clock), mock.patch.object(_shell, "starts", lambda work: None):
+        with mock.patch.object(_shell, "time", clock), mock.patch.object(_shell, "starts", lambda *given: None):
             lab = self.lab()
             first, late = self.held(lab, "", "scope"), lab.hold("scope", timeout=0.05)
             faults: list[BaseException] = []
@@ -210,7 +210,7 @@ class Holding(OnLab):
         clock = mock.Mock(monotonic_ns=lambda: nanoseconds[0])
         nanoseconds = [0]
         for is_asked in (True, False):
-            with mock.patch.object(_shell, "time", clock), mock.patch.object(_shell, "starts", lambda work: None):
+            with mock.patch.object(_shell, "time", clock), mock.patch.object(_shell, "starts", lambda *given: None):
                 lab, faults = self.lab(), []  # type: ignore[var-annotated]
                 first, other, late = self.held(lab, "", "scope"), self.held(lab, "", "supply"), lab.hold("scope", timeout=0.05)
                 thread = self.waits(late, faults)
@@ -289,7 +289,7 @@ class Holding(OnLab):
             self.assertEqual(held.instruments, ("supply", "load-2"))
         self.is_empty(lab)
 
-    def test_chain(self) -> None:
+    def test_chain_of_guests(self) -> None:
         """Whoever is kept from an instrument by one that waits itself is told to the end of the chain."""
         lab = self.lab(overtakes=0)
         holder, between = self.held(lab, "", "scope"), lab.hold("scope", "supply")

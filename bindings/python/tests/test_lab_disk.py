@@ -2,6 +2,7 @@
 
 from __future__ import annotations
 
+import asyncio
 import contextlib
 import os
 import random
@@ -86,6 +87,15 @@ class Failing(OnFile):
         with lab.hold("scope"):
             pass
         self.assertIn(["end", f"{held.number:016x}", "taken_away"], [it[:3] for it in self.words()])
+
+    def test_take_away_async(self) -> None:
+        lab = self.opened()
+        held = self.held(lab, "", "scope")
+        with self.disk(lab, self.fails), self.assertRaisesRegex(labrun.JournalError, "a write failed"):
+            asyncio.run(lab.take_away_async(held))
+        self.assertEqual(held.state, "taken")
+        with lab.hold("scope"):
+            pass
 
     def test_each_write(self) -> None:
         """Each write in turn fails, once: all come to their ends, and the file is whole."""

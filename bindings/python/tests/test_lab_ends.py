@@ -2,7 +2,6 @@
 
 from __future__ import annotations
 
-import gc
 import os
 import random
 import signal
@@ -13,7 +12,7 @@ import weakref
 from typing import Any, Callable
 
 import labrun
-from tests.labs import NAMES, Counting, OnLab
+from tests.labs import NAMES, Counting, OnLab, are_gone, threads_since
 from tests.test_bench import LIMIT, back, in_thread, until
 
 
@@ -186,16 +185,18 @@ class Ends(OnLab):
         self.assertEqual(lab.sessions(), ())
 
     def test_left_behind(self) -> None:
-        """A lab without a time limit has no thread, and goes when nobody has it."""
-        count = threading.active_count()
-        lab = labrun.Lab(["x"])
-        with lab.hold("x"):
-            pass
-        self.assertEqual(threading.active_count(), count)
-        seen = weakref.ref(lab)
-        del lab
-        gc.collect()
-        self.assertIsNone(seen())
+        """A lab without a time limit has no thread, and goes when nobody has it; so does one with, and its thread."""
+        before = set(threading.enumerate())
+        for has_timer in (False, True):
+            lab = labrun.Lab(["x"])
+            with lab.hold("x"):
+                if has_timer:
+                    self.in_vain(lab.hold("x", timeout=0.001), "x is held")
+            self.assertEqual(len(threads_since(before)), has_timer)
+            seen = weakref.ref(lab), weakref.ref(lab._shell)
+            del lab
+            until(lambda: are_gone(before))
+            self.assertEqual([it() for it in seen], [None, None])
 
 
 class Loads(OnLab):

@@ -3,6 +3,7 @@
 from __future__ import annotations
 
 import functools
+import gc
 import random
 import tempfile
 import unittest
@@ -11,7 +12,7 @@ from typing import Any, Callable, Optional
 from unittest import mock
 
 import labrun
-from labrun import _held, _shell
+from labrun import _held, _quick, _shell, _sleep
 from tests import gates
 from tests.gates import Gates, Stuck
 from tests.labs import Counting
@@ -19,7 +20,7 @@ from tests.test_bench import LIMIT
 
 RING = {"a": ["x", "y"], "b": ["y", "z"], "c": ["z", "x"]}
 EITHER = {name: ["x", "y"] for name in "abc"}
-FILES = (_shell.__file__, _held.__file__)
+FILES = tuple(it.__file__ for it in (_shell, _held, _quick, _sleep))
 
 Pick = Callable[[int, int, list[int]], int]
 Once = Callable[[labrun.Lab, str, Counting], None]
@@ -66,23 +67,28 @@ class Gated(unittest.TestCase):
         behind."""
         counting = Counting()
 
-        patches = [mock.patch.object(gates, "FILES", FILES), mock.patch.object(_shell, "starts", lambda work: None)]
+        patches = [mock.patch.object(gates, "FILES", FILES), mock.patch.object(_shell, "starts", lambda *given: None)]
         patches.append(mock.patch.object(_shell, "time", Clock()))
-        patches += [mock.patch.object(_shell, name, at.lock) for name in ("_new_lock", "_new_mutex")]
+        patches.append(mock.patch.object(_shell, "_new_quick", _quick.Quick))
+        patches += [mock.patch.object(_sleep, "_new_lock", at.lock), mock.patch.object(_shell, "_new_mutex", at.lock)]
         for patch in patches:
             patch.start()
+        # (the end of an earlier lab isn't to come within this one)
+        gc.collect()
+        gc.disable()
         try:
             lab = labrun.Lab(["x", "y", "z"], stations=jobs, overtakes=overtakes, **given)
             works: list[Callable[[], None]] = [functools.partial(self.works, lab, name, counting, once) for name in jobs]
             at.run(works + ([lambda: more(lab)] if more else []), LIMIT)
             self.assertEqual(counting.clashes, 0, at.where)
             shell = lab._shell
-            left = shell._askers, shell._busy, shell._timed, list(shell._left), shell._on_disk
-            self.assertEqual(left, ({}, set(), set(), [], set()), at.where)
+            left = shell.askers, shell._busy, list(shell._left), shell._on_disk
+            self.assertEqual(left, ({}, set(), [], set()), at.where)
             shell.mutex = _shell.threading.RLock()
             self.assertEqual(lab.sessions(), (), at.where)
             lab.close()
         finally:
+            gc.enable()
             for patch in patches:
                 patch.stop()
 

@@ -2,6 +2,8 @@
 
 from __future__ import annotations
 
+import gc
+import itertools
 import os
 import signal
 import subprocess
@@ -13,7 +15,7 @@ from typing import Any, Callable
 from unittest import mock
 
 import labrun
-from tests.labs import NAMES, STATIONS, OnFile
+from tests.labs import NAMES, STATIONS, OnFile, are_gone, full, threads_since
 from tests.test_bench import LIMIT, back, child, in_thread, until
 
 # holds, notes and lets go, and says so once it was told; of another process its calls for the file are counted, and at one it is killed
@@ -242,6 +244,45 @@ class ComesBack(OnFile):
         begun = time.process_time()
         time.sleep(0.4)
         self.assertLess(time.process_time() - begun, 0.1)
+
+    def test_left_behind(self) -> None:
+        """A lab that was dropped without `close` leaves no thread. What was told is in its file, which another may have by then."""
+        before = set(threading.enumerate())
+        for syncs, more in itertools.product(("data", "none"), ({}, {"timeout": LIMIT})):
+            # (`opened` would keep it until the end of the test)
+            lab = labrun.Lab(NAMES, journal=self.path, sync=syncs)
+            with lab.hold("supply", **more), lab.hold("load-1", note="one"):
+                self.assertEqual(len(threads_since(before)), 1 + bool(more))
+            held = self.held(lab, "", "scope", note="two", **more)
+            number = held.number
+            del lab, held
+            until(lambda: are_gone(before))
+            lab = labrun.Lab(NAMES, journal=self.path)
+            self.assertEqual([(it.number, it.instruments, it.notes) for it in lab.resumed], [(number, ("scope",), ("two",))])
+            lab.close()
+            os.remove(self.path)
+
+    def test_left_behind_on_a_full_disk(self) -> None:
+        """What whoever let go was told comes as soon as there is room comes, though nobody has the lab by then."""
+        before, is_full = set(threading.enumerate()), [True]
+
+        def append(text: bytes, real: Callable[[bytes], None]) -> None:
+            if is_full[0]:
+                raise full()
+            real(text)
+
+        lab = labrun.Lab(NAMES, journal=self.path)
+        held = self.held(lab, "", "scope")
+        with self.disk(lab, append):
+            with self.assertRaises(labrun.JournalError):
+                held.release()
+            del lab, held
+            gc.collect()
+            self.assertEqual(len(threads_since(before)), 1)
+            is_full[0] = False
+            until(lambda: b" end " in self.text())
+        until(lambda: are_gone(before))
+        self.assertEqual(labrun.Lab(NAMES, journal=self.path).resumed, ())
 
     def test_changed(self) -> None:
         """A byte that was changed is refused, and the line is told."""

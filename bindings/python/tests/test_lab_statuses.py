@@ -7,9 +7,10 @@ import os
 import tempfile
 import unittest
 from typing import Any, Callable, Iterator
+from unittest import mock
 
 import labrun
-from labrun import machine
+from labrun import _quick, _shell, machine
 from tests.test_bench import LIMIT, back, in_thread, until
 
 # 7 not open, 8 not now, 13 another call is under way, 26 over, 99 none that there is
@@ -37,6 +38,10 @@ class Statuses(unittest.TestCase):
         before = dict(machine._loaded)
         machine._loaded[labrun.library_path()] = self.calls
         self.addCleanup(machine._loaded.update, before or {labrun.library_path(): real})
+        # (the extension has the library's own calls)
+        python = mock.patch.object(_shell, "_new_quick", _quick.Quick)
+        python.start()
+        self.addCleanup(python.stop)
         folder = tempfile.TemporaryDirectory()
         self.addCleanup(folder.cleanup)
         self.folder = folder.name

@@ -5,8 +5,10 @@ from __future__ import annotations
 import asyncio
 import random
 import tempfile
+import threading
 import unittest
 from typing import Any, Callable, Coroutine
+from unittest import mock
 
 import labrun
 from tests.labs import Counting, OnLab
@@ -182,6 +184,46 @@ class Tasks(OnLab):
                     self.assertEqual(held.state, "taken")
 
         self.runs(main)
+
+    def test_take_away(self) -> None:
+        """It waits for the disk as a task, and what isn't held is refused."""
+
+        async def main(lab: labrun.Lab) -> None:
+            with self.assertRaisesRegex(labrun.TakenAway, "was taken away: scope"):
+                async with lab.hold("scope") as held:
+                    task = asyncio.ensure_future(self.once(lab, "scope"))
+                    await self.waiting(lab)
+                    self.assertEqual(await lab.take_away_async(held.number), ("scope",))
+                    self.assertEqual(held.state, "taken")
+                    self.assertEqual(await task, ("scope",))
+            with self.assertRaisesRegex(labrun.NotHeld, "is over, or never was"):
+                await lab.take_away_async(held)
+
+        self.runs(main)
+
+    def test_take_away_cancelled(self) -> None:
+        """The session is ended all the same."""
+        goes_on = threading.Event()
+
+        async def main(lab: labrun.Lab) -> None:
+            held = lab.hold("scope")
+            await held.acquire_async()
+            store = lab._shell._store
+            real = store.append
+            with mock.patch.object(store, "append", lambda text: goes_on.wait(LIMIT) and real(text)):
+                task = asyncio.ensure_future(lab.take_away_async(held))
+                await asyncio.sleep(0.01)
+                self.assertFalse(task.done())
+                task.cancel()
+                with self.assertRaises(asyncio.CancelledError):
+                    await task
+                goes_on.set()
+            self.assertEqual((held.state, await self.once(lab, "scope")), ("taken", ("scope",)))
+
+        with tempfile.TemporaryDirectory() as folder:
+            lab = self.lab(journal=f"{folder}/bay.journal", sync="none")
+            asyncio.run(main(lab))
+            self.assertEqual(lab.sessions(), ())
 
     def test_stopped(self) -> None:
         async def main(lab: labrun.Lab) -> None:

@@ -1,0 +1,148 @@
+"""The small client of `hold`: it begins soon, and the whole one takes over wherever it has to."""
+
+import os
+import signal
+import subprocess
+import sys
+import time
+import unittest
+from unittest import mock
+
+from labrun_broker.command import main
+from labrun_broker.quick import HELD, Odd, Wire, _field, _fields, _number, _text
+from tests.brokers import BAY, LIMIT, Broker, OnBroker, station, until
+
+RELEASES = BAY.replace('bay = "north"', 'bay = "north"\ngone = "release"')
+
+
+class Quick(OnBroker):
+    def state(self, broker: Broker, name: str = "guest-1") -> str:
+        with broker.lab() as lab:
+            return str(station(lab, name)["state"])
+
+    def records(self, broker: Broker) -> list[str]:
+        with open(f"{broker.folder}/state/records.jsonl", encoding="utf-8") as file:
+            return [line.partition('"what":"')[2].partition('"')[0] for line in file]
+
+    def holds(self, broker: Broker, script: str) -> "subprocess.Popen[str]":
+        """A hold whose command has begun, and goes on once `go` is there."""
+        runs = broker.started("hold", "scope", "--", "sh", "-c", f"echo runs; while ! [ -e {broker.folder}/go ]; do sleep 0.05; done; {script}")
+        self.addCleanup(runs.kill)
+        assert runs.stdout is not None
+        self.assertEqual(runs.stdout.readline(), "runs\n")
+        return runs
+
+    def ends(self, broker: Broker, runs: "subprocess.Popen[str]", status: int) -> str:
+        with open(f"{broker.folder}/go", "w", encoding="utf-8"):
+            pass
+        out, said = runs.communicate(timeout=LIMIT)
+        self.assertEqual(runs.returncode, status, out + said)
+        return said
+
+    def test_it_imports_nothing_of_the_whole_client(self) -> None:
+        broker = self.broker()
+        words = [sys.executable, "-X", "importtime", "-m", "labrun_broker", "hold", "scope", "--", "true"]
+        done = subprocess.run(words, env={**os.environ, "LABRUN_BROKER": broker.address}, capture_output=True, text=True, timeout=LIMIT)
+        self.assertEqual(done.returncode, 0)
+        modules = {line.rpartition("|")[2].strip() for line in done.stderr.splitlines() if line.startswith("import time:")}
+        self.assertIn("labrun_broker.quick", modules)
+        heavy = {"grpc", "google.protobuf", "asyncio", "labrun", "ctypes", "tomllib", "dataclasses", "ssl", "labrun_broker.client", "labrun_broker.serve"}
+        self.assertEqual(modules & heavy, set())
+
+    def test_a_broker_that_is_killed_while_the_command_runs(self) -> None:
+        for bay, number in ((BAY, signal.SIGKILL), (BAY, signal.SIGTERM), (RELEASES, signal.SIGKILL)):
+            with self.subTest(bay, number=number):
+                broker = self.broker(bay, "--state", "FOLDER/state")
+                runs = self.holds(broker, "exit 5")
+                broker.end(number)
+                broker.begin()
+                until(lambda: self.state(broker) == "holding", "that it is back")
+                self.ends(broker, runs, 5)
+                self.assertEqual(self.state(broker), "idle")
+                self.assertEqual(self.records(broker)[-2:], ["back", "failed"])
+
+    def test_a_broker_that_is_killed_while_it_waits(self) -> None:
+        broker = self.broker(BAY, "--state", "FOLDER/state")
+        first = self.holds(broker, "exit 0")
+        second = broker.started("hold", "scope", "--", "echo", "ran")
+        until(lambda: self.state(broker, "guest-2") == "waiting")
+        broker.kill()
+        broker.begin()
+        until(lambda: self.state(broker) == "holding" and self.state(broker, "guest-2") == "waiting", "that both are back")
+        self.ends(broker, first, 0)
+        self.assertEqual((second.communicate(timeout=LIMIT)[0], second.returncode), ("ran\n", 0))
+
+    def test_where_it_has_to_say_that_it_is_there(self) -> None:
+        """With `gone = "release"` it holds for longer than the grace; and while the broker doesn't answer its command is ended in time."""
+        broker = self.broker(RELEASES, "--state", "FOLDER/state", "--grace", "3")
+        runs = self.holds(broker, "exit 0")
+        time.sleep(5)
+        self.assertEqual((self.state(broker), set(self.records(broker)) & {"taken", "failed", "let_go"}), ("holding", set()))
+        self.ends(broker, runs, 0)
+        os.unlink(f"{broker.folder}/go")
+        runs = self.holds(broker, "exit 0")
+        assert broker.process is not None
+        broker.process.send_signal(signal.SIGSTOP)
+        try:
+            self.assertEqual(runs.wait(LIMIT), 76)
+            self.assertIn("the broker hasn't answered for 2.25 s", runs.communicate()[1])
+        finally:
+            broker.process.send_signal(signal.SIGCONT)
+
+    def test_one_whose_time_is_over_has_asked_once(self) -> None:
+        broker = self.broker(BAY, "--state", "FOLDER/state")
+        runs = self.holds(broker, "exit 0")
+        self.assertEqual(broker.ran("hold", "scope", "--timeout", "0.3", "--", "true").returncode, 75)
+        self.assertEqual(self.records(broker), ["opened", "asked", "held", "asked", "gave_up"])
+        self.ends(broker, runs, 0)
+
+    def test_a_signal_as_it_comes_to_hold(self) -> None:
+        """However early or late it comes, nothing is held afterwards."""
+        broker = self.broker()
+        with broker.lab() as lab:
+            for number in range(12):
+                runs = broker.started("hold", "scope", "--", "sleep", "60")
+                until(lambda: any(it["state"] != "idle" for it in lab.status()["stations"]))
+                time.sleep(number * 0.002)
+                runs.terminate()
+                runs.communicate(timeout=LIMIT)
+                self.assertEqual(runs.returncode, 143)
+                until(lambda: all(it["state"] == "idle" for it in lab.status()["stations"]), "that all are idle")
+
+    def test_a_cut_before_it_is_told(self) -> None:
+        """The broker's word that it holds is lost: the whole client has the same session, and lets go of it."""
+        broker, told = self.broker(BAY, "--state", "FOLDER/state"), Wire.told
+
+        def is_cut(wire: Wire) -> object:
+            it = told(wire)
+            if it[0] == HELD:
+                raise Odd
+            return it
+
+        with mock.patch.object(Wire, "told", is_cut):
+            self.assertEqual(main(["hold", "scope", "--broker", broker.address, "--", "true"]), 0)
+        self.assertEqual(self.state(broker), "idle")
+        self.assertEqual([it for it in self.records(broker) if it not in ("gone", "back")], ["opened", "asked", "held", "let_go"])
+
+    def test_what_is_refused(self) -> None:
+        broker = self.broker(BAY + "[limits]\nclients = 1\n")
+        done = broker.ran("hold", "scope", "--by", "x" * 30000, "--", "true")
+        self.assertEqual((done.returncode, done.stderr), (1, "labrun-broker: a name of 30000 characters; 64 are the most\n"))
+        runs = self.holds(broker, "exit 0")
+        done = broker.ran("hold", "supply", "--", "true")
+        self.assertEqual(done.returncode, 69)
+        self.assertIn("doesn't let this client in: 1 clients are here, and no more may come", done.stderr)
+        self.ends(broker, runs, 0)
+
+
+class Numbers(unittest.TestCase):
+    def test_protobuf(self) -> None:
+        """By the encoding's own examples: 150 is 96 01, and field 2 with `testing` is 12 07 and its letters."""
+        self.assertEqual((_number(150), _number(1), _number(300)), (b"\x96\x01", b"\x01", b"\xac\x02"))
+        self.assertEqual(_text(2, "testing"), b"\x12\x07testing")
+        told = b"\x08\x96\x01" + _text(2, "testing") + _field(2, b"") + b"\x19" + bytes(8)
+        self.assertEqual(_fields(told), {1: [150], 2: [b"testing", b""], 3: [bytes(8)]})
+
+
+if __name__ == "__main__":
+    unittest.main()

@@ -1,0 +1,59 @@
+"""The broker over a machine that isn't the library's, as `./preview broker` has it: its own tests, once more."""
+
+import os
+import sys
+import unittest
+from unittest import mock
+
+from tests import test_keeping, test_state, test_written
+from tests.brokers import TOP
+
+BAY = os.path.join(TOP, "bench", "bay")
+
+
+class Simulated(unittest.IsolatedAsyncioTestCase):
+    """Before each test the machine is the model."""
+
+    def setUp(self) -> None:
+        super().setUp()
+        with mock.patch.object(sys, "path", [BAY, *sys.path]):
+            import simulated
+        self.enterContext(mock.patch("labrun_broker.opening.Machine", simulated.Machine))
+
+
+class Calls(Simulated):
+    def test_each_call_is_there(self) -> None:
+        import labrun.machine
+        import labrun_broker.opening
+
+        calls = {name for name, it in vars(labrun.machine.Machine).items() if not name.startswith("_")}
+        self.assertEqual(calls - set(vars(labrun_broker.opening.Machine)), set())
+
+
+class Sessions(Simulated, test_keeping.Sessions):
+    # (the model is slow where many wait)
+    test_a_status_holds_up_nobody = None
+
+
+class Gone(Simulated, test_keeping.Gone):
+    # (it looks twice within a tenth of a second)
+    test_released_after_the_grace = None
+
+
+class Chance(Simulated, test_keeping.Chance): ...
+
+
+class OnDisk(Simulated, test_written.OnDisk): ...
+
+
+class FullDisk(Simulated, test_written.FullDisk): ...
+
+
+class TakenUp(Simulated, test_state.TakenUp): ...
+
+
+class Damaged(Simulated, test_state.Damaged): ...
+
+
+if __name__ == "__main__":
+    unittest.main()

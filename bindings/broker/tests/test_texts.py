@@ -1,0 +1,68 @@
+"""What is told to whoever isn't let in: each in one line, and what to do."""
+
+import os
+import shlex
+import shutil
+import subprocess
+import tempfile
+import unittest
+
+from tests.brokers import BAY, COMMAND, LIMIT, OnBroker, free_port
+
+
+@unittest.skipUnless(shutil.which("openssl"), "there is no openssl")
+class Network(OnBroker):
+    def setUp(self) -> None:
+        self.folder = self.enterContext(tempfile.TemporaryDirectory())
+        for name in ("one", "other"):
+            words = ["openssl", "req", "-x509", "-newkey", "ec", "-pkeyopt", "ec_paramgen_curve:prime256v1", "-nodes", "-days", "2", "-subj", "/CN=localhost"]
+            words += ["-addext", "subjectAltName=DNS:localhost", "-keyout", f"{self.folder}/{name}.key", "-out", f"{self.folder}/{name}"]
+            subprocess.run(words, check=True, stderr=subprocess.DEVNULL)
+        for name in ("token", "wrong"):
+            with open(os.open(f"{self.folder}/{name}", os.O_WRONLY | os.O_CREAT, 0o600), "w", encoding="ascii") as file:
+                file.write(name * 8)
+
+    def test_who_isnt_let_in(self) -> None:
+        safe, plain = free_port(), free_port()
+        tls = ("--tls-certificate", f"{self.folder}/one", "--tls-key", f"{self.folder}/one.key", "--token-file", f"{self.folder}/token")
+        broker = self.broker(BAY, "--listen", f"localhost:{safe}", *tls)
+        self.broker(BAY, "--listen", f"localhost:{plain}")
+        rows = (
+            (safe, "localhost", [], "can't be reached: it closed the connection (a broker with TLS wants --certificate FILE)"),
+            (safe, "localhost", ["one"], "doesn't let this client in: this broker asks for its token: give its file by --token-file"),
+            (safe, "localhost", ["one", "wrong"], "doesn't let this client in: this isn't its token"),
+            (safe, "127.0.0.1", ["one", "token"], "can't be reached: its certificate is for another name: call it by that"),
+            (safe, "localhost", ["other", "token"], "can't be reached: it has another certificate than --certificate says"),
+            (plain, "localhost", ["one"], "can't be reached: it has no TLS: come without --certificate"),
+        )
+        for port, host, files, said in rows:
+            options = [it for option, name in zip(("--certificate", "--token-file"), files) for it in (option, f"{self.folder}/{name}")]
+            for words in (["hold", "scope", "-n", *options, "--broker", f"{host}:{port}", "--", "true"], ["status", *options, "--broker", f"{host}:{port}"]):
+                with self.subTest(words):
+                    done = broker.ran(*words)
+                    self.assertEqual((done.returncode, done.stderr), (69, f"labrun-broker: the broker at {host}:{port} {said}\n"))
+
+    def test_a_key_of_another_certificate(self) -> None:
+        words = ["--tls-certificate", f"{self.folder}/one", "--tls-key", f"{self.folder}/other.key", "--token-file", f"{self.folder}/token"]
+        with open(f"{self.folder}/bay.toml", "w", encoding="utf-8") as file:
+            file.write(BAY)
+        done = subprocess.run([*COMMAND, "serve", file.name, "--listen", f"localhost:{free_port()}", *words], capture_output=True, text=True, timeout=LIMIT)
+        self.assertEqual((done.returncode, len(done.stderr.splitlines())), (78, 1), done.stderr)
+        self.assertIn("are no certificate and its key", done.stderr)
+
+
+@unittest.skipUnless(os.geteuid() == 0 and shutil.which("su"), "only root can be somebody else")
+class OfAnotherGroup(OnBroker):
+    def test_who_may_not_use_the_socket(self) -> None:
+        broker = self.broker()
+        os.chmod(broker.folder, 0o755)
+        given = {"PYTHONPATH": ":".join(map(os.path.abspath, os.environ["PYTHONPATH"].split(":"))), "LABRUN_BROKER": broker.address}
+        for words in (["hold", "scope", "--", "true"], ["status"]):
+            script = shlex.join(["env", *(f"{name}={it}" for name, it in given.items()), *COMMAND, *words])
+            done = subprocess.run(["su", "-s", "/bin/sh", "nobody", "-c", script], capture_output=True, text=True, timeout=LIMIT)
+            why = "permission denied (who may use it is in the group root)"
+            self.assertEqual(done.stderr, f"labrun-broker: the broker at {broker.address} can't be reached: {why}\n")
+
+
+if __name__ == "__main__":
+    unittest.main()

@@ -1,0 +1,110 @@
+"""Wrong brokers, each of which a test has to see.
+
+usage: python3 -m tests.wrong [NAME ..]      all of them, if none is named; run in bindings/broker
+
+Each is the package with a few lines turned. The test that is named beside it has to fail with them; with the package as it is it passes, as
+`python3 -m unittest` shows."""
+
+from __future__ import annotations
+
+import os
+import shutil
+import subprocess
+import sys
+import tempfile
+from typing import NamedTuple
+
+from tests.brokers import TOP
+
+
+class Wrong(NamedTuple):
+    test: str
+    file: str
+    edits: tuple[tuple[str, str], ...]
+
+
+WRONG = {
+    "a client's deadline counted from when it notices the cut": Wrong(
+        "test_cuts.Programs.test_its_program_is_told_before_another_holds",
+        "held.py",
+        (
+            ("self._until = math.inf if self._lease is None else sent + self._lease", "self._until = math.inf"),
+            (
+                "        if self.state == \"held\" and self._returns is None and not self.lab._has_left:\n",
+                "        if self.state == \"held\" and self._returns is None and not self.lab._has_left:\n            self._until = clock() + (self._lease or math.inf)\n",
+            ),
+        ),
+    ),
+    "a client's deadline counted from when it is answered": Wrong(
+        "test_cuts.Deadlines.test_from_what_was_sent", "held.py", (("self._until = max(self._until, sent + self._lease)", "self._until = clock() + self._lease"),)
+    ),
+    "a grace that ends before the client's deadline": Wrong(
+        "test_cuts.Programs.test_its_program_is_told_before_another_holds", "leases.py", (("LEASE, SILENT = 0.75, 1 / 3", "LEASE, SILENT = 1.5, 1 / 3"),)
+    ),
+    "a let-go answered and not written": Wrong(
+        "test_written.OnDisk.test_a_let_go_is_written_before_it_is_answered",
+        "keeping.py",
+        (("self._ends.add(session.key)\n        self._shell.pump()\n", "self._ends.add(session.key)\n        asyncio.get_running_loop().call_later(0.1, self._shell.pump)\n"),),
+    ),
+    "a hold told before its line is on the disk": Wrong(
+        "test_disk.Disks.test_nobody_is_told_before_it_is_durable",
+        "shell.py",
+        (("            self._written = position\n", "            self._written = position\n            self.machine.durable(position)\n"),),
+    ),
+    "a record without its end": Wrong(
+        "test_written.Records.test_killed_behind_the_journals_line", "mending.py", (("if it.how and it.number not in over:", "if it.how == \"left\":"),)
+    ),
+    "an end without its record": Wrong(
+        "test_keeping.Sessions.test_one_after_another", "keeping.py", (("        self._record(what, session, text=text, after=self._span(session))\n", ""),)
+    ),
+    "a ticket of another": Wrong(
+        "test_keeping.Gone.test_a_ticket_of_another",
+        "keeping.py",
+        (("while (session := self._by_key.get(key)) is not None:", "while (session := self._by_key.get(key) or next(iter(self._by_key.values()), None)) is not None:"),),
+    ),
+    "a release of whatever the station holds by now": Wrong(
+        "test_keeping.Gone.test_released_by_an_operator", "keeping.py", (("if number and session.number != number:", "if number and session.number < number:"),)
+    ),
+    "one that waits is told once": Wrong("test_service.Clients.test_for_whom_one_waits", "service.py", ((" or now > said_at + AGAIN", ""),)),
+    "one that waits isn't told that the client is gone": Wrong("test_service.Clients.test_whose_client_is_gone", "standing.py", ((", why.count(GONE))", ")"),)),
+}
+
+
+def seen(it: Wrong) -> str:
+    """Nothing if the test sees it, or why not."""
+    here = f"{TOP}/bindings/broker"
+    with tempfile.TemporaryDirectory() as top:
+        os.makedirs(f"{top}/bindings")
+        for name in ("examples", "bindings/python"):
+            os.symlink(f"{TOP}/{name}", f"{top}/{name}")
+        for name in ("labrun_broker", "tests"):
+            shutil.copytree(f"{here}/{name}", f"{top}/bindings/broker/{name}", ignore=shutil.ignore_patterns("__pycache__"))
+        path = f"{top}/bindings/broker/labrun_broker/{it.file}"
+        with open(path, encoding="utf-8") as file:
+            text = file.read()
+        for old, new in it.edits:
+            if text.count(old) != 1:
+                return f"{it.file} doesn't have this just once: {old}"
+            text = text.replace(old, new)
+        with open(path, "w", encoding="utf-8") as file:
+            file.write(text)
+        environment = {**os.environ, "PYTHONPATH": f"{top}/bindings/broker:{top}/bindings/python", "PYTHONDONTWRITEBYTECODE": "1"}
+        words = [sys.executable, "-m", "unittest", f"tests.{it.test}"]
+        done = subprocess.run(words, cwd=f"{top}/bindings/broker", env=environment, capture_output=True, text=True, timeout=300)
+        last = done.stderr.rstrip().rpartition("\n")[2]
+        return "" if last.startswith("FAILED") and "ImportError" not in done.stderr and "AttributeError" not in done.stderr else f"{it.test}: {last}"
+
+
+def main() -> int:
+    names = sys.argv[1:] or list(WRONG)
+    wrong = 0
+    for name in names:
+        why = seen(WRONG[name])
+        wrong += bool(why)
+        print(f"{name}: " + (f"NOT SEEN by {why}" if why else f"seen by {WRONG[name].test}"), flush=True)
+    print(f"{len(names) - wrong} seen, {wrong} not")
+    return bool(wrong)
+
+
+if __name__ == "__main__":
+    sys.exit(main())
