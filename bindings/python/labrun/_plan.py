@@ -2,11 +2,11 @@
 
 from __future__ import annotations
 
-import ctypes
+from ctypes import byref, c_size_t, create_string_buffer
 from dataclasses import dataclass
-from typing import Any, NamedTuple, Optional
+from typing import Callable, NamedTuple, Optional
 
-from ._library import Calls, Planned, SessionOf, Size, State, called, done
+from ._library import Planned, SessionOf, Size, State
 
 VERBS = ("set", "add", "read")
 
@@ -29,57 +29,34 @@ class Plan(NamedTuple):
 
 
 class Plans:
-    """Of an open bench: the names of its `jobs` and `instruments`, in their order, and the `sessions` of each job."""
+    """Of an open bench, by the calls on it: the names of its `jobs` and `instruments`, in their order, and the `sessions` of each job."""
 
-    def __init__(self, calls: Calls, at: Any) -> None:
-        self._calls, self._at = calls, at
-        size = Size()
-        called(calls, "lab_bench_size", at, ctypes.byref(size))
-        self.instruments = tuple(self._name("lab_instrument_name", number) for number in range(size.instruments))
-        self.jobs = tuple(self._name("lab_job_name", number) for number in range(size.jobs))
-        # (most sessions and commands of a script are as others of it: each is made once)
-        self._sets: dict[int, tuple[str, ...]] = {}
-        self._commands: dict[tuple[int, int, int], Command] = {}
-        self._what, self._planned = SessionOf(), Planned()
-        self._of_session, self._of_command = calls["lab_session_of"], calls["lab_planned"]
+    def __init__(self, call: Callable[..., bool]) -> None:
+        self._call, size = call, Size()
+        call("lab_bench_size", byref(size))
+        self.instruments = tuple(self._name("lab_instrument_name", at) for at in range(size.instruments))
+        self.jobs = tuple(self._name("lab_job_name", job) for job in range(size.jobs))
         self.sessions = [self._of_job(job) for job in range(size.jobs)]
 
     def _name(self, call: str, number: int) -> str:
-        name, written = ctypes.create_string_buffer(16), ctypes.c_size_t()
-        called(self._calls, call, self._at, number, name, 16, ctypes.byref(written))
+        name, written = create_string_buffer(16), c_size_t()
+        self._call(call, number, name, 16, byref(written))
         return name.raw[: written.value].decode("ascii")
 
     def _of_job(self, job: int) -> list[Plan]:
         state = State()
-        called(self._calls, "lab_state", self._at, job, ctypes.byref(state))
+        self._call("lab_state", job, byref(state))
         return [self._session(job, number) for number in range(1, state.sessions + 1)]
 
     def _session(self, job: int, number: int) -> Plan:
-        what = self._what
-        done("lab_session_of", self._of_session, self._at, job, number, ctypes.byref(what))
+        what = SessionOf()
+        self._call("lab_session_of", job, number, byref(what))
+        names = tuple(name for at, name in enumerate(self.instruments) if what.needs >> at & 1)
         commands = tuple(self._command(job, number, place) for place in range(what.commands))
-        return Plan(self._set(what.needs), commands, what.patience if what.has_patience else None)
-
-    def _set(self, needs: int) -> tuple[str, ...]:
-        if needs not in self._sets:
-            self._sets[needs] = tuple(self.instruments[at] for at in members(needs))
-        return self._sets[needs]
+        return Plan(names, commands, what.patience if what.has_patience else None)
 
     def _command(self, job: int, number: int, place: int) -> Command:
-        it = self._planned
-        done("lab_planned", self._of_command, self._at, job, number, place, ctypes.byref(it))
-        key = it.instrument, it.verb, it.number
-        if key not in self._commands:
-            verb = VERBS[it.verb]
-            self._commands[key] = Command(self.instruments[it.instrument], verb, None if verb == "read" else it.number)
-        return self._commands[key]
-
-
-def members(numbers: int) -> list[int]:
-    """The members of a set of bits, lowest first."""
-    found = []
-    while numbers:
-        bit = numbers & -numbers
-        numbers ^= bit
-        found.append(bit.bit_length() - 1)
-    return found
+        it = Planned()
+        self._call("lab_planned", job, number, place, byref(it))
+        verb = VERBS[it.verb]
+        return Command(self.instruments[it.instrument], verb, None if verb == "read" else it.number)

@@ -7,8 +7,7 @@ import re
 from dataclasses import dataclass, field
 from typing import Any, Mapping, Union
 
-from ._faults import LabrunError, Refused, TooLong
-from ._library import NO_MEMORY, NO_ROOM, NOT_OPEN, REFUSED, TOO_LONG, WAITS, Told, library
+from ._library import NO_ROOM, WAITS, Library, Told, called, library
 
 Text = Union[str, bytes]
 
@@ -125,40 +124,20 @@ class Counts:
     commands: int
 
 
-def told_fault(status: int, told: Told) -> Exception:
-    """The exception of a status that is a fault."""
-    if status == REFUSED:
-        return Refused(told.line, told.cause)
-    if status == TOO_LONG:
-        return TooLong("script longer than 16777216 bytes")
-    if status == NO_MEMORY:
-        return MemoryError()
-    if status == NOT_OPEN:
-        return LabrunError("the handle is in use, or isn't open")
-    return LabrunError(f"status {status}")
-
-
-def told_bytes(call: Any, *given: Any) -> bytes:
+def told_text(calls: Library, name: str, *given: Any) -> str:
     """Calls with ever more room, until the text fits."""
     told, room = Told(), 16384
     while True:
         text = ctypes.create_string_buffer(room)
-        status = call(*given, text, room, ctypes.byref(told))
-        if status == NO_ROOM:
-            room = told.written
-        elif status in (0, WAITS):
-            return ctypes.string_at(text, told.written)
-        else:
-            raise told_fault(status, told)
-
-
-def told_text(call: Any, *given: Any) -> str:
-    return told_bytes(call, *given).decode("ascii")
+        called(calls, name, *given, text, room, ctypes.byref(told), no=(WAITS, NO_ROOM), told=told)
+        if told.written <= room:
+            return text.raw[: told.written].decode("ascii")
+        room = told.written
 
 
 def _called(name: str, script: Text, *limit: int) -> str:
     given = as_bytes(script)
-    return told_text(library()[name], given, len(given), *limit)
+    return told_text(library(), name, given, len(given), *limit)
 
 
 def run(script: Text, limit: int = 10000) -> Report:
