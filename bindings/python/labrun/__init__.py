@@ -20,13 +20,12 @@ from ._connect import connect
 from ._faults import Closed, Full, JournalError, LabrunError, MayNotUse, NotHeld, OtherProcess, Refused, StillHeld, Stopped, TakenAway
 from ._faults import TimeoutError, TooLong, Withdrawn, WouldBlock
 from ._held import Held
-from ._jobs import Job, Jobs, JobState
 from ._keepers import Keeper
 from ._lab import OVERTAKES, Lab, Sitting, Station
 from ._library import library_path
 from ._plan import Command
 from ._report import Counts, Entry, JobReport, Report, check, replay, run, upgrade
-from ._session import Session
+from ._session import Job, Jobs, JobState, Session
 
 __all__ = [
     "OVERTAKES", "Bench", "Closed", "Command", "Counts", "Entry", "Full", "Held", "Job", "JobReport", "JobState", "Jobs", "JournalError",

@@ -2,20 +2,20 @@
 
 from __future__ import annotations
 
+import asyncio
 import contextlib
 import os
 import threading
 from ctypes import byref
 from types import TracebackType
-from typing import Awaitable, Callable, Optional, Union
+from typing import Awaitable, Callable, Iterator, Optional, Union
 
 from ._core import Core
-from ._faults import LabrunError, OtherProcess
-from ._jobs import Job, Jobs
+from ._faults import LabrunError, OtherProcess, StillHeld, Stopped
 from ._library import Handle, Told, called, library
-from ._plan import Plans
+from ._plan import read_plan
 from ._report import Report, Text, as_bytes, check
-from ._run import Stations
+from ._session import Job, Jobs
 
 # (a name of its own, so that a test can put gates there)
 _new_lock = threading.Lock
@@ -33,15 +33,13 @@ class Bench:
         check(given)
         called(calls, "lab_bench_open", given, len(given), byref(handle), byref(told), told=told)
         self._core = core = Core(calls, handle, _new_lock)
-        plans = Plans(core.call)
-        self.instruments, self._report = plans.instruments, None  # type: tuple[str, ...], Optional[Report]
-        self.jobs = Jobs(Job(self, core, index, *it) for index, it in enumerate(zip(plans.jobs, plans.sessions)))
+        self.instruments, jobs = read_plan(core.call)
+        self.jobs = Jobs(Job(self, core, index, *it) for index, it in enumerate(jobs))
+        self._report: Optional[Report] = None
 
     @classmethod
     def open(cls, path: Union[str, os.PathLike[str]]) -> Bench:
         """The bench of the script in a file. Refused says which line isn't sound."""
-        if isinstance(path, str) and "\n" in path:
-            raise ValueError("Bench.open takes the path of a script; Bench.from_text takes the script itself")
         with open(path, "rb") as file:
             return cls(file.read())
 
@@ -52,8 +50,7 @@ class Bench:
 
     def job(self, name: str) -> Job:
         """The job of this name, as `jobs[name]`; KeyError if there is none."""
-        job: Job = self.jobs[name]
-        return job
+        return {job.name: job for job in self.jobs}[name]
 
     @property
     def report(self) -> Report:
@@ -106,3 +103,73 @@ class Bench:
         # (a child of a fork that leaves by its own copy of the block has nothing to close)
         with contextlib.suppress(OtherProcess):
             self.close()
+
+
+class Stations:
+    """A station for each job of a bench, on a thread or a task of its own, and how they come to their ends."""
+
+    def __init__(self, core: Core, jobs: Jobs) -> None:
+        self._core, self._jobs = core, jobs
+        self._faults: list[tuple[str, BaseException]] = []
+        with core.lock(), core:
+            pass
+
+    def run(self, station: Callable[[Job], object]) -> None:
+        # (not Thread.join: before Python 3.13 a join that is interrupted may take a thread for ended that isn't)
+        back = [threading.Event() for _ in self._jobs]
+        # stations begin once all threads are there: so an interrupt before leaves none behind that has begun
+        all_there, is_begun = threading.Event(), False
+
+        def work(job: Job) -> None:
+            all_there.wait()
+            if is_begun:
+                with self._ends(job):
+                    station(job)
+            back[job.index].set()
+
+        try:
+            for job in self._jobs:
+                threading.Thread(target=work, args=(job,), name=job.name, daemon=True).start()
+            is_begun = True
+            all_there.set()
+            for event in back:
+                event.wait()
+        except BaseException:
+            self._core.stop()
+            # (again, because an interrupt may have come before)
+            all_there.set()
+            for event in back if is_begun else []:
+                event.wait()
+            raise
+        self._tell()
+
+    async def run_async(self, station: Callable[[Job], Awaitable[object]]) -> None:
+        async def work(job: Job) -> None:
+            with self._ends(job):
+                await station(job)
+
+        await asyncio.gather(*map(work, self._jobs))
+        self._tell()
+
+    @contextlib.contextmanager
+    def _ends(self, job: Job) -> Iterator[None]:
+        """One is over. What its session holds stays its own, and nobody waits for that for ever."""
+        try:
+            yield
+        except Stopped:
+            pass
+        except BaseException as fault:
+            self._faults.append((job.name, fault))
+        session = self._core.sessions.get(job.index)
+        if session is not None and session.held:
+            self._core.stop()
+
+    def _tell(self) -> None:
+        """Raises the first of what went wrong, with the others as notes."""
+        if held := tuple(it for it in self._core.sessions.values() if it.held):
+            self._faults.append((held[0].job.name, StillHeld(held)))
+        for name, fault in self._faults[1:]:
+            if hasattr(fault, "add_note"):
+                self._faults[0][1].add_note(f"also {name}: {fault!r}")
+        if self._faults:
+            raise self._faults[0][1]

@@ -78,15 +78,9 @@ class Core:
         if self.is_stopped:
             raise Stopped("the bench is stopped")
 
-    def ask(self, session: Session, wake: Callable[[], object]) -> None:
-        """It holds by that, or it waits, and `wake` will be called."""
-        session.wake = None
-        self.settle(session)
-        if session.state == "waiting":
-            session.wake = wake
-
     def settle(self, asking: Optional[Session] = None) -> None:
-        """All that can be done is done, and those are woken whose sessions come to hold by it. One that was left lets go at once."""
+        """All that can be done is done, and those are woken whose sessions come to hold by it. One that was left lets go at once. `asking` holds
+        then, or waits."""
         its, came = self.sessions.values(), Came()
         waiting = sum(it.bit for it in its if it.state == "waiting" or it is asking)
         if not waiting and all(it.state != "left" for it in its):
@@ -117,28 +111,25 @@ class Core:
         self._tell(session, how)
 
     def leave(self, session: Session) -> None:
-        """It is given up, and doesn't come to hold by that. One that holds already lets go."""
-        state = self.state_of(session.job.index)
-        drinking = state.drinking if state.session == session.number else TRANQUIL
-        if drinking in HOLDS:
-            self.end(session, "lapsed")
-        else:
-            if drinking == THIRSTY and session.patience is not None:
-                self.call("lab_withdraw", session.job.index)
-            session.state = "left"
-            self._look(session)
+        """It is given up: whatever is to come of it, nobody comes for it."""
+        session.state = "left"
+        self._look(session)
         self.settle()
 
     def _look(self, session: Session) -> None:
-        """What the library says of a session is told."""
+        """What the library says of a session is told. One that was left, or whose owner was interrupted as it asked, is withdrawn if it can be."""
         state, is_left = self.state_of(session.job.index), session.state in ("new", "left")
         if state.session != session.number:
             self._tell(session, "new" if is_left else session.state)
         elif state.drinking in HOLDS:
-            self._tell(session, "held" if session.state != "left" else "left")
-        elif state.drinking == THIRSTY:
-            self._tell(session, "left" if is_left else "waiting")
+            self._tell(session, "left" if is_left else "held")
+        elif state.drinking == THIRSTY and not is_left:
+            self._tell(session, "waiting")
+        elif state.drinking == THIRSTY and session.patience is None:
+            self._tell(session, "left")
         else:
+            if state.drinking == THIRSTY:
+                self.call("lab_withdraw", session.job.index)
             self._tell(session, session.fate)
 
     def _tell(self, session: Session, state: str) -> None:

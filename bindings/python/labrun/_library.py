@@ -138,13 +138,8 @@ def called(calls: Library, name: str, *given: Any, no: tuple[int, ...] = (), tol
 def _fault(name: str, status: int, told: Optional[Told]) -> Exception:
     if status == REFUSED and told is not None:
         return Refused(told.line, told.cause)
-    if status == TOO_LONG:
-        return TooLong("script longer than 16777216 bytes")
-    if status == NO_MEMORY:
-        return MemoryError()
-    if status == NO_SUCH:
-        return IndexError(f"{name}: no such job, session or instrument")
-    return LabrunError(f"{name}: status {status}")
+    faults = {TOO_LONG: TooLong("script longer than 16777216 bytes"), NO_MEMORY: MemoryError()}
+    return faults.get(status, LabrunError(f"{name}: status {status}"))
 
 
 def may_load() -> None:

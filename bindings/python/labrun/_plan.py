@@ -28,35 +28,30 @@ class Plan(NamedTuple):
     patience: Optional[int]
 
 
-class Plans:
-    """Of an open bench, by the calls on it: the names of its `jobs` and `instruments`, in their order, and the `sessions` of each job."""
+def read_plan(call: Callable[..., bool]) -> tuple[tuple[str, ...], list[tuple[str, list[Plan]]]]:
+    """The names of an open bench's instruments, and those of its jobs, each with its sessions, by the calls on it."""
+    size, state, of_session, planned = Size(), State(), SessionOf(), Planned()
 
-    def __init__(self, call: Callable[..., bool]) -> None:
-        self._call, size = call, Size()
-        call("lab_bench_size", byref(size))
-        self.instruments = tuple(self._name("lab_instrument_name", at) for at in range(size.instruments))
-        self.jobs = tuple(self._name("lab_job_name", job) for job in range(size.jobs))
-        self.sessions = [self._of_job(job) for job in range(size.jobs)]
+    def name(which: str, number: int) -> str:
+        text, written = create_string_buffer(16), c_size_t()
+        call(which, number, text, 16, byref(written))
+        return text.raw[: written.value].decode("ascii")
 
-    def _name(self, call: str, number: int) -> str:
-        name, written = create_string_buffer(16), c_size_t()
-        self._call(call, number, name, 16, byref(written))
-        return name.raw[: written.value].decode("ascii")
+    def command(*place: int) -> Command:
+        call("lab_planned", *place, byref(planned))
+        verb = VERBS[planned.verb]
+        return Command(instruments[planned.instrument], verb, None if verb == "read" else planned.number)
 
-    def _of_job(self, job: int) -> list[Plan]:
-        state = State()
-        self._call("lab_state", job, byref(state))
-        return [self._session(job, number) for number in range(1, state.sessions + 1)]
+    def session(*place: int) -> Plan:
+        call("lab_session_of", *place, byref(of_session))
+        needs, patience = of_session.needs, of_session.patience if of_session.has_patience else None
+        names = tuple(it for at, it in enumerate(instruments) if needs >> at & 1)
+        return Plan(names, tuple(command(*place, at) for at in range(of_session.commands)), patience)
 
-    def _session(self, job: int, number: int) -> Plan:
-        what = SessionOf()
-        self._call("lab_session_of", job, number, byref(what))
-        names = tuple(name for at, name in enumerate(self.instruments) if what.needs >> at & 1)
-        commands = tuple(self._command(job, number, place) for place in range(what.commands))
-        return Plan(names, commands, what.patience if what.has_patience else None)
+    def sessions(job: int) -> list[Plan]:
+        call("lab_state", job, byref(state))
+        return [session(job, number) for number in range(1, state.sessions + 1)]
 
-    def _command(self, job: int, number: int, place: int) -> Command:
-        it = Planned()
-        self._call("lab_planned", job, number, place, byref(it))
-        verb = VERBS[it.verb]
-        return Command(self.instruments[it.instrument], verb, None if verb == "read" else it.number)
+    call("lab_bench_size", byref(size))
+    instruments = tuple(name("lab_instrument_name", at) for at in range(size.instruments))
+    return instruments, [(name("lab_job_name", job), sessions(job)) for job in range(size.jobs)]

@@ -85,8 +85,7 @@ class Report:
                 log = logs.setdefault(words[1], [])
             else:
                 raise ValueError(f"line {number} is none of a report: {line!r}")
-        kept = {name: tuple(entries) for name, entries in logs.items()}
-        return cls(int(lines[0][4:]), lines[-2] == "finished", kept, tuple(jobs), text)
+        return cls(int(lines[0][4:]), lines[-2] == "finished", {name: tuple(it) for name, it in logs.items()}, tuple(jobs), text)
 
     @property
     def instruments(self) -> tuple[str, ...]:
@@ -99,10 +98,7 @@ class Report:
 
     def job(self, name: str) -> JobReport:
         """The line of a job. KeyError if there is none of this name."""
-        for job in self.jobs:
-            if job.name == name:
-                return job
-        raise KeyError(name)
+        return {job.name: job for job in self.jobs}[name]
 
     def to_rows(self) -> list[dict[str, Any]]:
         """All logs as one table, a dictionary a row, for `pandas.DataFrame(report.to_rows())`. `entry` counts from 1 in each log."""

@@ -1,4 +1,4 @@
-"""A session, as the thread or task sees it whose it is."""
+"""The jobs of a bench, and their sessions one after another, as the threads or tasks see them whose they are."""
 
 from __future__ import annotations
 
@@ -7,16 +7,16 @@ import contextlib
 import threading
 from ctypes import byref
 from types import TracebackType
-from typing import TYPE_CHECKING, Callable, Iterator, Optional
+from typing import TYPE_CHECKING, Any, Callable, Iterator, NamedTuple, Optional
 
-from ._core import TICK, Core
+from ._core import HOLDS, RETIRED, THIRSTY, TICK, Core
 from ._faults import Closed, LabrunError, NotHeld, OtherProcess, Withdrawn, WouldBlock
 from ._library import NOT_NOW, Entered
 from ._plan import VERBS, Plan
 from ._report import Entry
 
 if TYPE_CHECKING:
-    from ._jobs import Job
+    from ._bench import Bench
 
 OVER = ("finished", "withdrawn", "lapsed")
 # as a patience in turns: the largest that a script may have, which nobody counts to
@@ -40,6 +40,7 @@ class Session:
         self.bit: int = 1 << job.index
         self.fate, self.owner = "withdrawn", None  # type: str, object
         self.wake: Optional[Callable[[], object]] = None
+        self._tick = -1 if self.patience is None or self.patience >= FOREVER else TICK
 
     def __repr__(self) -> str:
         return f"<Session {self.number} of {self.job.name}: {self.state}>"
@@ -68,7 +69,7 @@ class Session:
             bell.acquire()
             holds = self._asks(me, bell.release)
             while not holds:
-                bell.acquire(True, TICK if self._counts() else -1)
+                bell.acquire(True, self._tick)
                 holds = self._has_come()
             return self
         except BaseException:
@@ -83,8 +84,8 @@ class Session:
             holds = self._asks(me, lambda: loop.call_soon_threadsafe(event.set))
             while not holds:
                 # (not wait_for: before Python 3.12 it loses a cancellation that comes together with the event)
-                if self._counts():
-                    loop.call_later(TICK, event.set)
+                if self._tick > 0:
+                    loop.call_later(self._tick, event.set)
                 await event.wait()
                 event.clear()
                 holds = self._has_come()
@@ -93,23 +94,21 @@ class Session:
             self._not_come(me, was_held)
             raise
 
-    def _counts(self) -> bool:
-        return self.patience is not None and self.patience < FOREVER
-
     def _asks(self, me: object, wake: Callable[[], object]) -> bool:
         with self._core.lock(), self._core as core:
             self.is_of_one()
             if not self.held and self.state not in OVER:
                 core.may_go_on()
-                self.owner = me
-                core.ask(self, wake)
+                self.owner, self.wake = me, None
+                core.settle(self)
+                self.wake = wake if self.state == "waiting" else None
             return self._holds()
 
     def _has_come(self) -> bool:
         with self._core.lock(), self._core as core:
             if self.state == "waiting":
                 core.may_go_on()
-                if self._counts():
+                if self._tick > 0:
                     core.tick()
             return self._holds()
 
@@ -200,13 +199,68 @@ def whoever() -> object:
     return loop and asyncio.current_task(loop) or threading.current_thread()
 
 
-def one_after_another(next_session: Callable[[], Optional[Session]]) -> Iterator[Session]:
-    """Sessions in a loop. Each that is still held when the next is asked for, or when the loop is left, is finished."""
-    me = whoever()
-    while session := next_session():
-        try:
-            yield session
-        finally:
-            if session.held and session.owner is me:
-                with contextlib.suppress(Closed, OtherProcess):
-                    session.release()
+class JobState(NamedTuple):
+    """How far a job is: `session` is its current or last session, from 1, of `sessions`; `waited` is how many turns it waited for it."""
+
+    session: int
+    sessions: int
+    done: int
+    withdrawn: int
+    waits: bool
+    holds: bool
+    retired: bool
+    waited: int
+    meals: int
+    turns: int
+
+
+class Job:
+    """A job of the script. One thread, or task, acts for it at a time; which one doesn't matter."""
+
+    def __init__(self, bench: Bench, core: Core, index: int, name: str, plan: list[Plan]) -> None:
+        self.bench, self.index, self.name, self._core, self._plan = bench, index, name, core, plan
+
+    def __repr__(self) -> str:
+        return f"<Job {self.name}>"
+
+    @property
+    def state(self) -> JobState:
+        """How far the job is now."""
+        with self._core.lock(), self._core as core:
+            it = core.state_of(self.index)
+        how = it.drinking == THIRSTY, it.drinking in HOLDS, it.drinking == RETIRED
+        return JobState(it.session, it.sessions, it.sessions_done, it.withdrawn, *how, it.waited, it.meals, it.turns)
+
+    def next_session(self) -> Optional[Session]:
+        """The session that comes next, not yet acquired; the same one again if it isn't over. None if none is left. LabrunError: another thread,
+        or task, waits for it or holds it."""
+        with self._core.lock(), self._core as core:
+            core.may_go_on()
+            last = core.sessions.get(self.index)
+            if last is not None and last.state not in OVER:
+                last.is_of_one()
+                return last
+            number = 0 if last is None else last.number
+            if number == len(self._plan):
+                return None
+            session = core.sessions[self.index] = Session(self, core, self._plan[number], number + 1)
+            return session
+
+    def sessions(self) -> Iterator[Session]:
+        """The job's sessions, one after another. Each is yet to be entered: `with session:` blocks until it holds its instruments. One that was
+        neither held nor withdrawn comes again. One that is still held when the next is asked for, or the loop is left, is finished."""
+        me = whoever()
+        while session := self.next_session():
+            try:
+                yield session
+            finally:
+                if session.held and session.owner is me:
+                    with contextlib.suppress(Closed, OtherProcess):
+                        session.release()
+
+
+class Jobs(tuple[Job, ...]):
+    """The jobs in the order of the script, each by its number or by its name."""
+
+    def __getitem__(self, which: Any) -> Any:
+        return {job.name: job for job in self}[which] if isinstance(which, str) else super().__getitem__(which)

@@ -10,9 +10,9 @@ import threading
 from types import FrameType
 from typing import Any, Callable, Optional
 
-from labrun import _bench, _core, _jobs, _run, _session
+from labrun import _bench, _core, _session
 
-FILES = tuple(it.__file__ for it in (_bench, _core, _jobs, _run, _session))
+FILES = tuple(it.__file__ for it in (_bench, _core, _session))
 
 
 class Stuck(BaseException):
