@@ -17,7 +17,7 @@ from ctypes import byref
 from types import TracebackType
 from typing import TYPE_CHECKING, Any, Callable, Optional
 
-from ._faults import Closed, OtherProcess, Stopped
+from ._faults import Closed, NotHeld, OtherProcess, Stopped, Withdrawn
 from ._library import NOT_NOW, NOT_OPEN, SESSIONS_LEFT, Came, Handle, Library, State, Turned, called
 from ._report import told_text
 
@@ -59,7 +59,7 @@ class Core:
         return self
 
     def __exit__(self, kind: Optional[type[BaseException]], fault: Optional[BaseException], at: Optional[TracebackType]) -> None:
-        if kind is not None:
+        if kind not in (None, NotHeld, Stopped, Withdrawn):
             for it in self.sessions.values():
                 self._look(it)
             self.settle()
@@ -149,7 +149,7 @@ class Core:
                 session.wake()
 
     def stop(self) -> None:
-        """(With nothing held.)"""
+        """Whoever waits is woken, and gets Stopped. (With nothing held. A bench that is closed stays so.)"""
         with self.lock(), contextlib.suppress(Closed), self:
             self.is_stopped = True
             for it in self.sessions.values():

@@ -11,6 +11,7 @@ import threading
 import time
 import unittest
 from typing import Any, Callable, Optional
+from unittest import mock
 
 import labrun
 from labrun._library import SessionOf
@@ -538,13 +539,42 @@ class Running(unittest.TestCase):
         self.assertEqual(bench.raised, (("a", 1),))
 
     def test_all_stations_raise(self) -> None:
+        """The first is raised, with the other as its note."""
+
         def station(job: labrun.Job) -> None:
             raise RuntimeError(job.name)
 
         bench = labrun.Bench.from_text(TWO)
-        with self.assertRaisesRegex(RuntimeError, "[ab]"):
+        with self.assertRaisesRegex(RuntimeError, "[ab]") as caught:
             bench.run(station)
+        if hasattr(caught.exception, "add_note"):
+            other = "b" if str(caught.exception) == "a" else "a"
+            self.assertEqual(caught.exception.__notes__, [f"also {other}: RuntimeError('{other}')"])
         bench.close()
+
+    def test_interrupted_as_it_begins(self) -> None:
+        """Before all threads are there: no station begins, and the bench is stopped."""
+        bench, begun, started, start = labrun.Bench.from_text(TWO), [], [], threading.Thread.start
+
+        def starts(thread: threading.Thread) -> None:
+            if started:
+                raise KeyboardInterrupt
+            started.append(thread)
+            start(thread)
+
+        with mock.patch.object(threading.Thread, "start", starts), self.assertRaises(KeyboardInterrupt):
+            bench.run(lambda job: begun.append(job.name))
+        back(started[0])
+        self.assertEqual(begun, [])
+        with self.assertRaises(labrun.Stopped):
+            bench.jobs[0].next_session()
+        bench.close()
+
+    def test_run_of_a_closed_bench(self) -> None:
+        bench = labrun.Bench.from_text(TWO)
+        bench.close()
+        with self.assertRaises(labrun.Closed):
+            bench.run(lambda job: None)
 
     def test_others_go_on(self) -> None:
         """One that never comes back keeps what it holds, and nothing else: others work beside it."""

@@ -65,6 +65,12 @@ class GivenUp(OnDefinitions, test_given_up.GivenUp):
     """Sessions that are given up."""
 
 
+class Running(OnDefinitions, test_bench.Running):
+    """`run`, by threads and by tasks."""
+
+    test_many = test_32_threads = None  # type: ignore[assignment]  # (these are long)
+
+
 class Ends(OnDefinitions, test_bench.Ends):
     """Stations that end while they hold, forks, loops of asyncio, and generators that are closed late."""
 
