@@ -81,9 +81,7 @@ _HANDLE, _TOLD, _TURNED = ctypes.POINTER(Handle), ctypes.POINTER(Told), ctypes.P
 # calls that may take long: the interpreter's lock is let go meanwhile
 _LONG: dict[str, list[Any]] = {
     "lab_rounds": [_BYTES, _SIZE, _WORD, _ROOM, _SIZE, _TOLD],
-    "lab_replay": [_BYTES, _SIZE, _ROOM, _SIZE, _TOLD],
-    "lab_check": [_BYTES, _SIZE, _ROOM, _SIZE, _TOLD],
-    "lab_upgrade": [_BYTES, _SIZE, _ROOM, _SIZE, _TOLD],
+    **dict.fromkeys(("lab_replay", "lab_check", "lab_upgrade"), [_BYTES, _SIZE, _ROOM, _SIZE, _TOLD]),
     "lab_bench_open": [_BYTES, _SIZE, _HANDLE, _TOLD],
     "lab_bench_close": [_HANDLE, _ROOM, _SIZE, _TOLD],
 }
@@ -91,8 +89,7 @@ _LONG: dict[str, list[Any]] = {
 # calls that take microseconds and never wait: handing the interpreter's lock round for each would cost more than the call
 _SHORT: dict[str, list[Any]] = {
     "lab_bench_size": [_HANDLE, ctypes.POINTER(Size)],
-    "lab_job_name": [_HANDLE, _WORD, _ROOM, _SIZE, ctypes.POINTER(_SIZE)],
-    "lab_instrument_name": [_HANDLE, _WORD, _ROOM, _SIZE, ctypes.POINTER(_SIZE)],
+    **dict.fromkeys(("lab_job_name", "lab_instrument_name"), [_HANDLE, _WORD, _ROOM, _SIZE, ctypes.POINTER(_SIZE)]),
     "lab_session_of": [_HANDLE, _WORD, _WORD, ctypes.POINTER(SessionOf)],
     "lab_planned": [_HANDLE, _WORD, _WORD, _WORD, ctypes.POINTER(Planned)],
     "lab_state": [_HANDLE, _WORD, ctypes.POINTER(State)],
