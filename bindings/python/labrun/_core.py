@@ -136,17 +136,18 @@ class Core:
         """What has become of a session, to whoever waits for it. (It is told again if an exception comes before its state is noted.)"""
         if state == "lapsed":
             self.lapsed[session.job.name, session.number] = None
-        self.rouse(session)
+        if not self.rouse(session) and session.state == "waiting" and state == "held":
+            state = "left"
         if state not in ("waiting", "held"):
             session.owner = None
         session.state = state
 
-    def rouse(self, session: Session) -> None:
-        """Wakes who waits for it. (Whoever is woken for nothing sleeps again.)"""
-        if session.wake is not None:
-            # (it is awake already, or its loop is closed)
-            with contextlib.suppress(RuntimeError):
-                session.wake()
+    def rouse(self, session: Session) -> bool:
+        """Wakes who waits for it, who may sleep again. No if nobody is there any more, since the loop of its task is closed."""
+        try:
+            return session.wake is None or session.wake() is not False
+        except RuntimeError:
+            return False
 
     def stop(self) -> None:
         """Whoever waits is woken, and gets Stopped. (With nothing held. A bench that is closed stays so.)"""

@@ -67,7 +67,8 @@ class Session:
         me, was_held, bell = whoever(), self.held, self._core.new_lock()
         try:
             bell.acquire()
-            holds = self._asks(me, bell.release)
+            # (it may be awake already)
+            holds = self._asks(me, lambda: not bell.locked() or bell.release())
             while not holds:
                 bell.acquire(True, self._tick)
                 holds = self._has_come()

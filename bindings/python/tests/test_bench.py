@@ -894,8 +894,9 @@ class Interrupted(unittest.TestCase):
         self.assertEqual(self.interrupted("waiting", PATIENT), "held withdrawn 0 0 False")
 
     def test_in_run(self) -> None:
-        # a works at its first session until the bench is stopped: it ends that, and begins no other; b gave up, or had its session before
-        self.assertRegex(self.interrupted("run", TWO), r"\Anew new 1 [01] False\Z")
+        # a works at its first session until the bench is stopped: it ends that, and begins no other; b gave up, had its session before, or never
+        # asked
+        self.assertRegex(self.interrupted("run", TWO), r"\Afinished (lapsed 1 1|finished 1 1|new 1 0) False\Z")
 
 
 if __name__ == "__main__":

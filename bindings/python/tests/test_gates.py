@@ -67,9 +67,8 @@ class WakeUps(Gated):
         """With one wake-up left out the test doesn't pass."""
         rouse = _core.Core.rouse
 
-        def forgets(core: _core.Core, session: _session.Session) -> None:
-            if session.job.name != "b":
-                rouse(core, session)
+        def forgets(core: _core.Core, session: _session.Session) -> bool:
+            return session.job.name == "b" or rouse(core, session)
 
         with mock.patch.object(_core.Core, "rouse", forgets), self.assertRaises(Stuck):
             for at in range(200):

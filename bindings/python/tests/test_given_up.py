@@ -135,6 +135,9 @@ class GivenUp(unittest.TestCase):
                         def release(self) -> None:
                             pass
 
+                        def locked(self) -> bool:
+                            return True
+
                     with mock.patch.object(bench._core, "new_lock", Interrupted), self.assertRaises(KeyboardInterrupt):
                         for session in bench.jobs["b"].sessions():
                             with session:
@@ -214,6 +217,40 @@ class GivenUp(unittest.TestCase):
 
         for state, script in SCRIPTS.items():
             self.is_over(*asyncio.run(main(script)), "withdrawn" if state == "withdrawn" else "lapsed")
+
+    def test_a_task_whose_loop_is_closed(self) -> None:
+        """Nobody cancelled it, and it can't be woken any more: what would be its own goes on to others."""
+        for script in SCRIPTS.values():
+            bench = labrun.Bench.from_text(script)
+            first, second = asked(bench, "a"), asked(bench, "b")
+            first.acquire()
+            loop = asyncio.new_event_loop()
+            task = loop.create_task(second.acquire_async())
+            setattr(task, "_log_destroy_pending", False)
+            while second.state != "waiting":
+                loop.run_until_complete(asyncio.sleep(0))
+            loop.close()
+            first.release()
+            self.is_over(bench, second, "lapsed")
+
+    def test_held_by_a_loop_that_is_closed(self) -> None:
+        """It was told, and goes on to hold, whatever happens at the bench meanwhile."""
+        with labrun.Bench.from_text(SCRIPTS["left"]) as bench:
+            first, second = asked(bench, "a"), asked(bench, "b")
+
+            async def main() -> None:
+                await first.acquire_async()
+                task = asyncio.create_task(second.acquire_async())
+                while second.state != "waiting":
+                    await asyncio.sleep(0)
+                first.release()
+                await task
+
+            asyncio.run(main())
+            with mock.patch.object(bench._core, "may_go_on", mock.Mock(side_effect=KeyboardInterrupt)), self.assertRaises(KeyboardInterrupt):
+                bench.jobs["c"].next_session()
+            self.assertTrue(second.held and bench.jobs["b"].state.holds)
+            second.release()
 
     def test_another_comes_just_as_it_holds(self) -> None:
         """Its task is told that it holds, and isn't awake yet. Who gives it up comes too late."""
