@@ -578,12 +578,15 @@ class Running(unittest.TestCase):
 
     def test_others_go_on(self) -> None:
         """One that never comes back keeps what it holds, and nothing else: others work beside it."""
-        for_ever, ended = threading.Event(), threading.Event()
+        for_ever, holds, ended = threading.Event(), threading.Event(), threading.Event()
 
         def station(job: labrun.Job) -> None:
+            if job.name != "a":
+                holds.wait(LIMIT)
             for session in job.sessions():
                 with session:
                     if job.name == "a" and session.number == 1:
+                        holds.set()
                         for_ever.wait(LIMIT)
             if job.name == "c":
                 ended.set()
