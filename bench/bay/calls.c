@@ -782,6 +782,30 @@ static void waited_for(void) {
     freed();
 }
 
+/* An ask that was passed at one of its sets as often as may be keeps nothing of that from itself; but it doesn't go before somebody that asked before for
+   its other set. */
+static void own_sets(void) {
+    opened(100, LAB_NEVER, LAB_NEVER, 1, 0);
+    IS(ask_one(1, 0, 1, 0) == LAB_DONE);
+    IS(ask_as(0, 0, 2, 0, LAB_NEVER, LAB_NEVER, 0, SETS(3, 5)) == LAB_DONE && ask_one(3, 0, 2, 0) == LAB_DONE);
+    WAITS(2, 0, 3, 1);
+    WAITS(2, 1, 5, 0);
+    IS(lab_bay_let_go(&bay, 1, 4) == LAB_DONE);
+    KEEPS(9, 2, 2, {0, 0}, 5, 4, 0, LAB_HOLDS);
+    freed();
+    opened(100, LAB_NEVER, LAB_NEVER, 1, 0);
+    IS(ask_one(1, 0, 1, 0) == LAB_DONE && ask_one(2, 0, 5, 0) == LAB_DONE);
+    IS(ask_as(0, 0, 3, 0, LAB_NEVER, LAB_NEVER, 0, SETS(3, 5)) == LAB_DONE && ask_one(4, 0, 2, 0) == LAB_DONE);
+    IS(lab_bay_let_go(&bay, 1, 4) == LAB_DONE);
+    KEEPS(2, 0, 3, {0, 0}, 0, 0, 0, LAB_WAITS);
+    KEEPS(3, 1, 4, {0, 0}, 2, 0, 0, LAB_HOLDS);
+    NOBODY(3, 2);
+    IS(lab_bay_let_go(&bay, 4, 5) == LAB_DONE);
+    KEEPS(2, 0, 3, {0, 0}, 3, 5, 0, LAB_HOLDS);
+    WAITS(2, 0, 5, 1);
+    freed();
+}
+
 static void stops(void) {
     opened(100, LAB_NEVER, LAB_NEVER, 64, 0);
     IS(ask_one(1, 0, 1, 0) == LAB_DONE);
@@ -1001,6 +1025,7 @@ int main(void) {
     keepers();
     first_keepers();
     waited_for();
+    own_sets();
     stops();
     journals();
     comes_back();

@@ -8,8 +8,9 @@ An *ask* wants one of several sets of instruments and a place of a class. It wai
    most, and then nothing. From each beginning of the journal that has what was durable, whoever was told and isn't over holds.
 3. In time: after a call at `now` nobody waits whose deadline is over; and whoever holds, and whose deadline and time for the disk are over,
    has a durable line, or needs none.
-4. Nobody waits for nothing: each that waits has no place, or for each of its sets an instrument of it is in use, or kept for one before it.
-   And for nobody: it has no place, or somebody else holds an instrument of one of its sets, or has it kept.
+4. Nobody waits for nothing: each that waits has no place, or for each of its sets an instrument of it is in use, or kept from it. And for
+   nobody: it has no place, or somebody else holds an instrument of one of its sets, or has it kept. An ask keeps nothing from itself; but it
+   doesn't go before somebody else that asked before and wants no more.
 5. In order: while a place is free for it, an ask is passed at a set by `most` that came later at the most; of those that want the same, who
    asked first is served first.
 """
@@ -61,6 +62,7 @@ class Wish:
     kind: int
     deadline: Optional[int]
     passed: int = 0
+    overtaken: int = 0  # by how many that came later
 
 
 @dataclass
@@ -239,6 +241,16 @@ class Bay:
         """Whether its instruments are kept for it."""
         return it.kind in self._free() and it.passed >= self.rules.most
 
+    def _kept_from(self, it: Wish) -> int:
+        """What is kept from it: by all whose instruments are kept, but those behind it if its own are, too. Its own ask keeps nothing from it,
+        unless somebody else before it wants no more, and has its instruments kept if it has."""
+        its = self._is_kept(it)
+        keepers = [one for one in (self.line[: self.line.index(it)] if its else self.line) if self._is_kept(one)]
+        before = [one for one in self.line if one.ask < it.ask and one.kind == it.kind and not one.needs & ~it.needs]
+        if not any(self._is_kept(one) or not its for one in before):
+            keepers = [one for one in keepers if one.ask != it.ask]
+        return union(one.needs for one in keepers)
+
     def _in_use(self) -> int:
         return union(it.needs for it in self.asks if it.stage == HOLDS)
 
@@ -246,12 +258,15 @@ class Bay:
         free, used = self._free(), self._in_use()
         ready = [it for it in self.line if it.kind in free]
         kept = [it for it in ready if it.passed >= self.rules.most]
-        first = next((it for at, it in enumerate(kept) if not it.needs & (used | union(one.needs for one in kept[:at]))), None)
-        if first is None:
-            first = next((it for it in ready if not it.needs & (used | union(one.needs for one in kept))), None)
+        others = [it for it in ready if it.passed < self.rules.most]
+        first = next((it for it in kept + others if not it.needs & (used | self._kept_from(it))), None)
         if first is None:
             return False
+        alike = [it for it in self.line if (it.needs, it.kind) == (first.needs, first.kind)]
+        assert alike[0].ask == first.ask, "first come, first served"
         for it in ready:
+            it.overtaken += bool(it.needs & first.needs) and first.ask > it.ask
+            assert it.overtaken <= self.rules.most, "overtaken"
             if it.needs & first.needs and it.passed < self.rules.most:
                 it.passed += 1
         self.line = [it for it in self.line if it.ask != first.ask]
@@ -373,9 +388,8 @@ class Bay:
             assert not (it.stage == WAITS and at_most(it.deadline, self.now)), "in time"
             assert not (it.stage == HOLDS and at_most(self._to_be_written(it), self.now)), "written in time"
         free, used = self._free(), self._in_use()
-        kept = [it for it in self.line if it.kind in free and it.passed >= self.rules.most]
         for it in self.line:
-            assert it.kind not in free or it.needs & (used | union(one.needs for one in kept)), "nobody waits for nothing"
+            assert it.kind not in free or it.needs & (used | self._kept_from(it)), "nobody waits for nothing"
             assert it.passed <= self.rules.most, "passed"
         for number in {it.ask for it in self.line if it.kind in free}:
             wanted = [at for at in range(64) if any(needs >> at & 1 for needs, _ in self.waits(number))]

@@ -3,30 +3,19 @@
 use std::path::{Path, PathBuf};
 use std::{env, fs};
 
-/// The value of a line `libdir=..` of a pkg-config file, with its variables put in.
+const USUAL: &str = "/usr/local/lib/pkgconfig:/usr/local/share/pkgconfig:/usr/lib/pkgconfig:/usr/share/pkgconfig";
+
+/// What such a file says, as `scripts/install` writes it: `libdir` may be below `${prefix}`.
 fn libdir(file: &Path) -> Option<PathBuf> {
     let text = fs::read_to_string(file).ok()?;
-    let mut known: Vec<(String, String)> = Vec::new();
-    for line in text.lines() {
-        if let Some((name, value)) = line.split_once('=') {
-            let mut value = value.trim().to_string();
-            for (known, with) in &known {
-                value = value.replace(&format!("${{{known}}}"), with);
-            }
-            known.push((name.trim().to_string(), value));
-        }
-    }
-    known.into_iter().find(|(name, _)| name == "libdir").map(|(_, value)| PathBuf::from(value))
+    let value = |name: &str| text.lines().find_map(|it| it.strip_prefix(name)?.strip_prefix('=')).map(str::trim);
+    Some(value("libdir")?.replace("${prefix}", value("prefix").unwrap_or_default()).into())
 }
 
 fn folder() -> Option<PathBuf> {
-    if let Some(folder) = env::var_os("LABRUN_DIR") {
-        return Some(PathBuf::from(folder));
-    }
     let named = env::var("PKG_CONFIG_PATH").unwrap_or_default();
-    let usual = "/usr/local/lib/pkgconfig:/usr/local/share/pkgconfig:/usr/lib/pkgconfig:/usr/share/pkgconfig";
-    let folders = named.split(':').chain(usual.split(':')).filter(|it| !it.is_empty());
-    folders.map(|it| Path::new(it).join("labrun.pc")).find_map(|file| libdir(&file))
+    let mut folders = named.split(':').chain(USUAL.split(':')).filter(|it| !it.is_empty());
+    env::var_os("LABRUN_DIR").map(PathBuf::from).or_else(|| folders.find_map(|it| libdir(&Path::new(it).join("labrun.pc"))))
 }
 
 fn main() {

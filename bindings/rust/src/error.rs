@@ -10,13 +10,12 @@ use std::fmt;
 #[derive(Clone, Debug, PartialEq, Eq)]
 #[non_exhaustive]
 pub enum Error {
-    /// The time limit passed; the keepers say who holds what it wants, or for whom it is kept. The session of a lab is over. One of a script
-    /// keeps its place, and may come to its instruments meanwhile: begin again, or [`Desk::give_up`](crate::script::Desk::give_up).
+    /// The time limit passed, and the session is over; the keepers say who holds what it wanted, or for whom it is kept.
     TimedOut(Vec<Keeper>),
     /// The session was ended for its owner, by `take_away`, or because it had held for longer than it may: its instruments are somebody
     /// else's by now.
     TakenAway,
-    /// The session of a script was given up, because its patience ran out. The next begin is about the one after it.
+    /// The session of a script was given up: its patience ran out, or somebody withdrew it. The next begin is about the one after it.
     Withdrawn,
     /// There is no station, or the script has no job, of this name.
     NoSuchJob(String),
@@ -64,9 +63,14 @@ pub enum Error {
     Unread(String),
     /// There is no memory, or the system has no thread.
     NoMemory,
-    /// The library answered a status that it doesn't have for this call. A lab tells it to all that call from then on: nobody relies on it
-    /// any more.
-    Status(u32),
+    /// A call of the library answered a status that it doesn't have. Whoever waits at that lab or bench is told so, and whoever calls from
+    /// then on: nobody relies on it any more.
+    Status {
+        /// The call.
+        call: &'static str,
+        /// What it answered.
+        status: u32,
+    },
 }
 
 impl fmt::Display for Error {
@@ -76,10 +80,10 @@ impl fmt::Display for Error {
             Error::TakenAway => write!(out, "the session was taken away"),
             Error::Withdrawn => write!(out, "the session was withdrawn"),
             Error::NoSuchJob(name) => write!(out, "there is no {name}"),
-            Error::MayNotUse { job, instrument, may } if may.is_empty() => {
-                write!(out, "{job} may not use {instrument}: it may use nothing")
+            Error::MayNotUse { job, instrument, may } => {
+                let may = if may.is_empty() { "nothing".into() } else { may.join(", ") };
+                write!(out, "{job} may not use {instrument}: it may use {may}")
             }
-            Error::MayNotUse { job, instrument, may } => write!(out, "{job} may not use {instrument}: it may use {}", may.join(", ")),
             Error::Invalid(why) | Error::NotNow(why) | Error::Unread(why) => write!(out, "{why}"),
             Error::LineFull => write!(out, "the line is full"),
             Error::Stopped => write!(out, "the lab was stopped"),
@@ -90,7 +94,7 @@ impl fmt::Display for Error {
             Error::Refused { line, cause } => write!(out, "line {line}: S{cause}"),
             Error::TooLong => write!(out, "script longer than 16777216 bytes"),
             Error::NoMemory => write!(out, "no memory"),
-            Error::Status(status) => write!(out, "status {status}"),
+            Error::Status { call, status } => write!(out, "{call}: status {status}"),
         }
     }
 }

@@ -16,7 +16,7 @@ use std::time::Duration;
 pub struct Keeper {
     /// The instrument; `its place` if nobody keeps one, and the session waits for its station, or a guest's place.
     pub instrument: String,
-    /// The other one: a station, a guest with its number, or the job of a script.
+    /// The other one: a station, or a guest with its number.
     pub job: String,
     /// Whether it holds the instrument; if nobody does, it waits itself, and comes first.
     pub holds: bool,

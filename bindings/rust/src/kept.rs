@@ -1,9 +1,7 @@
 //! The file of a journal: locked, so that one process has it; whatever a write that failed left is cut off.
 use crate::ffi::system;
-use crate::Error;
 use std::fs::{File, OpenOptions};
 use std::io;
-use std::mem::ManuallyDrop;
 use std::os::unix::fs::FileExt;
 use std::path::Path;
 use std::thread::sleep;
@@ -27,32 +25,24 @@ pub enum SyncTo {
     Memory,
 }
 
-/// The file, and how much of it is there for good.
+/// The file, and how much of it is there for good. (A child of a fork has closed it, and no thread of it ever had it.)
 pub(crate) struct Kept {
-    /// (A child of a fork has closed it.)
-    file: ManuallyDrop<File>,
-    born: u32,
+    file: File,
     syncs: bool,
     length: u64,
     /// What is behind its length may be anything, and has to be cut off.
     is_torn: bool,
 }
 
-/// What is wrong with a journal.
-pub(crate) fn fault(path: &Path, why: impl ToString, line: usize) -> Error {
-    Error::Journal { path: path.display().to_string(), why: why.to_string(), line }
-}
-
 impl Kept {
     /// The file, which is made if it isn't there, and what it has.
-    pub fn open(path: &Path, to: SyncTo) -> Result<(Kept, Vec<u8>), Error> {
-        let wrong = |why: io::Error| fault(path, why, 0);
-        let file = OpenOptions::new().read(true).write(true).create(true).truncate(false).open(path).map_err(wrong)?;
+    pub fn open(path: &Path, to: SyncTo) -> io::Result<(Kept, Vec<u8>)> {
+        let file = OpenOptions::new().read(true).write(true).create(true).truncate(false).open(path)?;
         system::closes_in_a_child(&file);
-        let mut kept = Kept { file: ManuallyDrop::new(file), born: system::forks(), syncs: to == SyncTo::Disk, length: 0, is_torn: true };
-        lock(&kept.file).map_err(|why| fault(path, why, 0))?;
-        kept.length = kept.file.metadata().map_err(wrong)?.len();
-        let text = kept.text().map_err(wrong)?;
+        let kept = Kept { file, syncs: to == SyncTo::Disk, length: 0, is_torn: true };
+        lock(&kept.file)?;
+        let mut text = vec![0; kept.file.metadata()?.len() as usize];
+        kept.file.read_exact_at(&mut text, 0)?;
         Ok((kept, text))
     }
 
@@ -66,12 +56,6 @@ impl Kept {
             File::open(folder)?.sync_all()?;
         }
         Ok(())
-    }
-
-    /// What it has.
-    pub fn text(&self) -> io::Result<Vec<u8>> {
-        let mut text = vec![0; self.length as usize];
-        self.file.read_exact_at(&mut text, 0).map(|()| text)
     }
 
     fn cut(&mut self, length: u64) -> io::Result<()> {
@@ -101,19 +85,17 @@ impl Kept {
 
 impl Drop for Kept {
     fn drop(&mut self) {
-        if self.born == system::forks() {
-            system::close_here(&mut self.file);
-        }
+        system::is_closed_here(&self.file);
     }
 }
 
-fn lock(file: &File) -> Result<(), String> {
+fn lock(file: &File) -> io::Result<()> {
     for _ in 0..TRIES {
         match system::lock(file) {
             // (a child that another thread began just now has the lock too, until it runs its program)
             Err(why) if why.kind() == io::ErrorKind::WouldBlock => sleep(PAUSE),
-            it => return it.map_err(|why| why.to_string()),
+            it => return it,
         }
     }
-    Err("another process has it open".into())
+    Err(io::Error::new(io::ErrorKind::WouldBlock, "another process has it open"))
 }

@@ -1,7 +1,7 @@
 //! The structures, calls and numbers of this crate are those of `include/labrun.h` and `labrun_bay.h`.
 use std::collections::HashMap;
 
-const STRUCTURES: [(&str, &str); 15] = [
+const STRUCTURES: [(&str, &str); 14] = [
     ("bench", "Handle"),
     ("bay", "Handle"),
     ("told", "Told"),
@@ -9,7 +9,6 @@ const STRUCTURES: [(&str, &str); 15] = [
     ("session", "SessionOf"),
     ("turned", "Turned"),
     ("came", "Came"),
-    ("keepers", "Keepers"),
     ("state", "State"),
     ("entry", "Entered"),
     ("class", "Class"),
@@ -91,8 +90,10 @@ fn fields(text: &str) -> Vec<(String, String)> {
     found
 }
 
+/// Names and types; a reference is the pointer that it is to the library.
 fn pairs(text: &str) -> Vec<(String, String)> {
-    let words = |it: &str| it.trim().trim_start_matches("pub ").split_once(": ").map(|(name, kind)| (name.to_string(), kind.to_string()));
+    let text = text.replace("&mut ", "*mut ").replace('&', "*const ");
+    let words = |it: &str| it.trim().split_once(": ").map(|(name, kind)| (name.to_string(), kind.trim().to_string()));
     text.split(',').filter_map(words).collect()
 }
 
@@ -104,7 +105,8 @@ fn structures() {
         assert!(!wanted.is_empty());
         assert_eq!(pairs(between(&ours, &format!("struct {called} {{"), "}")), wanted, "{called}");
     }
-    assert_eq!(ours.matches("#[repr(C)]").count(), STRUCTURES.len() - 1);
+    // (of C's two kinds of handles both are the same to us)
+    assert_eq!(ours.matches("\n    struct ").count() + 1, STRUCTURES.len() - 1);
 }
 
 #[test]
@@ -133,11 +135,13 @@ fn numbers() {
         .filter_map(|(name, number)| Some((name.to_string(), number.trim().trim_end_matches('u').parse().ok()?)))
         .collect();
     let mut count = 0;
-    for line in lines(&ours.replace("pub(crate) ", ""), "const ") {
-        let Some((name, number)) = line.trim_end_matches(';').split_once(": u32 = ") else { continue };
-        let called = CALLED.iter().find(|it| it.0 == name).map_or(name, |it| it.1);
-        assert_eq!(there.get(called), Some(&number.parse().unwrap()), "{name}");
-        count += 1;
+    for row in lines(&ours, "numbers! { ") {
+        for one in row.trim_end_matches(" }").split(", ") {
+            let (name, number) = one.split_once(" = ").unwrap();
+            let called = CALLED.iter().find(|it| it.0 == name).map_or(name, |it| it.1);
+            assert_eq!(there.get(called), Some(&number.parse().unwrap()), "{name}");
+            count += 1;
+        }
     }
     assert!(count > 20);
 }

@@ -1,10 +1,9 @@
 //! A lab without a journal: who holds, who waits, what is told to whom, and what is left behind.
 mod common;
 
-use common::{keepers, names, until, waiting, Chance, Instruments, LONG, SHORT};
+use common::{keepers, names, until, waiting, LONG, SHORT};
 use labrun::{Error, Held, Lab, LabOptions};
 use std::panic::{catch_unwind, AssertUnwindSafe};
-use std::sync::atomic::{AtomicUsize, Ordering::SeqCst};
 use std::sync::mpsc::channel;
 use std::thread;
 use std::time::{Duration, Instant};
@@ -208,46 +207,6 @@ fn a_panic_while_others_wait() {
     assert!(lab.sessions().unwrap().is_empty());
 }
 
-#[test]
-fn no_instrument_has_two_holders() {
-    let wanted: usize = std::env::var("LABRUN_SESSIONS").map_or(20000, |it| it.parse().unwrap());
-    for overtakes in [0, 3, 64] {
-        let names = names(6);
-        let lab = LabOptions::new(&names).overtakes(overtakes).open().unwrap();
-        let (instruments, done, refused) = (Instruments::new(6), AtomicUsize::new(0), AtomicUsize::new(0));
-        thread::scope(|threads| {
-            for seed in 0..8 {
-                let (lab, names, instruments, done, refused) = (&lab, &names, &instruments, &done, &refused);
-                threads.spawn(move || {
-                    let mut chance = Chance(seed);
-                    while done.load(SeqCst) < wanted {
-                        let mut set = || (0..=chance.below(3)).map(|_| names[chance.below(6)].as_str()).collect::<Vec<_>>();
-                        let (one, other) = (set(), set());
-                        let asked = if chance.below(4) == 0 { lab.any_of(&[&one, &other]) } else { lab.hold(&one) };
-                        let mut held = match chance.below(4) {
-                            0 => asked.timeout(Duration::from_millis(chance.below(3) as u64)).begin(),
-                            _ => asked.begin(),
-                        };
-                        match &mut held {
-                            Ok(held) => {
-                                done.fetch_add(1, SeqCst);
-                                refused.fetch_add(usize::from(!instruments.work(&held.instruments())), SeqCst);
-                                if chance.below(2) == 0 {
-                                    held.finish().unwrap();
-                                }
-                            }
-                            Err(Error::TimedOut(keepers)) => assert!(keepers.iter().all(|it| it.end().holds), "{keepers:?}"),
-                            Err(fault) => panic!("{fault}"),
-                        }
-                    }
-                });
-            }
-        });
-        assert_eq!((refused.into_inner(), lab.sessions().unwrap().len()), (0, 0));
-        lab.close().unwrap();
-    }
-}
-
 /// Of those that need its instruments as many as `overtakes` says go before one that needs two of them, and no more.
 #[test]
 fn is_passed_so_often_and_no_more() {
@@ -413,38 +372,6 @@ fn close() {
     let outlives = board.hold(&["scope"]).begin().unwrap();
     drop(board);
     assert!(!outlives.is_held());
-}
-
-extern "C" {
-    fn fork() -> i32;
-    fn waitpid(process: i32, status: *mut i32, options: i32) -> i32;
-    fn _exit(status: i32) -> !;
-}
-
-#[test]
-fn a_child_is_refused() {
-    let lab = lab();
-    let mut first = lab.hold(&["scope"]).limit(LONG).begin().unwrap();
-    let parent = Error::OtherProcess(std::process::id());
-    // SAFETY: the child does nothing but calls that are refused, and ends.
-    let child = unsafe { fork() };
-    if child == 0 {
-        let mut refused = i32::from(first.finish() == Err(parent.clone()));
-        refused += i32::from(!first.is_held());
-        refused += i32::from(lab.hold(&["supply"]).begin().err().as_ref() == Some(&parent));
-        refused += i32::from(lab.sessions().err().as_ref() == Some(&parent));
-        refused += i32::from(lab.close().err().as_ref() == Some(&parent));
-        drop(first);
-        drop(lab);
-        unsafe { _exit(refused) };
-    }
-    let mut status = 0;
-    // SAFETY: the child's number, and a place for its status.
-    assert_eq!(unsafe { waitpid(child, &mut status, 0) }, child);
-    assert_eq!(status, 5 << 8);
-    assert!(first.is_held());
-    first.finish().unwrap();
-    drop(held(&lab, &["scope"]));
 }
 
 #[test]

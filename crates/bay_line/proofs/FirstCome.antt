@@ -1,11 +1,11 @@
 -- Who is next, and that the first come is served first.
-use Rattle.std.proofs.Common.{◌≡◌, ℕ, zero, suc, ◌<◌, ◌≤◌, true, nat_le, List, [], ◌∷◌, length, bit_and, refl, sym, ap, ◌∙◌, subst, inl, arith}
+use Rattle.std.proofs.Common.{◌≡◌, ℕ, zero, suc, ◌<◌, ◌≤◌, true, nat_le, List, [], ◌∷◌, length, bit_and, refl, sym, ap, ◌∙◌, subst, inl, inr, arith}
 use Rattle.std.specs.Int.Bits.{and_self}
 use Rattle.bay_line.specs.declared.wish.Wish.{Wish}
 use Rattle.bay_line.specs.Turns.{pass_all, others}
 use Rattle.bay_line.specs.Wishes.{wish_at, common, is_ready, is_kept}
 use Rattle.bay_line.specs.Lines.{NotMore, IsFair, NextIsLetIn}
-use Rattle.bay_line.specs.Bounds.{IsFirstComeFirstServed, IsServedBefore}
+use Rattle.bay_line.specs.Bounds.{IsFirstComeFirstServed, IsServedBefore, NobodyWaitsForItself}
 use Rattle.bay_line.proofs.Kept.{and_true_first, and_true_second, and_is}
 use Rattle.bay_line.proofs.Fair.{le_is, is_le}
 use Rattle.bay_line.proofs.Waiting.{no_reason}
@@ -50,3 +50,17 @@ is_first_come_first_served in_use free x k s order next i below same =
       needs = ap (bit_and v.needs) (sym same.needs) ∙ and_self v.needs;
       classes = ap (bit_and w.classes) same.classes ∙ and_self w.classes;
     }) too
+
+-- ---- nobody waits for itself
+
+pub nobody_waits_for_itself : NobodyWaitsForItself
+nobody_waits_for_itself most in_use free wishes all k inside = elim (all k inside) [
+  | inl not_ready ↦ inl not_ready
+  | inr more ↦ elim more [
+    | inl used ↦ inr (inl used)
+    | inr one ↦ elim one.1.3 [
+      | inl other ↦ inr (inr (inl (one.0, one.1, other, one.2)))
+      | inr elder ↦ inr (inr (inr elder))
+    ]
+  ]
+]

@@ -1,5 +1,5 @@
 -- For whom an instrument is kept from an ask.
-use Rattle.std.proofs.Common.{◌≡◌, ◌⊎◌, ℕ, zero, suc, ◌<◌, ◌≤◌, Bool, true, false, ◌&&◌, ◌||◌, not, nat_eq, nat_lt, List, [], ◌∷◌, length, refl, sym, ap, ◌∙◌, subst, inl, inr, arith}
+use Rattle.std.proofs.Common.{◌≡◌, ◌≢◌, ◌⊎◌, ℕ, zero, suc, ◌<◌, ◌≤◌, Bool, true, false, ◌&&◌, ◌||◌, not, nat_eq, nat_lt, List, [], ◌∷◌, length, refl, sym, ap, ◌∙◌, subst, inl, inr, arith}
 use Rattle.std.proofs.lemmas.Bool.{false≢true, true≢false, and_parts, and_from, or_cases, not-true, ltb-true, lt-ltb, eqb-true, eq-eqb, ne_eqb}
 use Rattle.bay_line.specs.declared.wish.Wish.{Wish}
 use Rattle.bay_line.specs.Wishes.{wish_at, is_kept}
@@ -12,7 +12,7 @@ above_at n [] k h inside = absurd (omega (arith, inside))
 above_at n (w ∷ ws) zero h inside = h.0
 above_at n (w ∷ ws) (suc k) h inside = above_at n ws k h.1 (omega (arith, inside))
 
-rises_at : (ws : List Wish) (i k : ℕ) → Rises ws → i < k → k < length ws → (wish_at ws i).ask ≤ (wish_at ws k).ask
+pub rises_at : (ws : List Wish) (i k : ℕ) → Rises ws → i < k → k < length ws → (wish_at ws i).ask ≤ (wish_at ws k).ask
 rises_at [] i k h below inside = absurd (omega (arith, inside))
 rises_at (w ∷ ws) i zero h below inside = absurd (omega (arith, below))
 rises_at (w ∷ ws) zero (suc k) h below inside = above_at w.ask ws k h.0 (omega (arith, inside))
@@ -33,15 +33,17 @@ is_kept_for most free ws ask x behind i inside says h =
           let it : SaysBehind most free ws ask x true = subst (SaysBehind most free ws ask x) both.0 says in
           let v = wish_at ws it.0 in
           let a = and_parts (nat_eq v.ask ask && has v.needs x) _ it.2 in let b = and_parts (nat_eq v.ask ask) (has v.needs x) a.0 in
+          let another : w.ask ≢ ask = λ e. true≢false (sym (eq-eqb w.ask ask e) ∙ not-true (nat_eq w.ask ask) both.1) in
+          let its : v.ask ≡ ask = eqb-true v.ask ask b.0 in
           record {
             inside = inside;
             needs = two.1;
             kept = two.0;
-            another = λ e. true≢false (sym (eq-eqb w.ask ask e) ∙ not-true (nat_eq w.ask ask) both.1);
+            another = another;
             from = inr (
               it.0,
-              record { inside = it.1; its = eqb-true v.ask ask b.0; needs = b.1 },
-              (inside, two.0, inr (not-true (is_kept most free v) a.1)),
+              record { inside = it.1; its = its; needs = b.1 },
+              (inside, two.0, inr (not-true (is_kept most free v) a.1), inl (λ e. another (e ∙ its))),
             );
           }
     ]

@@ -5,8 +5,8 @@ use Rattle.std.proofs.lemmas.Bool.{cases_eq, cases_Bool, eq-eqb, ne_eqb, false�
 use Rattle.std.proofs.lemmas.Nat.{and_or_self, and_or_apart, and_assoc, and_comm}
 use Rattle.std.specs.Int.Bits.{and_zero_l}
 use Rattle.bay_line.specs.declared.wish.Wish.{Wish}
-use Rattle.bay_line.specs.Wishes.{wish_at, common, is_kept, is_ready}
-use Rattle.bay_line.specs.Turns.{HasReason, AreKept, IsKeptBelow, KeptHaveReasons, IsFirst, IsFirstKept, IsFirstOther, may_go}
+use Rattle.bay_line.specs.Wishes.{wish_at, common, is_kept}
+use Rattle.bay_line.specs.Turns.{HasReason, AreKept, IsKeptBelow, KeptHaveReasons, IsFirst, IsFirstOther}
 
 -- ---- sets
 
@@ -69,14 +69,6 @@ and_true_second false b h = absurd (false≢true h)
 pub and_is : (a b : Bool) → a ≡ true → b ≡ true → (a && b) ≡ true
 and_is a b x y = ap (λ c. c && b) x ∙ y
 
-not_is : (a : Bool) → not a ≡ true → a ≡ false
-not_is true h = sym h
-not_is false h = refl
-
-pub not_true : (a : Bool) → not a ≡ false → a ≡ true
-not_true true h = refl
-not_true false h = sym h
-
 pub below_more : (i n : ℕ) → i < n + 1 → (i < n) ⊎ (i ≡ n)
 below_more i n h = elim (cases_eq i n) [ inl same ↦ inr same | inr other ↦ inl (omega (arith, h, other)) ]
 
@@ -91,17 +83,10 @@ none_looked_at most in_use free wishes = record {
   reasons = λ i p. absurd (omega (arith, p.0));
 }
 
--- what a test that failed says
-not_may_go : (kept free : ℕ) (w : Wish) → may_go kept free w ≡ false → (is_ready free w ≡ false) ⊎ (common w.needs kept ≡ true)
-not_may_go kept free w h = elim (cases_Bool (is_ready free w)) [
-  | inl ready ↦ inr (not_true (common w.needs kept) (ap (λ b. b && not (common w.needs kept)) (sym ready) ∙ h))
-  | inr not_ready ↦ inl not_ready
-]
-
-pub one_looked_at : (most in_use free : ℕ) (wishes : List Wish) (n kept more : ℕ) → n < length wishes → KeptSoFar most in_use free wishes n kept
+pub one_looked_at : (most in_use free : ℕ) (wishes : List Wish) (n kept more : ℕ) → KeptSoFar most in_use free wishes n kept
     → ((x : ℕ) → common x more ≡ (common x kept || is_kept most free (wish_at wishes n) && common x (wish_at wishes n).needs))
-    → (is_kept most free (wish_at wishes n) && may_go kept free (wish_at wishes n)) ≡ false → KeptSoFar most in_use free wishes (n + 1) more
-one_looked_at most in_use free wishes n kept more inside x says not_in =
+    → (is_kept most free (wish_at wishes n) ≡ true → HasReason most in_use free wishes n) → KeptSoFar most in_use free wishes (n + 1) more
+one_looked_at most in_use free wishes n kept more x says not_in =
     let w = wish_at wishes n in let k = is_kept most free w in
     record {
       are = record {
@@ -124,50 +109,29 @@ one_looked_at most in_use free wishes n kept more inside x says not_in =
       reasons = λ i p. elim (below_more i n p.0) [
         | inl less ↦ x.reasons i (less, p.1)
         | inr same ↦
-            let it : is_kept most free (wish_at wishes n) ≡ true = subst (λ j. is_kept most free (wish_at wishes j) ≡ true) same p.1 in
-            let fails : may_go kept free w ≡ false = ap (λ b. b && may_go kept free w) (sym it) ∙ not_in in
-            subst (HasReason most in_use free wishes) (sym same) (elim (not_may_go kept free w fails) [
-              | inl not_ready ↦ inl not_ready
-              | inr shares ↦ elim (x.are.why w.needs shares) [
-                | inl used ↦ inr (inl used)
-                | inr one ↦ inr (inr (one.0, (omega (arith, one.1.0, inside), one.1.1, inl one.1.0), one.2))
-              ]
-            ])
+            subst (HasReason most in_use free wishes) (sym same) (not_in (subst (λ j. is_kept most free (wish_at wishes j) ≡ true) same p.1))
       ];
     }
 
 -- ---- the first of all
 
-other_reason : (most in_use free : ℕ) (wishes : List Wish) (kept : ℕ) → IsFirstKept most in_use free wishes (None, kept) → (i : ℕ) → i < length wishes
-    → may_go kept free (wish_at wishes i) ≡ false → HasReason most in_use free wishes i
-other_reason most in_use free wishes kept x i inside fails = elim (cases_Bool (is_kept most free (wish_at wishes i))) [
-  | inl it ↦ x.1 i (inside, it)
-  | inr isnt ↦ elim (not_may_go kept free (wish_at wishes i) fails) [
-    | inl not_ready ↦ inl not_ready
-    | inr shares ↦ elim (x.0.why (wish_at wishes i).needs shares) [
-      | inl used ↦ inr (inl used)
-      | inr one ↦ inr (inr (one.0, (one.1.0, one.1.1, inr isnt), one.2))
+pub first_is_other : (most in_use free : ℕ) (wishes : List Wish) (o : Option ℕ) → KeptHaveReasons most in_use free wishes (length wishes)
+    → IsFirstOther most in_use free wishes o → IsFirst most in_use free wishes o
+first_is_other most in_use free wishes (Some k) x y = (
+  y.0,
+  y.2,
+  λ i before. elim (cases_Bool (is_kept most free (wish_at wishes i))) [
+    | inl it ↦ x i (before.0, it)
+    | inr isnt ↦ elim before.1 [
+      | inl b ↦ y.3 i b.0 isnt
+      | inr b ↦ absurd (false≢true (sym isnt ∙ b.0))
     ]
-  ]
+  ],
+)
+first_is_other most in_use free wishes None x y = λ i inside. elim (cases_Bool (is_kept most free (wish_at wishes i))) [
+  | inl it ↦ x i (inside, it)
+  | inr isnt ↦ y i inside isnt
 ]
-
-pub first_is_other : (most in_use free : ℕ) (wishes : List Wish) (kept : ℕ) (o : Option ℕ) → IsFirstKept most in_use free wishes (None, kept)
-    → IsFirstOther kept free wishes o → IsFirst most in_use free wishes o
-first_is_other most in_use free wishes kept (Some k) x y =
-    let w = wish_at wishes k in
-    let none : common w.needs kept ≡ false = not_is (common w.needs kept) (and_true_second (is_ready free w) (not (common w.needs kept)) y.1) in (
-      y.0,
-      record {
-        ready = and_true_first (is_ready free w) (not (common w.needs kept)) y.1;
-        unused = x.0.unused w.needs none;
-        not_kept = λ i keeps. x.0.apart w.needs none i (keeps.0, keeps.1);
-      },
-      λ i before. elim before.1 [
-        | inl b ↦ other_reason most in_use free wishes kept x i before.0 (y.2 i b.0)
-        | inr b ↦ x.1 i (before.0, b.0)
-      ],
-    )
-first_is_other most in_use free wishes kept None x y = λ i inside. other_reason most in_use free wishes kept x i inside (y i inside)
 
 pub or_false_is : (a k b : Bool) → k ≡ false → a ≡ (a || k && b)
 or_false_is a k b h = sym (ap (λ c. a || c && b) h ∙ with_false a)

@@ -13,3 +13,4 @@ pub mod Within
 pub mod Deadlines
 pub mod Keepers
 pub mod Lacking
+pub mod HeldBack

@@ -5,10 +5,10 @@ use Rattle.std.proofs.lemmas.Nat.{and_assoc}
 use Rattle.std.specs.Int.Bits.{and_zero_r}
 use Rattle.bay_line.specs.declared.wish.Wish.{Wish}
 use Rattle.bay_line.specs.declared.going_in.Seated.{Seated}
-use Rattle.bay_line.specs.Wishes.{no_wish, wish_at, common, is_ready, is_kept, passes, counts}
-use Rattle.bay_line.specs.Turns.{HasReason, MayGoIn, pass_all, others}
+use Rattle.bay_line.specs.Wishes.{no_wish, wish_at, common, is_ready, is_kept, passes, counts, WantsNoMore}
+use Rattle.bay_line.specs.Turns.{HasReason, MayGoIn, KeepsFrom, HasElder, pass_all, others}
 use Rattle.bay_line.specs.Lines.{LineView, Seldom, Below, IsInOrder, GoesIn, LetsIn, wishes_of, asking, leaving}
-use Rattle.bay_line.specs.Bounds.{Stands, WaitsOnce, Waits, goes_before, go_before, one_if, HasWaited, WaitsAddUp, WantsNoMore}
+use Rattle.bay_line.specs.Bounds.{Stands, WaitsOnce, Waits, goes_before, go_before, one_if, HasWaited, WaitsAddUp}
 use Rattle.bay_line.proofs.Standing.{rises_more, seldom_more, fewer_others, common_comm}
 use Rattle.bay_line.proofs.Fair.{fair_more}
 use Rattle.bay_line.proofs.InOrder.{in_order_others, in_order_goes}
@@ -45,7 +45,7 @@ stands_ahead most in_use free needs k ws w place st may same other kept p = elim
   | inr behind ↦
       let i = length st.before in let is = at_its_place ws w place st in
       let apart : i ≢ k = λ e. other (ap (λ j. (wish_at ws j).ask) (sym e) ∙ ap (λ (v : Wish). v.ask) is) in
-      let keeps = may.not_kept i (its_place_inside ws w place st, subst (λ (v : Wish). is_kept most free v ≡ true) (sym is) kept, inl (omega (arith, behind, apart))) in
+      let keeps = may.not_kept i (its_place_inside ws w place st, subst (λ (v : Wish). is_kept most free v ≡ true) (sym is) kept, inl (omega (arith, behind, apart)), inl (λ e. other (sym e ∙ ap (λ (v : Wish). v.ask) is))) in
       let shares : common w.needs needs ≡ true = and_true_second (is_ready free w) (common w.needs needs) p in
       let none : common needs w.needs ≡ false = subst (λ (z : ℕ × ℕ). common z.0 z.1 ≡ false) (λ j. (same j, (is j).needs)) keeps in
       absurd (false≢true (sym none ∙ (common_comm needs w.needs ∙ shares)))
@@ -247,6 +247,38 @@ less_shares a b f less none =
     ap (λ n. bit_and n f) (sym less) ∙ (and_assoc f a b ∙ (ap (bit_and a) (zero_is b f none) ∙ and_zero_r a)) in
     ap not (eq-eqb (bit_and a f) 0 zero_a)
 
+-- whoever wants no more than one that wants no more
+wants_still_less : (u v w : Wish) → WantsNoMore u v → WantsNoMore v w → WantsNoMore u w
+wants_still_less u v w x y = record {
+  needs = ap (λ n. bit_and n w.needs) (sym x.needs) ∙ (and_assoc w.needs u.needs v.needs ∙ (ap (bit_and u.needs) y.needs ∙ x.needs));
+  classes = ap (λ n. bit_and n u.classes) (sym y.classes) ∙ (and_assoc u.classes w.classes v.classes ∙ (ap (bit_and w.classes) x.classes ∙ y.classes));
+}
+
+-- what is kept from one that stands before k and wants no more, is kept from k
+kept_too : (most free : ℕ) (old : List Wish) (h i k : ℕ) → i < k → WantsNoMore (wish_at old i) (wish_at old k)
+    → (is_kept most free (wish_at old k) ≡ true → is_kept most free (wish_at old i) ≡ true) → KeepsFrom most free old h i
+    → ((wish_at old h).ask ≢ (wish_at old k).ask) ⊎ HasElder most free old k
+kept_too most free old h i k below less too keeps = elim (cases_eq (wish_at old h).ask (wish_at old k).ask) [
+  | inr other ↦ inl other
+  | inl its ↦ elim (cases_eq (wish_at old i).ask (wish_at old k).ask) [
+    | inr another ↦ inr (i, record { stands = below; another = another; wants = less; too = too })
+    | inl own ↦ elim keeps.3 [
+      | inl other ↦ absurd (other (its ∙ sym own))
+      | inr elder ↦
+          let e = elder.1 in let stands = e.stands in
+          inr (
+            elder.0,
+            record {
+              stands = omega (arith, stands, below);
+              another = λ same. e.another (same ∙ sym own);
+              wants = wants_still_less (wish_at old elder.0) (wish_at old i) (wish_at old k) e.wants less;
+              too = λ kept. e.too (too kept);
+            },
+          )
+    ]
+  ]
+]
+
 pub no_reason : (most in_use free : ℕ) (old : List Wish) (i k : ℕ) → i < k → MayGoIn most in_use free old k → WantsNoMore (wish_at old i) (wish_at old k)
     → (is_kept most free (wish_at old k) ≡ true → is_kept most free (wish_at old i) ≡ true) → HasReason most in_use free old i → ⊥
 no_reason most in_use free old i k below may less too (inl not_ready) =
@@ -261,4 +293,4 @@ no_reason most in_use free old i k below may less too (inr (inr (h, keeps, share
         | inr none ↦ inr none
       ]
     ] in
-    false≢true (sym (less_shares (wish_at old i).needs (wish_at old k).needs (wish_at old h).needs less.needs (may.not_kept h (keeps.0, keeps.1, from))) ∙ shares)
+    false≢true (sym (less_shares (wish_at old i).needs (wish_at old k).needs (wish_at old h).needs less.needs (may.not_kept h (keeps.0, keeps.1, from, kept_too most free old h i k below less too keeps))) ∙ shares)

@@ -1,12 +1,11 @@
 -- For readers: by how many somebody is passed while it waits in line.
-use Rattle.std.specs.Prelude.{◌≡◌, ◌≢◌, ◌⊎◌, ℕ, zero, suc, ◌+◌, ◌<◌, ◌≤◌, Bool, if◌then◌else◌, true, List, ◌∷◌, ◌++◌, length, Option, Some, None}
+use Rattle.std.specs.Prelude.{◌≡◌, ◌≢◌, ◌⊎◌, ℕ, zero, suc, ◌+◌, ◌<◌, ◌≤◌, Bool, if◌then◌else◌, true, false, List, ◌∷◌, ◌++◌, length, Option, Some, None}
 use Rattle.std.proofs.Common.{inl, inr}
-use Rattle.std.specs.Int.Bits.{bit_and}
 use Rattle.bay_line.specs.declared.wish.Wish.{Wish}
 use Rattle.bay_line.specs.declared.going_in.Seated.{Seated}
-use Rattle.bay_line.specs.Wishes.{wish_at, is_kept, passes}
-use Rattle.bay_line.specs.Turns.{MayGoIn}
-use Rattle.bay_line.specs.Lines.{LineView, IsInOrder, Below, IsNext, GoIn, LetsIn, asking, leaving}
+use Rattle.bay_line.specs.Wishes.{wish_at, common, is_ready, is_kept, passes, WantsNoMore}
+use Rattle.bay_line.specs.Turns.{KeepsFrom, HasElder, MayGoIn}
+use Rattle.bay_line.specs.Lines.{LineView, IsInOrder, Below, IsNext, IsChosen, GoIn, LetsIn, asking, leaving}
 
 -- so many wishes stand before this one
 pub record Stands (w : Wish) (place : ℕ) (wishes : List Wish) : Type 0 where
@@ -83,11 +82,6 @@ IsFirstComeFirstServed =
     (in_use free : ℕ) (x : LineView) (place : ℕ) (s : Seated) → IsInOrder x → IsNext x.most in_use free x.wishes place s
     → (i : ℕ) → i < place → WantTheSame (wish_at x.wishes i) (wish_at x.wishes place) → ⊥
 
--- it wants no instrument that the other doesn't, and may have a place wherever the other may
-pub record WantsNoMore (w other : Wish) : Type 0 where
-  pub needs : bit_and w.needs other.needs ≡ w.needs
-  pub classes : bit_and other.classes w.classes ≡ other.classes
-
 -- Whoever is let in: nobody that stood before it wants no more, and may have a place wherever it may, unless the one was passed by as often as may be and the
 -- other wasn't
 abbrev pub IsServedBefore : Type 0
@@ -107,3 +101,13 @@ pub record WaitsForNothing (most in_use free : ℕ) (wishes : List Wish) (k : �
 abbrev pub NobodyWaitsForNothing : Type 0
 NobodyWaitsForNothing =
     (most in_use free : ℕ) (old new : List Wish) → GoIn most in_use free old None new → (k : ℕ) → WaitsForNothing most in_use free new k → ⊥
+
+-- once nobody is let in any more: for each wish in line no place is free; or an instrument of it is in use; or another ask keeps one from it; or another ask
+-- stands before it and wants no more
+abbrev pub NobodyWaitsForItself : Type 0
+NobodyWaitsForItself =
+    (most in_use free : ℕ) (wishes : List Wish) → IsChosen most in_use free wishes None → (k : ℕ) → k < length wishes
+    → (is_ready free (wish_at wishes k) ≡ false) ⊎ (common (wish_at wishes k).needs in_use ≡ true)
+    ⊎ ((i : ℕ) × KeepsFrom most free wishes i k × ((wish_at wishes i).ask ≢ (wish_at wishes k).ask)
+    × (common (wish_at wishes k).needs (wish_at wishes i).needs ≡ true))
+    ⊎ HasElder most free wishes k

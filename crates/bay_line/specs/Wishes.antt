@@ -1,5 +1,5 @@
 -- For readers: what somebody in line waits for, and by whom it is passed by.
-use Rattle.std.specs.Prelude.{ℕ, ◌+◌, Bool, ◌&&◌, not, ◌==◌, nat_le, nat_lt, if◌then◌else◌, false, List, slice_index_or, Option, None, Some}
+use Rattle.std.specs.Prelude.{◌≡◌, ℕ, ◌+◌, Bool, ◌&&◌, not, ◌==◌, nat_le, nat_lt, if◌then◌else◌, false, List, slice_index_or, Option, None, Some}
 use Rattle.std.specs.Int.Bits.{bit_and}
 use Rattle.bay_line.specs.declared.wish.Wish.{Wish}
 
@@ -27,10 +27,15 @@ is_past now None = false
 abbrev pub is_late : ℕ → Wish → Bool
 is_late now w = is_past now w.deadline
 
--- it was passed by as often as may be, and a place is free for it: so its instruments are kept for it from all but those before it
+-- it was passed by as often as may be, and a place is free for it: so its instruments are kept for it from all but its own ask and those before it
 -- of which the same is true
 abbrev pub is_kept : ℕ → ℕ → Wish → Bool
 is_kept most free w = is_ready free w && nat_le most w.passed
+
+-- it wants no instrument that the other doesn't, and may have a place wherever the other may
+pub record WantsNoMore (w other : Wish) : Type 0 where
+  pub needs : bit_and w.needs other.needs ≡ w.needs
+  pub classes : bit_and other.classes w.classes ≡ other.classes
 
 -- somebody comes to hold one of its instruments, though a place was free for it
 abbrev pub passes : ℕ → ℕ → Wish → Bool

@@ -1,29 +1,42 @@
 //! Whose turn it is.
-ghost use Rattle.std.specs.Prelude.{◌≡◌, ℕ, ◌||◌, ◌&&◌, true};
+ghost use Rattle.std.specs.Prelude.{◌≡◌, ◌<◌, ℕ, ◌||◌, ◌&&◌, true, false, length};
 ghost use Rattle.bay_line.specs.Wishes.{common, is_ready, is_kept};
-ghost use Rattle.bay_line.specs.Turns.{may_go, IsFirst, IsFirstKept, IsFirstOther, IsFreeClass};
+ghost use Rattle.bay_line.specs.Lines.{Rises};
+ghost use Rattle.bay_line.specs.Turns.{AreKept, IsKeptBelow, SaysItsTurn, IsFirst, IsFirstKept, IsFirstOther, IsFreeClass};
 
-use crate::wish::{Wish, is_kept, is_ready};
-
-/// Whether something is in both sets.
-fn common(a: u64, b: u64) -> bool
-    ensures { result ≡ common a b }
-{
-    a & b != 0
-}
-
-/// Whether one may be let in, where this is in use or kept.
-fn may_go_in(wish: Wish, kept: u64, free: u32) -> bool
-    ensures { result ≡ may_go kept free wish }
-{
-    is_ready(wish, free) && !common(wish.needs, kept)
-}
+use crate::held_back::{is_free, may_go_in};
+use crate::wish::{Wish, is_kept};
 
 /// Whether it is one of those for which their instruments are kept, and may be let in.
-fn may_go_first(wish: Wish, most: u32, kept: u64, free: u32) -> bool
-    ensures { result ≡ (is_kept most free wish && may_go kept free wish) }
+fn goes_first(wishes: &[Wish], place: usize, most: u32, in_use: u64, kept: u64, free: u32) -> bool
+    requires inside { place < length wishes.now }
+    requires rises { Rises wishes.now }
+    requires kept { AreKept in_use wishes.now (IsKeptBelow most free wishes.now place) kept }
+    ensures { SaysItsTurn true most in_use free wishes.now place result }
 {
-    is_kept(wish, most, free) && may_go_in(wish, kept, free)
+    if !is_kept(wishes[place], most, free) {
+        return false;
+    }
+    if !is_free(wishes[place], in_use, free) {
+        return false;
+    }
+    may_go_in(wishes, place, place, most, in_use, kept, free)
+}
+
+/// Whether it is none of them, and may be let in.
+fn goes_then(wishes: &[Wish], place: usize, most: u32, in_use: u64, kept: u64, free: u32) -> bool
+    requires inside { place < length wishes.now }
+    requires rises { Rises wishes.now }
+    requires kept { AreKept in_use wishes.now (IsKeptBelow most free wishes.now (length wishes.now)) kept }
+    ensures { SaysItsTurn false most in_use free wishes.now place result }
+{
+    if !is_free(wishes[place], in_use, free) {
+        return false;
+    }
+    if is_kept(wishes[place], most, free) {
+        return false;
+    }
+    may_go_in(wishes, place, wishes.len(), most, in_use, kept, free)
 }
 
 /// What is kept from those behind this one, too.
@@ -39,25 +52,27 @@ fn kept_with(kept: u64, wish: Wish, most: u32, free: u32) -> u64
 
 /// The first of those that were passed by as often as may be, if one of them may be let in; and what is in use or kept by any of them.
 fn first_kept(wishes: &[Wish], most: u32, in_use: u64, free: u32) -> (Option<usize>, u64)
+    requires { Rises wishes.now }
     ensures { IsFirstKept most in_use free wishes.now result }
 {
     let mut kept = in_use;
     for place in 0..wishes.len() {
-        let wish = wishes[place];
-        if may_go_first(wish, most, kept, free) {
+        if goes_first(wishes, place, most, in_use, kept, free) {
             return (Some(place), kept);
         }
-        kept = kept_with(kept, wish, most, free);
+        kept = kept_with(kept, wishes[place], most, free);
     }
     (None, kept)
 }
 
-/// The first that may be let in, where this is in use or kept.
-fn first_other(wishes: &[Wish], kept: u64, free: u32) -> Option<usize>
-    ensures { IsFirstOther kept free wishes.now result }
+/// The first of the others that may be let in, where this is in use or kept.
+fn first_other(wishes: &[Wish], most: u32, in_use: u64, kept: u64, free: u32) -> Option<usize>
+    requires rises { Rises wishes.now }
+    requires kept { AreKept in_use wishes.now (IsKeptBelow most free wishes.now (length wishes.now)) kept }
+    ensures { IsFirstOther most in_use free wishes.now result }
 {
     for place in 0..wishes.len() {
-        if may_go_in(wishes[place], kept, free) {
+        if goes_then(wishes, place, most, in_use, kept, free) {
             return Some(place);
         }
     }
@@ -66,11 +81,12 @@ fn first_other(wishes: &[Wish], kept: u64, free: u32) -> Option<usize>
 
 /// The first that may be let in, if there is one.
 pub(crate) fn first(wishes: &[Wish], most: u32, in_use: u64, free: u32) -> Option<usize>
+    requires { Rises wishes.now }
     ensures { IsFirst most in_use free wishes.now result }
 {
     match first_kept(wishes, most, in_use, free) {
         (Some(place), _) => Some(place),
-        (None, kept) => first_other(wishes, kept, free),
+        (None, kept) => first_other(wishes, most, in_use, kept, free),
     }
 }
 

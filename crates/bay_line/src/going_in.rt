@@ -1,7 +1,7 @@
 //! Who goes in.
 ghost use Rattle.std.specs.Prelude.{◌≡◌};
 ghost use Rattle.bay_line.specs.Turns.{pass_all, others};
-ghost use Rattle.bay_line.specs.Lines.{IsChosen, GoIn};
+ghost use Rattle.bay_line.specs.Lines.{Rises, IsChosen, GoIn};
 
 use crate::first::{class_for, first};
 use crate::passing::{pass_all, remove};
@@ -23,6 +23,7 @@ pub struct Seated {
 
 /// The first that may be let in, if there is one, and what it gets.
 pub(crate) fn choose(wishes: &[Wish], most: u32, in_use: u64, free: u32) -> Option<(usize, Seated)>
+    requires { Rises wishes.now }
     ensures { IsChosen most in_use free wishes.now result }
 {
     let Some(place) = first(wishes, most, in_use, free) else {
@@ -54,6 +55,7 @@ pub(crate) fn go_in(
     in_use: u64,
     free: u32,
 ) -> Option<Seated>
+    requires { Rises wishes.old.items }
     ensures { GoIn most in_use free wishes.old.items result wishes.new.items }
 {
     let Some((_, seated)) = choose(wishes, most, in_use, free) else {

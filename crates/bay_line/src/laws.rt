@@ -4,7 +4,7 @@ ghost use Rattle.bay_line.specs.Lines.{NextIsLetIn};
 ghost use Rattle.bay_line.specs.Wanted.{IsLateFromFirst};
 ghost use Rattle.bay_line.specs.InLine.{StaysInLine, WhatWasAskedStays};
 ghost use Rattle.bay_line.specs.Keepers.{EachLacksSomething};
-ghost use Rattle.bay_line.specs.Bounds.{IsPassedAtMost, WaitsAddUp, IsFirstComeFirstServed, IsServedBefore, NobodyWaitsForNothing};
+ghost use Rattle.bay_line.specs.Bounds.{IsPassedAtMost, WaitsAddUp, IsFirstComeFirstServed, IsServedBefore, NobodyWaitsForNothing, NobodyWaitsForItself};
 
 /// Once nobody is let in any more, nobody waits whose instruments are all free, kept for nobody before it, and for whom a place is free.
 pub fn nobody_waits_for_nothing()
@@ -20,6 +20,12 @@ pub fn each_reason_ends()
 /// So there is somebody to name to each that waits: no place is free for it; or an instrument of one of its sets is in use, or kept for another.
 pub fn each_lacks_something()
     ensures { EachLacksSomething }
+{}
+
+/// And no ask waits for itself: for each of its sets no place is free; or an instrument of it is in use; or another ask keeps one from it, or stands before it
+/// and wants no more.
+pub fn nobody_waits_for_itself()
+    ensures { NobodyWaitsForItself }
 {}
 
 /// While it waits, and a place is free for it, at most `most` that need one of its instruments are let in, and one more for each wish that stood before it when

@@ -7,6 +7,7 @@
 mod appending;
 mod first;
 mod going_in;
+mod held_back;
 mod keeper;
 mod late;
 pub mod laws;

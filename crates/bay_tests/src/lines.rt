@@ -105,6 +105,48 @@ fn lines(rt: HostRuntime) {
     lapse(&rt, &mut line);
 }
 
+/// One that wants 0 and 1, or 0 and 2, is passed at its first set while 0 is in use. When 0 is free and 1 isn't, it gets its second set.
+#[test]
+fn own_sets(rt: HostRuntime) {
+    let mut line = Line::nobody(rt.alloc(), 3, 1);
+    comes(&rt, &mut line, 1, &[3, 5], 1, None);
+    comes(&rt, &mut line, 2, &[2], 1, None);
+    check(
+        &rt,
+        "passes it",
+        line.let_in(1, 1).map(parts),
+        Some((2, 2, 0, None)),
+    );
+    check(
+        &rt,
+        "second set",
+        line.let_in(2, 1).map(parts),
+        Some((1, 5, 0, None)),
+    );
+}
+
+/// Another asked before it for its second set, and 0 is kept from that one. So both wait, and once 1 is free it gets its first set.
+#[test]
+fn first_come(rt: HostRuntime) {
+    let mut line = Line::nobody(rt.alloc(), 4, 1);
+    comes(&rt, &mut line, 1, &[5], 1, None);
+    comes(&rt, &mut line, 2, &[3, 5], 1, None);
+    comes(&rt, &mut line, 3, &[2], 1, None);
+    check(
+        &rt,
+        "passes it",
+        line.let_in(1, 1).map(parts),
+        Some((3, 2, 0, None)),
+    );
+    check(&rt, "both wait", line.let_in(2, 1).map(parts), None);
+    check(
+        &rt,
+        "first set",
+        line.let_in(0, 1).map(parts),
+        Some((2, 3, 0, None)),
+    );
+}
+
 #[test]
 fn leave(rt: HostRuntime) {
     let mut line = Line::nobody(rt.alloc(), 5, 1);

@@ -1,65 +1,26 @@
 //! A lab: instruments that threads share, over the bay of the C library. It has a mutex, a writer and a timer, and no rule of its own.
 mod asking;
+mod opening;
 mod options;
-mod pump;
 mod session;
-mod timer;
+mod shell;
+mod threads;
 mod who;
-mod writer;
 
-use crate::ffi::bay::{self, Bay, Class, Terms, DONE, NOT_YET, OVER};
-use crate::ffi::system::{at_forks, forks};
-use crate::kept::{fault, Kept};
-use crate::Error;
+// (all that its parts have in common, which they take from here)
+use crate::ffi::bay::{self, *};
+use crate::ffi::system::Home;
+use crate::ffi::{Handle, Owned, DONE, NO_MEMORY, NO_ROOM};
+use crate::kept::Kept;
+use crate::{Error, Keeper, SyncTo};
 pub use asking::Hold;
+use options::milliseconds;
 pub use options::LabOptions;
-use options::Names;
-use pump::{Ask, Clock, Guard, Shell};
 pub use session::Held;
-use session::Told;
-use std::path::{Path, PathBuf};
-use std::sync::{Arc, Condvar, Mutex};
-use std::time::{Instant, SystemTime, UNIX_EPOCH};
+use shell::{Inner, Shell, State, Told};
+use std::sync::Arc;
+use std::time::Duration;
 pub use who::Who;
-
-/// What all that belong to a lab share.
-struct Inner {
-    shell: Mutex<Shell>,
-    writer: Condvar,
-    timer: Condvar,
-    is_written: Condvar,
-    names: Names,
-    journal: Option<PathBuf>,
-    born: u32,
-    process: u32,
-}
-
-impl Inner {
-    fn lock(&self) -> Guard<'_> {
-        // (a panic under the mutex leaves nothing half done: what was told is told again until it is given back)
-        self.shell.lock().unwrap_or_else(|poisoned| poisoned.into_inner())
-    }
-
-    /// The mutex, in the process that opened the lab. (In a child nobody may be there to let it go.)
-    fn here(&self) -> Result<Guard<'_>, Error> {
-        if self.born != forks() {
-            return Err(Error::OtherProcess(self.process));
-        }
-        Ok(self.lock())
-    }
-
-    /// The same, as long as the lab is open and sound.
-    fn open(&self) -> Result<Guard<'_>, Error> {
-        let shell = self.here()?;
-        shell.is_sound().map(|()| shell)
-    }
-
-    fn starts(&self, shell: &mut Shell, name: &str, does: impl FnOnce() + Send + 'static) -> Result<(), Error> {
-        let thread = std::thread::Builder::new().name(name.into()).spawn(does).map_err(|_| Error::NoMemory)?;
-        shell.threads.push(thread);
-        Ok(())
-    }
-}
 
 /// Instruments that threads share. A session holds all its instruments from its beginning to its end, and no two hold one at once.
 ///
@@ -86,45 +47,6 @@ impl Lab {
     /// A lab of these instruments, 1 to 64, of which whoever asks may use all. [`LabOptions`] has all else: stations, a journal.
     pub fn new(instruments: impl IntoIterator<Item = impl AsRef<str>>) -> Result<Lab, Error> {
         LabOptions::new(instruments).open()
-    }
-
-    fn of(options: &LabOptions) -> Result<Lab, Error> {
-        at_forks();
-        let names = options.names()?;
-        let terms = options.terms(&names);
-        let mut clock = Clock { base: 0, begun: Instant::now() };
-        let (bay, file, journal) = match &options.journal {
-            None => (Bay::open(&names.classes, &terms).map_err(opened)?, None, None),
-            Some((path, to)) => {
-                clock.base = SystemTime::now().duration_since(UNIX_EPOCH).map_or(0, |it| it.as_millis() as u64);
-                let (mut file, text) = Kept::open(path, *to)?;
-                let (bay, used) = resumed(path, &names.classes, &terms, &text, clock.now())?;
-                file.begin(path, used as u64).map_err(|why| fault(path, why, 0))?;
-                (bay, Some(file), Some(path.clone()))
-            }
-        };
-        let (writer, timer, is_written) = (Condvar::new(), Condvar::new(), Condvar::new());
-        let (shell, born, process) = (Mutex::new(Shell::new(bay, clock)), forks(), std::process::id());
-        let lab = Lab { inner: Arc::new(Inner { shell, writer, timer, is_written, names, journal, born, process }) };
-        lab.begins(file)?;
-        Ok(lab)
-    }
-
-    /// Who held is there still; and with a journal the writer begins, and its first line is there.
-    fn begins(&self, file: Option<Kept>) -> Result<(), Error> {
-        let inner = &self.inner;
-        let mut shell = inner.lock();
-        shell.back = shell.standing()?.iter().map(|it| it.number).collect();
-        if let Some(file) = file {
-            let me = Arc::clone(inner);
-            let started = inner.starts(&mut shell, "labrun writer", move || me.writes(file));
-            shell.is_closed = started.is_err(); // (nobody waits for a writer that isn't there)
-            started?;
-        }
-        if !shell.back.is_empty() {
-            inner.starts_timer(&mut shell)?; // (one of them may have a limit)
-        }
-        inner.is_durable(shell).map(drop)
     }
 
     /// A guest's session of all these instruments, which is asked for by [`Hold::begin`].
@@ -154,18 +76,18 @@ impl Lab {
 
     /// A station by its name; [`Error::NoSuchJob`] if there is none.
     pub fn station(&self, name: &str) -> Result<Station, Error> {
-        let kind = self.inner.names.number_of(name).ok_or_else(|| Error::NoSuchJob(name.to_string()))?;
-        Ok(Station { inner: Arc::clone(&self.inner), kind })
+        let at = self.inner.options.stations.iter().position(|it| it == name).ok_or_else(|| Error::NoSuchJob(name.into()))?;
+        Ok(Station { inner: Arc::clone(&self.inner), kind: at as u32 + 1 })
     }
 
     /// The instruments' names, in their order.
     pub fn instruments(&self) -> &[String] {
-        &self.inner.names.instruments
+        &self.inner.options.instruments
     }
 
     /// Who holds and who waits, in the order in which they asked.
     pub fn sessions(&self) -> Result<Vec<Who>, Error> {
-        self.inner.sessions()
+        self.inner.open()?.sessions()
     }
 
     /// The sessions that held when the process died that had the journal before, and that nobody took up yet: so a second call gives none.
@@ -182,17 +104,13 @@ impl Lab {
     /// ```
     pub fn resumed(&self) -> Result<Vec<Held>, Error> {
         let (mut found, mut shell) = (Vec::new(), self.inner.open()?);
-        let all = shell.standing()?;
-        while let Some(number) = shell.back.pop() {
-            let kind = all.iter().find(|it| it.number == number).map_or(0, |it| it.kind);
-            let now = shell.clock.now();
-            let (status, needs) = shell.bay.back(number, [1, number], now);
-            // (an operator may have taken it away)
-            if shell.checked(status, &[OVER]) == DONE {
-                shell.asks.insert(number, Ask { wants: needs, kind, told: Told::Holds(needs), woken: None });
-                found.insert(0, Held { inner: Arc::clone(&self.inner), number, needs, is_over: false });
+        for Standing { number, mut needs, .. } in shell.standing()?.into_iter().filter(|it| it.what == HOLDS) {
+            let is_known = shell.state.asks.contains_key(&number);
+            // (its limit may be over just now)
+            if !is_known && shell.calls(|bay, now| lab_bay_back(bay, number, 1, number, now, &mut needs))? == DONE {
+                shell.is_told(number, Told::Holds(needs));
+                found.push(Held { inner: Arc::clone(&self.inner), number, needs });
             }
-            self.inner.pump(&mut shell)?;
         }
         Ok(found)
     }
@@ -210,48 +128,36 @@ impl Lab {
     /// ```
     pub fn take_away(&self, number: u64) -> Result<bool, Error> {
         let mut shell = self.inner.open()?;
-        let now = shell.clock.now();
-        let status = shell.bay.take_away(number, now);
-        let is_done = shell.checked(status, &[NOT_YET, OVER]) == DONE;
-        self.inner.pump(&mut shell)?;
-        self.inner.is_durable(shell).map(|_| is_done)
+        let is_done = shell.calls(|bay, now| lab_bay_take_away(bay, number, now))? == DONE;
+        shell.waits_for_the_disk().map(|()| is_done)
     }
 
     /// Nobody begins a session any more: whoever waits gets [`Error::Stopped`]. Those that hold go on to their end.
     pub fn stop(&self) -> Result<(), Error> {
-        self.stops(&mut *self.inner.open()?)
-    }
-
-    fn stops(&self, shell: &mut Shell) -> Result<(), Error> {
-        let now = shell.clock.now();
-        let status = shell.bay.stop(now);
-        shell.checked(status, &[]);
-        self.inner.pump(shell)
+        self.inner.open()?.calls(lab_bay_stop).map(drop)
     }
 
     /// Stops, waits until all is written, and closes: all calls give [`Error::Closed`] then, and others may open the journal. What is held
     /// then stays held by the journal, and comes back when it is opened again. After [`Error::Journal`] it isn't closed yet: call it again.
     pub fn close(&self) -> Result<(), Error> {
-        let mut shell = self.inner.here()?;
-        if shell.is_closed {
-            return shell.strange.map_or(Ok(()), |status| Err(Error::Status(status)));
+        let stopped = self.inner.open().and_then(|mut shell| shell.calls(lab_bay_stop).map(|_| shell));
+        match stopped.and_then(Shell::waits_for_the_disk) {
+            Err(open @ (Error::Journal { .. } | Error::OtherProcess(_))) => return Err(open),
+            _ => self.ends(),
         }
-        let stopped = self.stops(&mut shell);
-        let written = stopped.and_then(|()| self.inner.is_durable(shell).map(drop));
-        if matches!(written, Err(Error::Journal { .. })) {
-            return written;
-        }
-        self.ends();
         // (also of the writer's last calls; another thread may have closed it meanwhile)
-        self.inner.lock().strange.map_or(Ok(()), |status| Err(Error::Status(status)))
+        match self.inner.lock().state.bay.is_sound() {
+            Err(Error::Closed) => Ok(()),
+            ended => ended,
+        }
     }
 
     /// The threads end, and with the writer the file is closed.
     fn ends(&self) {
         let mut shell = self.inner.lock();
-        shell.is_closed = true;
-        self.inner.wakes_everybody(&shell);
-        let threads = std::mem::take(&mut shell.threads);
+        shell.state.bay.ends(Error::Closed);
+        shell.wakes_everybody();
+        let threads = std::mem::take(&mut shell.state.threads);
         drop(shell);
         threads.into_iter().for_each(|it| drop(it.join()));
     }
@@ -260,10 +166,9 @@ impl Lab {
 impl Drop for Lab {
     fn drop(&mut self) {
         // (in the child of a fork its threads aren't there)
-        if let Err(Error::OtherProcess(_)) = self.close() {
-            return;
+        if !matches!(self.close(), Err(Error::OtherProcess(_))) {
+            self.ends();
         }
-        self.ends();
     }
 }
 
@@ -286,12 +191,12 @@ pub struct Station {
 impl Station {
     /// Its name.
     pub fn name(&self) -> &str {
-        self.inner.names.class(self.kind)
+        self.inner.options.station_of(self.kind).unwrap_or("")
     }
 
     /// The instruments that it may use.
     pub fn instruments(&self) -> Vec<&str> {
-        self.inner.names.of(self.inner.names.classes[self.kind as usize].uses)
+        self.inner.options.of(self.inner.options.classes[self.kind as usize].uses)
     }
 
     /// A session of all these, as [`Lab::hold`].
@@ -302,45 +207,5 @@ impl Station {
     /// The first of these that is free, as [`Lab::any_of`].
     pub fn any_of(&self, choices: &[&[&str]]) -> Hold {
         Hold::new(&self.inner, self.kind, choices)
-    }
-}
-
-/// Why there is no bay.
-fn opened(status: u32) -> Error {
-    match status {
-        bay::NO_MEMORY => Error::NoMemory,
-        bay::NO_CLASS => Error::Invalid("a lab has at most 31 stations".into()),
-        other => Error::Status(other),
-    }
-}
-
-/// The bay that the text of a journal tells of, and how many of its bytes.
-fn resumed(path: &Path, classes: &[Class], terms: &Terms, text: &[u8], now: u64) -> Result<(Bay, usize), Error> {
-    if !text.contains(&b'\n') {
-        return begun(path, classes, terms, text);
-    }
-    Bay::resume(classes, terms, text, now).map_err(|(status, which)| match status {
-        bay::MAY_NOT => fault(path, format!("session {which} held, and may not by these stations"), 0),
-        bay::ANOTHER => fault(path, "it is the journal of another lab", 1),
-        bay::UNSOUND => fault(path, format!("line {which} was changed, or isn't in its place"), which as usize),
-        other => opened(other),
-    })
-}
-
-/// Whoever was killed in the first write left a file without a whole line, in which nobody was told anything: it is begun again. Any other
-/// text isn't a journal, and stays as it is.
-fn begun(path: &Path, classes: &[Class], terms: &Terms, text: &[u8]) -> Result<(Bay, usize), Error> {
-    let mut bay = Bay::open(classes, terms).map_err(opened)?;
-    let mut head = [0; 200];
-    let (status, length, _) = bay.journal(&mut head);
-    if status != DONE {
-        return Err(opened(status));
-    }
-    if !head[..length].starts_with(text) {
-        return Err(fault(path, "it is no journal", 1));
-    }
-    match bay.failed() {
-        DONE => Ok((bay, 0)),
-        other => Err(opened(other)),
     }
 }

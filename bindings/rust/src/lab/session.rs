@@ -1,20 +1,5 @@
-//! A session: from the asking until nobody has it any more.
-use super::pump::Shell;
-use super::Inner;
-use crate::ffi::bay::{DONE, LET_GO, MAY_NOT, NO_MEMORY, OVER};
-use crate::Error;
-use std::sync::Arc;
-
-/// What a session was told last.
-#[derive(Clone, Copy, PartialEq)]
-pub(super) enum Told {
-    Nothing,
-    Holds(u64),
-    /// It lets go, and that isn't durable yet.
-    LetsGo,
-    /// It is over, and how.
-    Over(u32),
-}
+//! A session that holds, until nobody has it any more.
+use super::*;
 
 /// A session that holds its instruments. It may be sent to any thread. Dropped, also by a panic, it lets go.
 ///
@@ -27,11 +12,8 @@ pub(super) enum Told {
 /// ```
 pub struct Held {
     pub(super) inner: Arc<Inner>,
-    /// 0: nobody asked yet.
     pub(super) number: u64,
     pub(super) needs: u64,
-    /// Nobody has it any more.
-    pub(super) is_over: bool,
 }
 
 impl Held {
@@ -42,92 +24,63 @@ impl Held {
 
     /// The instruments that it holds, in the order of the lab's.
     pub fn instruments(&self) -> Vec<&str> {
-        self.inner.names.of(self.needs)
+        self.inner.options.of(self.needs)
     }
 
     /// Whether it still holds: no if it was taken away, or let go and the disk has that.
     pub fn is_held(&self) -> bool {
-        self.inner.open().is_ok_and(|shell| matches!(self.told(&shell), Told::Holds(_) | Told::LetsGo))
+        self.inner.open().is_ok_and(|shell| matches!(shell.told(self.number), Told::Holds(_) | Told::LetsGo))
     }
 
     /// Notes something in the journal: at most 500 bytes, without line feed or carriage return. It is on the disk when this returns. After
     /// [`Error::Journal`] the note may still come into the file, because the write is tried again.
     pub fn note(&self, text: &str) -> Result<(), Error> {
-        if self.inner.journal.is_none() {
-            return Err(Error::NotNow("the lab has no journal".into()));
-        }
+        self.inner.options.keeps()?;
         let mut shell = self.inner.open()?;
-        self.is_held_yet(&shell)?;
-        let status = shell.bay.note(self.number, text);
-        match shell.checked(status, &[NO_MEMORY, MAY_NOT]) {
+        match shell.told(self.number) {
+            Told::Holds(_) => {}
+            Told::LetsGo | Told::Over(LET_GO) => return Err(Error::NotNow(format!("session {} lets go", self.number))),
+            _ => return Err(Error::TakenAway),
+        }
+        match shell.calls(|bay, _| bay::note(bay, self.number, text))? {
             NO_MEMORY => return Err(Error::NoMemory),
             MAY_NOT => return Err(Error::Invalid("a note is one line of at most 500 bytes".into())),
             _ => {}
         }
-        self.inner.pump(&mut shell)?;
-        self.inner.is_durable(shell).map(drop)
+        shell.waits_for_the_disk()
     }
 
     /// Lets go, and waits until that is on the disk, if there is a journal. After [`Error::Journal`] the session still holds for all
     /// others, and can be finished again: nobody gets its instruments before the disk has it that it let go. [`Error::TakenAway`] if it was
     /// taken away.
     pub fn finish(&mut self) -> Result<(), Error> {
-        if self.is_over {
-            return Ok(());
-        }
-        let inner = Arc::clone(&self.inner);
-        let mut shell = inner.open()?;
+        let mut shell = self.inner.open()?;
         // (else it lets go already, and a write failed meanwhile, or is done by now)
-        if matches!(self.told(&shell), Told::Holds(_)) {
-            self.lets_go(&mut shell)?;
+        if matches!(shell.told(self.number), Told::Holds(_)) {
+            shell.is_told(self.number, Told::LetsGo);
+            // (somebody may have taken it away just now: that is told)
+            shell.calls(|bay, now| lab_bay_let_go(bay, self.number, now))?;
         }
-        let failures = shell.written.failures;
+        let failures = shell.state.failures;
         loop {
-            match self.told(&shell) {
-                Told::LetsGo => {}
+            match shell.told(self.number) {
+                Told::LetsGo => shell.has_failed(failures)?,
                 Told::Over(LET_GO) => break,
                 _ => return Err(Error::TakenAway),
             }
-            inner.has_failed(&shell, failures)?;
-            shell.is_sound()?;
-            shell = inner.sleep(shell, self.number);
+            shell = shell.sleeps_until_told(self.number)?;
         }
-        shell.asks.remove(&self.number);
-        self.is_over = true;
+        shell.state.asks.remove(&self.number);
         Ok(())
     }
 
-    fn lets_go(&self, shell: &mut Shell) -> Result<(), Error> {
-        let now = shell.clock.now();
-        let status = shell.bay.let_go(self.number, now);
-        // (somebody may have taken it away just now: the pump tells)
-        if shell.checked(status, &[OVER]) == DONE {
-            shell.asks.entry(self.number).and_modify(|it| it.told = Told::LetsGo);
-        }
-        self.inner.pump(shell)
-    }
-
-    fn told(&self, shell: &Shell) -> Told {
-        shell.asks.get(&self.number).map_or(Told::Over(LET_GO), |it| it.told)
-    }
-
-    fn is_held_yet(&self, shell: &Shell) -> Result<(), Error> {
-        match self.told(shell) {
-            Told::Holds(_) => Ok(()),
-            Told::LetsGo | Told::Over(LET_GO) => Err(Error::NotNow(format!("session {} lets go", self.number))),
-            _ => Err(Error::TakenAway),
-        }
-    }
-}
-
-impl Shell {
-    /// Nobody is there for a session any more, whatever it is at.
-    fn is_left(&mut self, number: u64) {
-        let now = self.clock.now();
+    /// Nobody is there for it any more, whatever it is at.
+    fn leaves(&self) -> Result<(), Error> {
+        let mut shell = self.inner.open()?;
+        let Some((told, _)) = shell.state.asks.remove(&self.number) else { return Ok(()) };
         // (one that holds lets go, which is the journal's word for it; one that still waits, or comes to hold, leaves)
-        let holds = self.asks.remove(&number).is_some_and(|it| matches!(it.told, Told::Holds(_))) && !std::thread::panicking();
-        let status = if holds { self.bay.let_go(number, now) } else { self.bay.leave(number, now) };
-        self.checked(status, if holds { &[OVER] } else { &[] });
+        let call = if matches!(told, Told::Holds(_)) && !std::thread::panicking() { lab_bay_let_go } else { lab_bay_leave };
+        shell.calls(|bay, now| call(bay, self.number, now)).map(drop)
     }
 }
 
@@ -135,13 +88,6 @@ impl Shell {
 /// that was dropped in a panic is `left` in the journal, and not `let_go`.)
 impl Drop for Held {
     fn drop(&mut self) {
-        if self.is_over || self.number == 0 {
-            return;
-        }
-        // (with nobody to tell: what is wrong, the next call tells)
-        if let Ok(mut shell) = self.inner.open() {
-            shell.is_left(self.number);
-            let _ = self.inner.pump(&mut shell);
-        }
+        let _ = self.leaves(); // (with nobody to tell: what is wrong, the next call tells)
     }
 }

@@ -1,11 +1,10 @@
 //! Scripts: jobs and their sessions, settled beforehand, with a log of what each instrument did. A [`Lab`](crate::Lab) is for sessions that
-//! come as they are needed.
+//! come as they are needed, and has what a script has not: a journal, time limits, and word of whom one waits for.
 mod bench;
 mod desk;
-mod journal;
 
-use crate::ffi::bench::Run;
-use crate::{ffi, Error};
+use crate::ffi::bench as calls;
+use crate::Error;
 pub use bench::Bench;
 pub use desk::{Desk, Session};
 
@@ -40,18 +39,9 @@ pub struct Report {
     pub finished: bool,
     /// The report as `labrun` prints it.
     pub text: String,
-    /// The sessions, by job and number, that were given up and whose turn came: their commands are in the logs, and nobody did their work.
-    pub lapsed: Vec<(String, u32)>,
-    /// The sessions, by job and number, that were taken away from their owners: their commands are in the logs, and their work may not be
-    /// done.
-    pub taken: Vec<(String, u32)>,
 }
 
 impl Report {
-    fn of((finished, text): (bool, String)) -> Report {
-        Report { finished, text, lapsed: Vec::new(), taken: Vec::new() }
-    }
-
     /// The lines of an instrument's log, in the order in which it took the commands; none if there is no such instrument.
     pub fn log(&self, instrument: &str) -> Vec<&str> {
         let head = format!("instrument {instrument} ");
@@ -68,12 +58,12 @@ impl Report {
 /// # Ok::<(), labrun::Error>(())
 /// ```
 pub fn run(script: &[u8], limit: u32) -> Result<Report, Error> {
-    ffi::bench::run(script, Run::Rounds(limit)).map(Report::of)
+    calls::rounds(script, limit)
 }
 
 /// Takes the steps that follow the script, as `labrun replay`.
 pub fn replay(script: &[u8]) -> Result<Report, Error> {
-    ffi::bench::run(script, Run::Replay).map(Report::of)
+    calls::replay(script)
 }
 
 /// The line of a script's counts, as `labrun check`.
@@ -82,10 +72,10 @@ pub fn replay(script: &[u8]) -> Result<Report, Error> {
 /// assert_eq!(labrun::script::check(b"lab 1\njob A\n"), Err(labrun::Error::Refused { line: 2, cause: 3 }));
 /// ```
 pub fn check(script: &[u8]) -> Result<String, Error> {
-    ffi::bench::run(script, Run::Check).map(|it| it.1)
+    calls::check(script).map(|it| it.text)
 }
 
 /// The script in version 2, as `labrun upgrade`.
 pub fn upgrade(script: &[u8]) -> Result<String, Error> {
-    ffi::bench::run(script, Run::Upgrade).map(|it| it.1)
+    calls::upgrade(script).map(|it| it.text)
 }

@@ -1,10 +1,11 @@
 //! A lab whose calls answer what they never should, have no memory, or panic.
-use super::{answers, file, is_late, uncounted, ANSWER, ENOUGH, MADE, PANICS, SHORT};
+use super::{answers, file, is_late, strange, uncounted, ANSWER, CALLED, ENOUGH, MADE, PANICS, SHORT};
 use crate::tests::alone::{alone, limit};
 use crate::{Error, Held, Lab, LabOptions, SyncTo};
 use std::panic::{catch_unwind, AssertUnwindSafe};
 use std::path::Path;
 use std::sync::atomic::Ordering::SeqCst;
+use std::sync::mpsc::channel;
 use std::thread;
 use std::time::Duration;
 
@@ -59,7 +60,7 @@ fn with_a_journal(file: &Path) -> Result<(), Error> {
     limit(std::fs::metadata(file).unwrap().len() as usize + 5);
     let came = held.finish();
     limit(1 << 40);
-    assert!(matches!(came, Err(Error::Journal { .. } | Error::Status(_))), "{came:?}");
+    assert!(matches!(came, Err(Error::Journal { .. } | Error::Status { .. })), "{came:?}");
     held.finish()?;
     let stays = lab.hold(&["y"]).timeout(ENOUGH).begin()?;
     lab.close()?;
@@ -89,18 +90,17 @@ fn behind_one_in_line() -> Result<(), Error> {
 
 /// Any one of the calls that these make answers that: somebody is told, or it is made again.
 fn each_answers(answer: u32, calls: &dyn Fn() -> Result<(), Error>) {
-    for strange in 1.. {
-        answers(strange, answer);
+    for at in 1.. {
+        answers(at, answer);
         let told = calls();
-        if MADE.load(SeqCst) < strange {
+        if MADE.load(SeqCst) < at {
             assert_eq!(told, Ok(()));
-            assert!(strange > 20);
+            assert!(at > 20);
             return;
         }
         match told {
-            Err(Error::Status(status)) => assert_eq!(status, answer),
-            Err(Error::NoMemory) | Ok(()) => assert_eq!(ANSWER.load(SeqCst), 5, "call {strange}"),
-            Err(other) => panic!("call {strange}: {other}"),
+            Err(Error::NoMemory) | Ok(()) => assert_eq!(ANSWER.load(SeqCst), 5, "call {at}"),
+            told => assert_eq!(told, Err(strange()), "call {at}"),
         }
     }
 }
@@ -118,22 +118,49 @@ fn each_status_is_told() {
     });
 }
 
-/// Of a lab that answered something strange nobody is told anything more: whoever waits is woken, and gets the status.
+/// One waits while this is done, in which the call of this name answers what it never should: it is woken at once, and told the call and
+/// what it answered; and so is whoever calls from then on.
+fn who_waits_is_told(name: &'static str, lab: &Lab, does: &dyn Fn(&Lab)) {
+    let told_so = Err(Error::Status { call: name, status: 99 });
+    let held = lab.hold(&["x"]).begin().unwrap();
+    let (tell, told) = channel();
+    thread::scope(|threads| {
+        threads.spawn(|| tell.send(lab.hold(&["x"]).begin().map(drop)).unwrap());
+        while lab.sessions().unwrap().len() < 2 {
+            thread::sleep(SHORT);
+        }
+        *CALLED.lock().unwrap() = name;
+        does(lab);
+        let woken = told.recv_timeout(20 * ENOUGH);
+        *CALLED.lock().unwrap() = "";
+        let (stopped, closed) = (lab.stop(), lab.close()); // (closed in any case, so that nobody waits any more)
+        assert_eq!(woken.as_ref(), Ok(&told_so), "{name}");
+        assert_eq!((stopped, closed), (told_so.clone(), told_so));
+    });
+    drop(held);
+}
+
 #[test]
 fn who_waits_is_told_a_status() {
     alone("tests::of_a_lab::who_waits_is_told_a_status", || {
-        let lab = Lab::new(["x"]).unwrap();
-        let held = lab.hold(&["x"]).begin().unwrap();
-        thread::scope(|threads| {
-            let waits = threads.spawn(|| lab.hold(&["x"]).begin().map(drop));
-            while lab.sessions().unwrap().len() < 2 {
-                thread::sleep(SHORT);
-            }
-            answers(1, 99);
-            drop(held);
-            assert_eq!(waits.join().unwrap(), Err(Error::Status(99)));
-        });
-        assert_eq!((lab.stop(), lab.close()), (Err(Error::Status(99)), Err(Error::Status(99))));
+        answers(0, 99);
+        let calls = |lab: &Lab| {
+            let _ = lab.sessions();
+            let _ = lab.hold(&["x"]).timeout(NOW).begin();
+            let _ = lab.take_away(77);
+            let _ = lab.hold(&["y"]).begin().map(|mut it| it.finish());
+            let _ = lab.stop();
+        };
+        for name in ["look", "waits", "ask", "tell", "time", "keeper", "leave", "take_away", "let_go", "stop"] {
+            who_waits_is_told(Box::leak(format!("lab_bay_{name}").into_boxed_str()), &Lab::new(["x", "y"]).unwrap(), &calls);
+        }
+        let file = file("who-waits.journal");
+        for name in ["lab_bay_note", "lab_bay_journal", "lab_bay_durable"] {
+            let _ = std::fs::remove_file(&file);
+            let lab = LabOptions::new(["x", "y"]).journal(&file, SyncTo::Memory).open().unwrap();
+            who_waits_is_told(name, &lab, &|lab| drop(lab.hold(&["y"]).note("4.998 V").begin()));
+        }
+        let _ = std::fs::remove_file(&file);
     });
 }
 

@@ -1,0 +1,158 @@
+//! What the mutex guards, and what follows from each call of the bay: whoever was told something is woken, and the writer and the timer if
+//! they have to do.
+use super::*;
+use std::collections::BTreeMap;
+use std::sync::{Condvar, Mutex, MutexGuard, PoisonError};
+use std::thread::JoinHandle;
+use std::time::Instant;
+
+/// What all that belong to a lab share.
+pub(super) struct Inner {
+    pub state: Mutex<State>,
+    pub writer: Condvar,
+    pub timer: Condvar,
+    pub is_written: Condvar,
+    /// When it was opened, in milliseconds by the clock on the wall, because a journal has moments; and by one that isn't set.
+    pub base: u64,
+    pub begun: Instant,
+    /// How it was opened: what is called how, and where the journal is.
+    pub options: LabOptions,
+    pub home: Home,
+}
+
+impl Inner {
+    pub fn now(&self) -> u64 {
+        self.base.saturating_add(self.begun.elapsed().as_millis() as u64)
+    }
+
+    pub fn lock(self: &Arc<Inner>) -> Shell<'_> {
+        // (a panic under the mutex leaves nothing half done: what was told is told again until it is given back)
+        Shell { inner: self, state: self.state.lock().unwrap_or_else(PoisonError::into_inner) }
+    }
+
+    /// The mutex, in the process that opened the lab, as long as that is open and sound.
+    pub fn open(self: &Arc<Inner>) -> Result<Shell<'_>, Error> {
+        self.home.is_here()?;
+        let shell = self.lock();
+        shell.state.bay.is_sound().map(|()| shell)
+    }
+}
+
+/// What a session was told last.
+#[derive(Clone, Copy)]
+pub(super) enum Told {
+    Nothing,
+    Holds(u64),
+    /// It lets go, and that isn't durable yet.
+    LetsGo,
+    /// It is over, and how.
+    Over(u32),
+}
+
+/// What the mutex guards.
+pub(super) struct State {
+    pub bay: Owned,
+    /// The number of the next ask, and the serial number of what was told last.
+    pub next: u64,
+    pub serial: u64,
+    /// The sessions of this process that aren't over, or whose owners don't know yet; and whom to wake.
+    pub asks: BTreeMap<u64, (Told, Arc<Condvar>)>,
+    /// Until when the timer sleeps, if there is one.
+    pub wakes: Option<u64>,
+    /// How often somebody wanted all that was given to the journal to be written, and how many of these came before a write that was done.
+    pub wanted: u64,
+    pub done: u64,
+    /// How many writes failed, and why the last one did.
+    pub failures: u64,
+    pub why: String,
+    pub threads: Vec<JoinHandle<()>>,
+}
+
+/// A lab whose mutex is held.
+pub(super) struct Shell<'l> {
+    pub inner: &'l Arc<Inner>,
+    pub state: MutexGuard<'l, State>,
+}
+
+impl<'l> Shell<'l> {
+    /// A call of the bay from which nothing follows. One that answers what it never should ends the lab: all that wait are woken, and told
+    /// so.
+    pub fn reads<T>(&mut self, call: impl FnOnce(&mut Handle) -> Result<T, Error>) -> Result<T, Error> {
+        let answered = self.state.bay.calls(call);
+        if answered.is_err() {
+            self.wakes_everybody();
+        }
+        answered
+    }
+
+    /// A call that changes something, at this moment, and then what follows from it: what there is to tell is told, and whoever has to do
+    /// something is woken.
+    pub fn calls<T>(&mut self, call: impl FnOnce(&mut Handle, u64) -> Result<T, Error>) -> Result<T, Error> {
+        let now = self.inner.now();
+        let answered = self.reads(|bay| call(bay, now))?;
+        self.tells()?;
+        if let Some(wakes) = self.state.wakes {
+            let mut next = 0;
+            self.reads(|bay| lab_bay_time(bay, now, &mut next))?;
+            // (woken only for a moment that comes before the one that it sleeps until)
+            if next < wakes {
+                self.state.wakes = Some(next);
+                self.inner.timer.notify_one();
+            }
+            self.tells()?;
+        }
+        self.inner.writer.notify_one(); // (it sees for itself whether there is text)
+        Ok(answered)
+    }
+
+    /// Hands on what there is to tell. The serial number is given back with the next tell, when whoever was told has it: so nothing is lost
+    /// between the two.
+    fn tells(&mut self) -> Result<(), Error> {
+        let mut it = Outcome { serial: self.state.serial, ..Outcome::default() };
+        while self.reads(|bay| lab_bay_tell(bay, it.serial, &mut it))? == DONE {
+            if let Some((told, woken)) = self.state.asks.get_mut(&it.number) {
+                *told = if it.what == HOLDS { Told::Holds(it.needs) } else { Told::Over(it.what) };
+                woken.notify_one();
+            }
+            self.state.serial = it.serial;
+        }
+        Ok(())
+    }
+
+    /// What a session was told last. One that nobody asks about any more has let go.
+    pub fn told(&self, number: u64) -> Told {
+        self.state.asks.get(&number).map_or(Told::Over(LET_GO), |it| it.0)
+    }
+
+    pub fn is_told(&mut self, number: u64, told: Told) {
+        self.state.asks.entry(number).or_insert_with(|| (told, Arc::default())).0 = told;
+    }
+
+    /// All in the bay's book, in the order in which they asked; and the next number is beyond theirs.
+    pub fn standing(&mut self) -> Result<Vec<Standing>, Error> {
+        let (mut found, mut it, mut next) = (Vec::new(), Standing::default(), 0);
+        while self.reads(|bay| lab_bay_look(bay, found.len(), &mut it, &mut next))? == DONE {
+            found.push(it);
+        }
+        self.state.next = self.state.next.max(next);
+        Ok(found)
+    }
+
+    /// All that wait look for themselves.
+    pub fn wakes_everybody(&self) {
+        self.state.asks.values().for_each(|it| it.1.notify_one());
+        [&self.inner.writer, &self.inner.timer, &self.inner.is_written].iter().for_each(|it| it.notify_all());
+    }
+
+    /// Sleeps until a session is told something, or there is another reason to look.
+    pub fn sleeps_until_told(self, number: u64) -> Result<Shell<'l>, Error> {
+        let Some(woken) = self.state.asks.get(&number).map(|it| Arc::clone(&it.1)) else { return Ok(self) };
+        self.sleeps(&woken)
+    }
+
+    /// Sleeps until woken, as long as the lab is open and sound.
+    pub fn sleeps(self, on: &Condvar) -> Result<Shell<'l>, Error> {
+        self.state.bay.is_sound()?;
+        Ok(Shell { state: on.wait(self.state).unwrap_or_else(PoisonError::into_inner), ..self })
+    }
+}
