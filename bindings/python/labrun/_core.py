@@ -41,9 +41,8 @@ class Core:
         self.free = weakref.finalize(self, _freed, calls, handle, self._process)
         self.new_lock, self.mutex, self._ticked = new_lock, new_lock(), 0.0
         self.is_stopped = self.is_closed = False
-        # by the number of a job, the session that it is in, or that comes next, or was the last; and those of them that wait, or were left
+        # by the number of a job, the session that it is in, or that comes next, or was the last
         self.sessions: dict[int, Session] = {}
-        self._line: dict[int, Session] = {}
         # sessions that are over in a way that their owners have to know, each as (job, number), in order
         self.lapsed: dict[tuple[str, int], None] = {}
         self.raised: dict[tuple[str, int], None] = {}
@@ -82,12 +81,11 @@ class Core:
     def settle(self, asking: Optional[Session] = None) -> None:
         """All that can be done is done, and those are woken whose sessions come to hold by it. One that was left lets go at once. `asking` holds
         then, or waits."""
-        if asking is not None:
-            self._line[asking.bit] = asking
-        if not self._line:
+        its, came = self.sessions.values(), Came()
+        waiting = sum(it.bit for it in its if it.state == "waiting" or it is asking)
+        if not waiting and all(it.state != "left" for it in its):
             return
-        its, came = list(self._line.values()), Came()
-        self.call("lab_settle", sum([it.bit for it in its if it.state == "waiting" or it is asking]), byref(came))
+        self.call("lab_settle", waiting, byref(came))
         if asking is not None:
             asking.state = "waiting"
         for it in its:
@@ -143,10 +141,6 @@ class Core:
         if state not in ("waiting", "held"):
             session.owner = None
         session.state = state
-        if state in ("waiting", "left"):
-            self._line[session.bit] = session
-        else:
-            self._line.pop(session.bit, None)
 
     def rouse(self, session: Session) -> bool:
         """Wakes who waits for it, who may sleep again. No if nobody is there any more, since the loop of its task is closed."""

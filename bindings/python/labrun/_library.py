@@ -102,24 +102,26 @@ _SHORT: dict[str, list[Any]] = {
 }
 
 
-class Library(dict[str, Callable[..., int]]):
+class Library:
     """The calls of one loaded library, each by its name in C."""
 
     def __init__(self, path: str) -> None:
         may_load()
         self.path = path
         self._long, self._short = ctypes.CDLL(path), ctypes.PyDLL(path)
+        self._calls: dict[str, Callable[..., int]] = {}
 
-    def __missing__(self, name: str) -> Callable[..., int]:
+    def __getitem__(self, name: str) -> Callable[..., int]:
         """Looked up once, as it is called: an older library has the runs and no bench."""
-        library, arguments = (self._long, _LONG[name]) if name in _LONG else (self._short, _SHORT[name])
-        try:
-            call: Any = getattr(library, name)
-        except AttributeError:
-            raise OSError(f"{self.path} has no {name}: it is of another version of labrun") from None
-        call.argtypes, call.restype = arguments, _WORD
-        self[name] = call
-        return self[name]
+        if name not in self._calls:
+            library, arguments = (self._long, _LONG[name]) if name in _LONG else (self._short, _SHORT[name])
+            try:
+                call: Any = getattr(library, name)
+            except AttributeError:
+                raise OSError(f"{self.path} has no {name}: it is of another version of labrun") from None
+            call.argtypes, call.restype = arguments, _WORD
+            self._calls[name] = call
+        return self._calls[name]
 
 
 def called(calls: Library, name: str, *given: Any, no: tuple[int, ...] = (), told: Optional[Told] = None) -> bool:

@@ -123,7 +123,7 @@ class Session:
 
     def is_of_one(self) -> None:
         """LabrunError if another thread, or task, waits for it or holds it: one acts for a job at a time."""
-        if self.owner is not None and self.owner is not whoever():
+        if self.owner not in (None, whoever()):
             raise LabrunError(f"another thread, or task, is at {self}")
 
     def give_up(self) -> None:
@@ -183,12 +183,11 @@ class Session:
     __enter__, __aenter__ = acquire, acquire_async
 
     def __exit__(self, kind: Optional[type[BaseException]], fault: Optional[BaseException], at: Optional[TracebackType]) -> None:
-        if self.held and kind is None:
-            self.release()
-        elif self.held:
-            # (that exception is told rather than that nobody can let go any more)
-            with contextlib.suppress(Closed, OtherProcess):
-                self._core.raised[self.job.name, self.number] = None
+        if self.held:
+            # (an exception of the body is told rather than that nobody can let go any more)
+            with contextlib.suppress(*((Closed, OtherProcess) if kind else ())):
+                if kind is not None:
+                    self._core.raised[self.job.name, self.number] = None
                 self.release()
 
     async def __aexit__(self, kind: Optional[type[BaseException]], fault: Optional[BaseException], at: Optional[TracebackType]) -> None:
