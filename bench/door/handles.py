@@ -18,6 +18,16 @@ def package():
     return importlib.import_module("labrun_parts._library")
 
 
+class Keepers(ctypes.Structure):
+    """(The package has no struct for these two, since it doesn't ask for them.)"""
+
+    _fields_ = [("jobs", ctypes.c_uint32), ("holding", ctypes.c_uint32)]
+
+
+class Outside(ctypes.Structure):
+    _fields_ = [("is_outside", ctypes.c_uint32), ("passed", ctypes.c_uint32)]
+
+
 C = package()
 TURNED = ["turn", "serve", "serve_others", "begin", "end", "retire", "desk_turn", "desk_serve", "desk_begin", "desk_end", "desk_retire"]
 # what each call tells in a struct; the others of these tell nothing
@@ -28,8 +38,8 @@ TELLS = {
     **dict.fromkeys(["bench_size", "shared_size"], C.Size),
     "session_of": C.SessionOf,
     "planned": C.Planned,
-    "keepers": C.Keepers,
-    "outside": C.Outside,
+    "keepers": Keepers,
+    "outside": Outside,
     "settle": C.Came,
 }
 SILENT = ["overtakes", "withdraw", "bench_free", "take_desk", "give_desk", "desk_withdraw", "shared_free"]

@@ -1,4 +1,6 @@
 """Jobs that wait outside, worked by hand.   late.py FOLDER"""
+import itertools
+
 from handles import Handle, Test, run
 
 # Radio holds the scope, board waits for scope and supply, and drive works at the supply. The scope is instrument 0, and the supply 1.
@@ -185,6 +187,46 @@ class Line(Late):
         self.ends(bench, 0)
         self.holds(bench, 0b010, 0b010)
         self.outside(bench, 1)
+
+
+# j needs an instrument of each of k and m, which have many short sessions. l eats while it waits for h; so its neighbours k and m can't eat, and keep
+# their forks from j.
+SESSIONS = 200
+OVERLAP = (
+    b"lab 2\njob h\nsession\na read\nend\njob l\nsession\na read\nend\nsession\np read\nq read\nend\njob j\nsession\nx read\nz read\nend\n"
+    + b"job k\n" + b"session\nx read\nend\n" * SESSIONS + b"session\np read\nend\n"
+    + b"job m\n" + b"session\nz read\nend\n" * SESSIONS + b"session\nq read\nend\n"
+)  # fmt: skip
+
+
+class Overtaken(Late):
+    """By how many sessions of k and m, which overlap, j is overtaken while h works."""
+
+    def overtaken(self, overtakes):
+        """How many went before it, and whether it holds then."""
+        bench, l, j = self.lab(overtakes, OVERLAP), 0b10, 0b100
+        self.holds(bench, 1, 1)
+        self.holds(bench, l, 1)
+        self.holds(bench, l | 0b1000, 0b1001)
+        self.holds(bench, l | j, 0b1001)
+        self.holds(bench, l | j | 0b10000, 0b11001)
+        holds, count = 0b11001, 0
+        for job in itertools.cycle((3, 4)):
+            if holds & j or count == SESSIONS:
+                return count, bool(holds & j)
+            if holds >> job & 1:
+                self.ends(bench, job)
+                holds, count = bench.settle(l | j).holds, count + 1
+            holds = bench.settle(l | j | 1 << job).holds
+
+    def test_in_line_nobody_counts(self):
+        """One in line may be overtaken for as long as somebody works elsewhere."""
+        self.same(self.overtaken(0), (SESSIONS, False))
+
+    def test_from_outside(self):
+        """It is let in behind so many, and then only those go before it that are in a session already."""
+        for overtakes in (1, 4, 16):
+            self.same(self.overtaken(overtakes), (overtakes + 1, True))
 
 
 run()

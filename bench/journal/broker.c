@@ -1,7 +1,10 @@
-/* As broker.py, in C: a broker with a journal, to be killed (bench/journal/kills).
+/* A broker with a journal, to be killed (bench/journal/kills).
 
      cc -O2 -pthread -I include bench/journal/broker.c FOLDER/liblabrun.a -o broker
-     ./broker SCRIPT JOURNAL WORK REPORT SYNC NAME=PORT .. */
+     ./broker SCRIPT JOURNAL WORK REPORT SYNC NAME=PORT ..      the instruments are those of examples/broker/instruments.py
+
+   It writes lines to standard output, `opens` and `open`; and to WORK, as it comes: `begin J N` or `resume J N` once session N of job J holds,
+   `end J N` before it lets go, `over J N` behind that. At the end the report is in REPORT. */
 #define _DEFAULT_SOURCE
 #include "../../examples/broker/journal.h"
 #include <arpa/inet.h>

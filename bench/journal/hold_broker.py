@@ -1,9 +1,11 @@
 #!/usr/bin/env python3
 """A broker with a journal whose sessions come one by one (`labrun.Lab`), to be killed (bench/journal/kills).
 
-usage: hold_broker.py SCRIPT JOURNAL WORK SYNC NAME=PORT ..      as broker.py
+usage: hold_broker.py SCRIPT JOURNAL WORK SYNC NAME=PORT ..      the instruments are those of examples/broker/instruments.py
 
-Of the script it takes what each job is to hold, in what order. Each job is a station. N of WORK says which of these a session is, not its number in the journal; its first note says the same."""
+It writes lines to standard output, `opens` and `open`; and to WORK, as it comes: `begin J N` or `resume J N` once session N of job J holds,
+`end J N` before it lets go, `over J N` behind that. Of the script it takes what each job is to hold, in what order. Each job is a station. N of
+WORK says which of these a session is, not its number in the journal; its first note says the same."""
 
 import os
 import sys

@@ -3,13 +3,13 @@
 
 usage: bench/journal/speed.py [--best N] [--folder FOLDER] [--back]      FOLDER is on the disk to be measured (the current one)
 
-Stations on 1 and 8 threads do empty sessions: each on an instrument of its own (`disjoint`), on its own and the next one's (`ring`), or all on
+Stations of a `labrun.Lab` on 1 and 8 threads do empty sessions: each on an instrument of its own (`disjoint`), on its own and the next one's (`ring`), or all on
 the same one (`all one`), as in bench/broker/speed.py. The columns:
 
   without            no journal
   memory none, data  a journal in /dev/shm, with sync="none" and sync="data"
   disk               a journal in FOLDER, with sync="data"
-  SQLite             no bench at all: a row a session, WAL, synchronous=FULL, one connection behind a lock; `two`: a row as the session begins,
+  SQLite             no lab at all: a row a session, WAL, synchronous=FULL, one connection behind a lock; `two`: a row as the session begins,
                      and a change of it as it ends, which promises what a journal does: that who holds is on the disk before it begins
 
 Each number is the best of N runs (5). With --back, how long the way back takes from a long journal. The package is found by
@@ -29,23 +29,19 @@ sys.path.insert(0, os.path.join(os.path.dirname(os.path.realpath(__file__)), "..
 from speed import needs  # noqa: E402
 
 
-def script_of(shape, threads, sessions):
-    text = ["lab 1"]
-    for at in range(threads):
-        text.append(f"job station-{at}")
-        text += ["session", *(f"i-{it} add 1" for it in needs(shape, threads, at)), "end"] * sessions
-    return "\n".join(text) + "\n"
-
-
 def by_labrun(shape, threads, sessions, **journal):
-    bench = labrun.Bench.from_text(script_of(shape, threads, sessions), **journal)
+    """A `labrun.Lab` with a station for each thread."""
+    uses = [[f"i-{it}" for it in needs(shape, threads, at)] for at in range(threads)]
+    names = list(dict.fromkeys(name for each in uses for name in each))
+    lab = labrun.Lab(names, stations={f"station-{at}": each for at, each in enumerate(uses)}, **journal)
 
     def station(at):
-        for session in bench.jobs[at].sessions():
-            with session:
+        mine = lab.station(f"station-{at}")
+        for _ in range(sessions):
+            with mine.hold(*uses[at]):
                 pass
 
-    return station, bench.close
+    return station, lab.close
 
 
 def by_sqlite(path, threads, sessions, two):
@@ -104,20 +100,16 @@ def columns(shape, threads, memory, disk):
 
 
 def way_back(memory):
-    path = os.path.join(memory, "large.journal")
-    script = script_of("ring", 32, 500)  # (with more it would have more steps than are read again)
-    begun = time.perf_counter()
-    with labrun.Bench.from_text(script, journal=path, sync="none") as bench:
-        bench.run(lambda job: [session.__exit__(None, None, None) for session in job.sessions() if session.__enter__()])
-    took = time.perf_counter() - begun
+    path, threads, sessions = os.path.join(memory, "large.journal"), 16, 1000
+    took = timed(*by_labrun("ring", threads, sessions, journal=path, sync="none"), threads)
     with open(path, "rb") as file:
         text = file.read()
-    steps = sum(not line.startswith(b"#") for line in text[len(script) + 6 :].splitlines())
     begun = time.perf_counter()
-    again = labrun.Bench.from_text(script, journal=path)
+    _, close = by_labrun("ring", threads, 0, journal=path)
     back = time.perf_counter() - begun
-    same = again.close().text == bench.report.text
-    print(f"the way back: 16000 sessions took {took:.1f} s; their journal, {steps} steps, {len(text)} bytes, is read again in {back:.2f} s: {same}")
+    close()
+    lines = text.count(b"\n")
+    print(f"the way back: {threads * sessions} sessions took {took:.1f} s; their journal, {lines} lines, {len(text)} bytes, is read again in {back:.2f} s")
 
 
 def main():

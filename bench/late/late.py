@@ -4,7 +4,7 @@
 usage: bench/late/late.py [--seconds S] [--best N] [--bays NAME,..] [--ways NAME,..] [--json FILE]
 
 Stations without a pause ask for a session, sleep for its work, and let go, for S seconds (1: in more, a station that is always served would do
-more than the thousand sessions that a job has at most; `mixed` takes four times as long). The bays (work of 1 ms, but in `mixed`):
+more than its thousand sessions; `mixed` takes four times as long). The bays (work of 1 ms, but in `mixed`):
 
   six        6 stations at 5 instruments; each session needs one to three of them by chance
   thirty-two 32 stations at 20 instruments, likewise
@@ -15,7 +15,7 @@ more than the thousand sessions that a job has at most; `mixed` takes four times
 
 The ways:
 
-  labrun N   the package, with `overtakes=N`; 999999 is without bound
+  labrun N   the package's `Lab`, with `overtakes=N`; 999999 is without bound
   Condition  one `threading.Condition` over the set of taken instruments: all at once, and who runs first takes them
   locks      a `threading.Lock` for each instrument, taken in one order
   FIFO       all at once, strictly in the order of asking
@@ -39,7 +39,7 @@ import time
 
 import labrun
 
-MOST = 1000  # sessions of a job that a script may have
+MOST = 1000  # sessions of a station
 BOUNDS = (0, 4, 16, 64, 999999)
 WAYS = (*(f"labrun {it}" for it in BOUNDS), "Condition", "locks", "FIFO")
 NAMES = {
@@ -71,28 +71,15 @@ def sessions_of(bay):
     return [[one(at) for _ in range(MOST)] for at in range(stations)]
 
 
-def by_labrun(bay, plan, overtakes):
-    text = ["lab 1"]
-    for at, sessions in enumerate(plan):
-        text.append(f"job station-{at}")
-        for needs, _ in sessions:
-            text += ["session", *(f"i-{it} add 1" for it in needs), "end"]
-    bench = labrun.Bench.from_text("\n".join(text) + "\n", overtakes=overtakes)
+def by_labrun(instruments, overtakes):
+    names = [f"i-{it}" for it in range(instruments)]
+    lab, held = labrun.Lab(names, overtakes=overtakes), threading.local()
 
-    def station(at, is_over, told, now=time.perf_counter, sleep=time.sleep):
-        sessions = iter(plan[at])
-        for session in bench.jobs[at].sessions():
-            if is_over():
-                break
-            needs, work = next(sessions)
-            asked = told[at] = now()
-            with session:
-                begun = now()
-                sleep(work)
-                ended = now()
-            told.append((at, asked, begun, ended, needs))
+    def acquire(needs):
+        held.it = lab.hold(*(names[it] for it in needs))
+        held.it.acquire()
 
-    return station, bench.close
+    return by_calls(acquire, lambda needs: held.it.release()), lab.close
 
 
 def by_calls(acquire, release):
@@ -177,7 +164,8 @@ def by_fifo(instruments):
 def stations_of(way, bay, plan):
     """What a station does, and what to call at the end."""
     if way.startswith("labrun"):
-        return by_labrun(bay, plan, int(way.split()[1]))
+        with_plan, close = by_labrun(BAYS[bay][1], int(way.split()[1]))
+        return with_plan(plan), close
     return {"Condition": by_condition, "locks": by_locks, "FIFO": by_fifo}[way](BAYS[bay][1])(plan), lambda: None
 
 

@@ -1,7 +1,6 @@
 """A broker to start from: four stations share six instruments, each a TCP server that refuses a second client while one talks to it.
 
 usage: python3 broker.py [SCRIPT]                      the stations' sessions, by labrun's bench
-       python3 broker.py --journal FILE [SCRIPT]       the same with a journal: killed and called again, it goes on where it was
        python3 broker.py --by script-order [SCRIPT]    the same by a lock for each instrument, taken as the script names them: dead-locks
        python3 broker.py --by sorted-order [SCRIPT]    the same, taken in the order of their names
        python3 broker.py --by nothing [SCRIPT]         the same without any: the instruments refuse
@@ -54,15 +53,14 @@ def seconds_of(station: str, number: int) -> float:
     return random.Random(f"{station} {number}").uniform(0.010, 0.200)
 
 
-def by_bench(script: bytes, bay: Bay, journal: Optional[str] = None) -> bool:
+def by_bench(script: bytes, bay: Bay) -> bool:
     """The whole broker."""
-    with labrun.Bench.from_text(script, journal=journal) as bench:
+    with labrun.Bench.from_text(script) as bench:
 
         def station(job: labrun.Job) -> None:
             for session in job.sessions():
                 with session:
-                    again = " again" if session.resumed else ""
-                    say(job.name, f"session {session.number} holds {', '.join(session.instruments)}{again}")
+                    say(job.name, f"session {session.number} holds {', '.join(session.instruments)}")
                     work(bay, job.name, session.number, session.instruments, seconds_of(job.name, session.number))
                 say(job.name, f"session {session.number} done")
 
@@ -187,7 +185,6 @@ def main() -> int:
     words = argparse.ArgumentParser(usage=__doc__)
     words.add_argument("script", nargs="?", default=os.path.join(HERE, "bay.lab"))
     words.add_argument("--by", choices=("bench", "script-order", "sorted-order", "nothing"), default="bench")
-    words.add_argument("--journal", metavar="FILE")
     words.add_argument("--threads", type=int, choices=range(1, 33), metavar="N")
     words.add_argument("--seconds", type=float, default=10, metavar="S")
     words.add_argument("--sessions", type=int, metavar="M")
@@ -199,7 +196,7 @@ def main() -> int:
         if given.threads:
             good = by_load(names, given.threads, given.sessions, min(given.seconds, 3600), bay)
         elif given.by == "bench":
-            good = by_bench(script, bay, given.journal)
+            good = by_bench(script, bay)
         elif given.by == "nothing":
             good = by_nothing(script, bay)
         else:

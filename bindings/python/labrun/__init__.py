@@ -15,60 +15,21 @@
 What is proved ends at the calls of the C library: that no two sessions hold an instrument at once, and that nobody waits for nothing; of a
 bench also that each log is whole sessions. This package, which calls it, is tested."""
 
-from ._bench import OVERTAKES, Bench
+from ._bench import Bench
 from ._connect import connect
 from ._faults import Closed, Full, JournalError, LabrunError, MayNotUse, NotHeld, OtherProcess, Refused, StillHeld, Stopped, TakenAway
 from ._faults import TimeoutError, TooLong, Withdrawn, WouldBlock
 from ._held import Held
-from ._jobs import Job, Jobs, JobState
-from ._journal_texts import journal_script, journal_steps
 from ._keepers import Keeper
-from ._lab import Lab, Sitting, Station
+from ._lab import OVERTAKES, Lab, Sitting, Station
 from ._library import library_path
 from ._plan import Command
 from ._report import Counts, Entry, JobReport, Report, check, replay, run, upgrade
-from ._run import NotBack
-from ._session import Session
+from ._session import Job, Jobs, JobState, Session
 
 __all__ = [
-    "OVERTAKES",
-    "Bench",
-    "Closed",
-    "Command",
-    "Counts",
-    "Entry",
-    "Full",
-    "Held",
-    "Job",
-    "JobReport",
-    "JobState",
-    "Jobs",
-    "JournalError",
-    "Keeper",
-    "Lab",
-    "LabrunError",
-    "MayNotUse",
-    "NotBack",
-    "NotHeld",
-    "OtherProcess",
-    "Refused",
-    "Report",
-    "Session",
-    "Sitting",
-    "Station",
-    "StillHeld",
-    "Stopped",
-    "TakenAway",
-    "TimeoutError",
-    "TooLong",
-    "Withdrawn",
-    "WouldBlock",
-    "check",
-    "connect",
-    "journal_script",
-    "journal_steps",
-    "library_path",
-    "replay",
-    "run",
-    "upgrade",
+    "OVERTAKES", "Bench", "Closed", "Command", "Counts", "Entry", "Full", "Held", "Job", "JobReport", "JobState", "Jobs", "JournalError",
+    "Keeper", "Lab", "LabrunError", "MayNotUse", "NotHeld", "OtherProcess", "Refused", "Report", "Session", "Sitting", "Station",
+    "StillHeld", "Stopped", "TakenAway", "TimeoutError", "TooLong", "Withdrawn", "WouldBlock", "check", "connect", "library_path",
+    "replay", "run", "upgrade",
 ]

@@ -1,451 +1,176 @@
-"""The handle of a bench behind one mutex: where each job is, and who is woken.
+"""The handle of a bench behind one mutex: who holds, who waits, and who is woken.
 
 The library takes one call at a time. The mutex is held for the microseconds of the calls, never while somebody works. A session costs two
 of them if nobody waits: `lab_settle` begins it, and tells that it holds; `lab_end` ends it. If others wait, another `lab_settle` tells
 which of them hold now, and those are woken. So a thread that waits sleeps until its instruments are its own: after `lab_settle` whoever
 waits, waits in the end for somebody who holds. That is proved, so nobody looks from time to time.
 
-A session that waits is in line, or it is outside: it has asked, and keeps nothing from others yet. The library says when it is let in.
-
-What a call told is noted, whatever exception comes between: `torn` is set from before the call until its notes are whole, and an exception
-that finds it set has all of it looked at anew (`mend`)."""
+An exception may come between any two lines, also between a call and the note of what it told: then each session is looked at anew."""
 
 from __future__ import annotations
 
-import ctypes
+import contextlib
 import os
+import time
 import weakref
+from ctypes import byref
 from types import TracebackType
 from typing import TYPE_CHECKING, Any, Callable, Optional
 
-from . import _mending
-from ._faults import Closed, JournalError, LabrunError, NotHeld, OtherProcess, Stopped, TakenAway, Withdrawn
-from ._journal import Journal, Ticket
-from ._library import NOT_NOW, SESSIONS_LEFT, Calls, Came, Handle, Outside, State, Turned, called, freed, unexpected
-from ._plan import Plans, members
-from ._seat import CLOSED, ELSEWHERE, HOLDS, OPEN, STOPPED, THIRSTY, NewLock, Seat, now
+from ._faults import Closed, NotHeld, OtherProcess, Stopped, Withdrawn
+from ._library import NOT_NOW, NOT_OPEN, SESSIONS_LEFT, Came, Handle, Library, State, Turned, called
+from ._report import told_text
 
 if TYPE_CHECKING:
     from ._session import Session
 
-# no session takes more turns until it is begun, if its job is in none (it takes three at most)
-TURNS = 8
+# how drinking stands, in `struct lab_state`
+TRANQUIL, THIRSTY, DRINKING, REACHING, RETIRED = range(5)
+HOLDS = (DRINKING, REACHING)
+
+# While a session with a patience waits, its thread settles the bench after so many seconds, so that it does run out. Patience is in these,
+# and those of all who begin or let go: it is no measure of time.
+TICK = 0.1
 
 
 class Core:
-    """All but `commit` is called with the mutex held: `with core.mutex, core:` also has an exception mend what it left."""
+    """All that isn't said to be otherwise is called in `with core.lock(), core:`."""
 
-    def __init__(self, calls: Calls, handle: Handle, journal: Optional[Journal], overtakes: int, tick: float, new_lock: NewLock) -> None:
-        self.finalizer = weakref.finalize(self, freed, calls, handle)
-        self.process, self.stands, self.new_lock, self.mutex = os.getpid(), OPEN, new_lock, new_lock()
-        self.calls, self.at, self.journal, self.overtakes = calls, ctypes.byref(handle), journal, overtakes
-        self.turned, self.came, self.state, self.outside = Turned(), Came(), State(), Outside()
-        self.turned_at, self.came_at, self.state_at = ctypes.byref(self.turned), ctypes.byref(self.came), ctypes.byref(self.state)
-        self.lab_settle, self.lab_end = calls.quick("lab_settle"), calls.quick("lab_end")
-        self.call("lab_overtakes", overtakes)
-        plans = Plans(calls, self.at)
-        self.instruments = plans.instruments
-        self.seats = tuple(Seat(index, name, plan, new_lock) for index, (name, plan) in enumerate(zip(plans.jobs, plans.sessions)))
-        # jobs as sets of bits: whose owners wait; whose sessions were given up and can't be withdrawn; that hold with a limit; that are
-        # retired
-        self.waiting = self.left = self.limited = self.retired = 0
-        # the session that is being withdrawn
-        self.withdrawing: Optional[tuple[Seat, int]] = None
-        # While sessions with a patience wait, one of them settles the bench after so many seconds, so that it does run out. Patience is in
-        # these, and those of all who begin or let go: it is no measure of time.
-        self.tick, self.ticked, self.settles = tick, 0.0, 0
-        # sessions that are over in a way that their owners have to know, each as (job, number)
-        self.lapsed: list[tuple[str, int]] = []
-        self.taken: list[tuple[str, int]] = []
-        self.raised: list[tuple[str, int]] = []
-        self.torn = False
-        _cores.add(self)
+    def __init__(self, calls: Library, handle: Handle, new_lock: Callable[[], Any]) -> None:
+        self._process, self._calls, self._at = os.getpid(), calls, byref(handle)
+        self.free = weakref.finalize(self, _freed, calls, handle, self._process)
+        self.new_lock, self.mutex, self._ticked = new_lock, new_lock(), 0.0
+        self.is_stopped = self.is_closed = False
+        # by the number of a job, the session that it is in, or that comes next, or was the last
+        self.sessions: dict[int, Session] = {}
+        # sessions that are over in a way that their owners have to know, each as (job, number), in order
+        self.lapsed: dict[tuple[str, int], None] = {}
+        self.raised: dict[tuple[str, int], None] = {}
 
-    def __enter__(self) -> None:
-        pass
+    def lock(self) -> Any:
+        """The mutex. (In the child of a fork nobody may be there to let it go.)"""
+        if os.getpid() != self._process:
+            raise OtherProcess(self._process)
+        return self.mutex
+
+    def __enter__(self) -> Core:
+        if self.is_closed:
+            raise Closed("the bench is closed")
+        return self
 
     def __exit__(self, kind: Optional[type[BaseException]], fault: Optional[BaseException], at: Optional[TracebackType]) -> None:
-        if kind is not None and self.torn:
-            _mending.mend(self)
+        if kind not in (None, NotHeld, Stopped, Withdrawn):
+            for it in self.sessions.values():
+                self._look(it)
+            self.settle()
 
-    # ---- the journal
+    def call(self, name: str, *given: Any, no: tuple[int, ...] = ()) -> bool:
+        """A call that is to be done; whether it was. Another status than those that say `no` is an exception."""
+        return called(self._calls, name, self._at, *given, no=no)
 
-    def commit(self, ticket: Optional[Ticket]) -> None:
-        """Returns once the journal up to there is on the disk. (The mutex is not held.)"""
-        if self.journal is not None and ticket is not None:
-            self.journal.commit(ticket, self.goes_back)
-
-    def goes_back(self) -> None:
-        """A write failed: the bench is as the file has it. (The mutex is not held.)"""
-        with self.mutex:
-            if self.journal is not None and self.journal.fault is not None:
-                _mending.mend(self)
-
-    def ticket(self) -> Optional[Ticket]:
-        """Of all that was done; None without a journal."""
-        return None if self.journal is None else self.journal.ticket
-
-    # ---- calls, and what they tell
-
-    def call(self, name: str, *given: Any) -> None:
-        """A call that is to be done; every status but 0 is an exception."""
-        called(self.calls, name, self.at, *given)
-
-    def may(self, name: str, *given: Any) -> bool:
-        """A call that may answer 8, that it can't be done now; whether it was done. Another status is an exception."""
-        status = self.calls[name](self.at, *given)
-        if status not in (0, NOT_NOW):
-            raise unexpected(name, status)
-        return status == 0
-
-    def state_of(self, seat: Seat) -> State:
-        self.call("lab_state", seat.index, self.state_at)
-        return self.state
-
-    def holds(self, seat: Seat) -> bool:
-        return bool(seat.at) and self.state_of(seat).drinking in HOLDS
-
-    def outside_of(self, seat: Seat) -> Optional[int]:
-        """How often a job that is outside has been passed by; None if it isn't outside."""
-        self.call("lab_outside", seat.index, ctypes.byref(self.outside))
-        return self.outside.passed if self.outside.is_outside else None
-
-    def members(self, jobs: int) -> list[Seat]:
-        return [self.seats[at] for at in members(jobs)]
-
-    def look_over(self) -> None:
-        """The bench may be called, and all that its calls told is noted."""
-        if self.stands == ELSEWHERE:
-            raise OtherProcess(self.process)
-        if self.stands == CLOSED:
-            raise Closed("the bench is closed")
-        self.mends()
-
-    def mends(self) -> None:
-        if self.torn:
-            _mending.mend(self)
+    def state_of(self, job: int) -> State:
+        state = State()
+        self.call("lab_state", job, byref(state))
+        return state
 
     def may_go_on(self) -> None:
         """A further session may be begun."""
-        if self.stands:
-            self.look_over()
+        if self.is_stopped:
             raise Stopped("the bench is stopped")
 
-    # ---- a session asks
+    def settle(self, asking: Optional[Session] = None) -> None:
+        """All that can be done is done, and those are woken whose sessions come to hold by it. One that was left lets go at once. `asking` holds
+        then, or waits."""
+        its, came = self.sessions.values(), Came()
+        waiting = sum(it.bit for it in its if it.state == "waiting" or it is asking)
+        if not waiting and all(it.state != "left" for it in its):
+            return
+        self.call("lab_settle", waiting, byref(came))
+        if asking is not None:
+            asking.state = "waiting"
+        for it in its:
+            if came.given_up & it.bit:
+                self._tell(it, "withdrawn")
+            elif came.holds & it.bit and it.state == "waiting":
+                self._tell(it, "held")
+        if left := [it for it in its if came.holds & it.bit and it.state == "left"]:
+            for it in left:
+                self.end(it, "lapsed")
+            self.settle()
 
-    def ask(self, seat: Seat, session: Session, wake: Callable[[], None]) -> bool:
-        """Begins a session, unless it is in the line already. Whether it holds; if not, it waits, and `wake` will be called."""
-        if self.stands or self.torn or seat.at or session.number != seat.last + 1:
-            if self.is_there_already(seat, session):
-                return True
-        else:
-            seat.at = seat.last = session.number
-        seat.session = session
-        self.does_all(self.waiting | seat.bit)
-        holds = self.came.holds
-        if holds & seat.bit and not (holds & (self.waiting | self.left) or self.came.given_up):
-            session.state = "held"
-            self.begins_to_hold(seat)
-            self.torn = False
-            return True
-        # it waits, or others are to be told something as well
-        seat.outcome = seat.wake = seat.fault = None
-        seat.sleep.acquire(False)
-        session.state = "waiting"
-        if seat.asked_for != session.number:
-            seat.asked_for, seat.asked, seat.settles, seat.is_old = session.number, now(), self.settles, False
-        self.waiting |= seat.bit
-        self.tell()
-        if self.limited:
-            self.takes_overdue()
-        seat.wake = wake
-        return self.has_come(seat, session)
+    def tick(self) -> None:
+        """Settles, if that wasn't done just now."""
+        if time.monotonic() - self._ticked >= TICK / 2:
+            self._ticked = time.monotonic()
+            self.settle()
 
-    def is_there_already(self, seat: Seat, session: Session) -> bool:
-        """Whether a session that isn't plainly the next one holds. If not, it may be asked for, or this raises."""
-        self.look_over()
-        if seat.at == session.number:
-            return self.is_in_line(seat, session)
-        self.may_go_on()
-        if session.number <= seat.last:
-            if session.state == "withdrawn":
-                raise Withdrawn(session)
-            if self.was_taken(seat, session):
-                raise self.taken_away(seat, session)
-            raise NotHeld(f"session {session.number} of {seat.name} is over")
-        if seat.at or session.number != seat.last + 1:
-            raise LabrunError(f"session {seat.at or seat.last + 1} of {seat.name} comes before its session {session.number}")
-        seat.at = seat.last = session.number
-        return False
+    def end(self, session: Session, how: str) -> None:
+        """It lets go, and its commands that are left are logged. `settle` comes next."""
+        session.fate = how
+        self.call("lab_end", session.job.index, byref(Turned()))
+        self._tell(session, how)
 
-    def is_in_line(self, seat: Seat, session: Session) -> bool:
-        """Whether the session that a job is in holds; this raises if somebody waits for it already."""
-        is_held = seat.session is not None and seat.session.state == "held"
-        if is_held or self.holds(seat):
-            self.left &= ~seat.bit
-            if not is_held:
-                seat.since = now()
-            if not self.limited & seat.bit:
-                self.limits(seat)
-            seat.session, session.state = session, "held"
-            return True
-        self.may_go_on()
-        if self.waiting & seat.bit:
-            raise LabrunError(f"another thread waits for a session of {seat.name}")
-        self.left &= ~seat.bit
-        return False
-
-    def has_come(self, seat: Seat, session: Session) -> bool:
-        """Whether who waits was told that the session holds. It raises what else it was told."""
-        if seat.outcome is None:
-            return False
-        if seat.fault is not None:
-            raise JournalError(seat.fault.path, seat.fault.why)
-        if seat.outcome:
-            session.state = "held"
-            return True
-        if seat.untold is session:
-            raise self.taken_away(seat, session)
-        if session.state in ("left", "new", "lapsed"):
-            raise NotHeld(f"session {session.number} of {seat.name} was given up")
-        session.state = "withdrawn"
-        raise Withdrawn(session)
-
-    def waits_no_longer(self, seat: Seat, session: Session) -> None:
-        """It keeps its place in the line."""
-        session.state = "asked"
-        self.waiting &= ~seat.bit
-
-    # ---- what comes of it
-
-    def does_all(self, waiting: int) -> None:
-        """`lab_settle`: all that can be done is done. `tell` comes next."""
-        self.torn = True
-        status = self.lab_settle(self.at, waiting, self.came_at)
-        if status:
-            raise unexpected("lab_settle", status)
-        self.settles += 1
-
-    def settle(self) -> None:
-        """All that can be done is done, and those are woken whose sessions came to hold by it."""
-        self.does_all(self.waiting)
-        self.tell()
-
-    def ticks(self) -> bool:
-        """Settles, if that wasn't done just now; whether it did."""
-        if now() - self.ticked < self.tick / 2:
-            return False
-        self.ticked = now()
+    def leave(self, session: Session) -> None:
+        """It is given up: whatever is to come of it, nobody comes for it."""
+        session.state = "left"
+        self._look(session)
         self.settle()
-        return True
 
-    def tell(self) -> None:
-        """Notes what the last `lab_settle` told, and wakes whom that concerns. Sessions that were left and hold end, if somebody waits."""
-        while True:
-            holds = self.came.holds
-            for seat in self.members(self.came.given_up):
-                self.comes_to(seat, False, "withdrawn")
-            for seat in self.members(holds & self.waiting):
-                self.comes_to(seat, True)
-            if not (holds & self.left and self.waiting):
-                break
-            for seat in self.members(holds & self.left):
-                self.lapses(seat)
-            self.does_all(self.waiting)
-        self.torn = False
+    def _look(self, session: Session) -> None:
+        """What the library says of a session is told. One that was left, or whose owner was interrupted as it asked, is withdrawn if it can be."""
+        state, is_left = self.state_of(session.job.index), session.state in ("new", "left")
+        if state.session != session.number:
+            self._tell(session, "new" if is_left else session.state)
+        elif state.drinking in HOLDS:
+            self._tell(session, "left" if is_left else "held")
+        elif state.drinking == THIRSTY and not is_left:
+            self._tell(session, "waiting")
+        elif state.drinking == THIRSTY and session.patience is None:
+            self._tell(session, "left")
+        else:
+            if state.drinking == THIRSTY:
+                self.call("lab_withdraw", session.job.index)
+            self._tell(session, session.fate)
 
-    def comes_to(self, seat: Seat, holds: bool, how: str = "") -> None:
-        """A session that somebody may wait for holds, or has the end that `how` says. Whoever waits for it is woken."""
-        seat.outcome = holds
-        self.waiting &= ~seat.bit
-        if holds:
-            self.begins_to_hold(seat)
-        if how == "left":
-            self.left |= seat.bit
-        elif how:
-            if how == "lapsed":
-                self.lapsed.append((seat.name, seat.at))
-            self.left &= ~seat.bit
-            seat.at = seat.asked_for = 0
-            seat.last -= how == "new"
-        if how and seat.session is not None:
-            seat.session.state = how
-        self.rouse(seat)
+    def _tell(self, session: Session, state: str) -> None:
+        """What has become of a session, to whoever waits for it. (It is told again if an exception comes before its state is noted.)"""
+        if state == "lapsed":
+            self.lapsed[session.job.name, session.number] = None
+        if not self.rouse(session) and session.state == "waiting" and state == "held":
+            state = "left"
+        if state not in ("waiting", "held"):
+            session.owner = None
+        session.state = state
 
-    def begins_to_hold(self, seat: Seat) -> None:
-        seat.since = now()
-        if seat.limit is not None:
-            self.limits(seat)
-
-    def limits(self, seat: Seat) -> None:
-        """If the session that a job holds has a limit, those that wait for it reckon anew how long they sleep."""
-        if seat.limit is not None:
-            seat.due = seat.since + seat.limit
-            self.limited |= seat.bit
-            for other in self.members(self.waiting):
-                if self.share(other, seat):
-                    self.rouse(other)
-
-    def share(self, seat: Seat, other: Seat) -> bool:
-        """Whether a job asked for an instrument of another's session."""
-        return bool(seat.at and other.at) and not set(seat.plan[seat.at - 1].instruments).isdisjoint(other.plan[other.at - 1].instruments)
-
-    def rouse(self, seat: Seat) -> None:
-        """Wakes who waits for a session of this job, if anybody does. (Whoever is woken for nothing sleeps again.)"""
-        if seat.wake is not None:
-            try:
-                seat.wake()
-            except RuntimeError:  # it is awake already
-                pass
-
-    # ---- ends
-
-    def ends(self, seat: Seat, session: Session) -> Optional[Ticket]:
-        """A session lets go: its commands that are left are logged. The ticket is of that alone: what others come to by it needn't be
-        written."""
-        if self.stands > STOPPED or self.torn:
-            self.look_over()
-        if seat.at != session.number or session.state == "finished":
-            raise self.not_held(seat, session)
+    def rouse(self, session: Session) -> bool:
+        """Wakes who waits for it, who may sleep again. No if nobody is there any more, since the loop of its task is closed."""
         try:
-            self.torn = True
-            status = self.lab_end(self.at, seat.index, self.turned_at)
-            if status:
-                self.torn = False
-                raise self.not_held(seat, session) if status == NOT_NOW else unexpected("lab_end", status)
-            seat.at = 0
-            session.state, session.done = "finished", len(session.commands)
-            self.limited &= ~seat.bit
-            ticket = self.ticket()
-            if self.waiting:
-                self.settle()
-            self.torn = False
-            return ticket
-        except BaseException:
-            # (not by `with core`, which takes as long as one of the calls)
-            self.mends()
-            raise
-
-    def not_held(self, seat: Seat, session: Session) -> NotHeld:
-        if self.was_taken(seat, session):
-            return self.taken_away(seat, session)
-        return NotHeld(f"session {session.number} of {seat.name} is {session.state}: it doesn't hold its instruments")
-
-    def was_taken(self, seat: Seat, session: Session) -> bool:
-        return session.state == "taken" or seat.untold is not None and seat.untold.number == session.number
-
-    def taken_away(self, seat: Seat, session: Session) -> TakenAway:
-        """To be raised: its owner is told."""
-        session.state, seat.untold = "taken", None
-        return TakenAway(session)
-
-    def leaves(self, seat: Seat, session: Session) -> None:
-        """A session that asked is given up, and doesn't come to hold by that. One that holds already lets go at once."""
-        state = self.state_of(seat)
-        is_begun, holds = state.session == session.number, state.drinking in HOLDS
-        self.torn = True
-        seat.session = session
-        if is_begun and holds:
-            self.comes_to(seat, False, "left")
-            self.lapses(seat)
-        elif session.patience is not None:
-            self.withdraws(seat, session.number)
-            self.comes_to(seat, False, "withdrawn")
-        elif is_begun:
-            self.comes_to(seat, False, "left")
-        else:
-            # (8 where it was about to ask)
-            self.may("lab_withdraw", seat.index)
-            self.comes_to(seat, False, "new")
-        self.settle()
-
-    def withdraws(self, seat: Seat, number: int) -> None:
-        """A session that has a patience, and doesn't hold, is withdrawn. If it isn't begun, single turns begin it: with them it can't hold.
-        (It takes one, but for a meal that has to end first.) If an exception comes between, `mend` goes on with it. `settle` comes next."""
-        self.torn, self.withdrawing = True, (seat, number)
-        if self.outside_of(seat) is not None:
-            self.call("lab_withdraw", seat.index)
-        turns = 0
-        while self.state_of(seat).session < number:
-            if turns == TURNS:
-                raise LabrunError(f"session {number} of {seat.name} isn't begun after {turns} turns")
-            self.call("lab_turn", seat.index, self.turned_at)
-            turns += 1
-        if self.state.drinking == THIRSTY:
-            self.call("lab_withdraw", seat.index)
-        self.withdrawing = None
-
-    def lapses(self, seat: Seat) -> None:
-        """A session that was left holds: it lets go, and its commands are logged. `settle` comes next."""
-        self.torn = True
-        self.call("lab_end", seat.index, self.turned_at)
-        self.limited &= ~seat.bit
-        self.comes_to(seat, False, "lapsed")
-
-    def ends_left(self) -> None:
-        """Nobody comes any more for the sessions that were left: those that hold let go, and others of them may hold by that."""
-        while found := [seat for seat in self.members(self.left) if self.holds(seat)]:
-            for seat in found:
-                self.lapses(seat)
-            self.settle()
-
-    def takes(self, seat: Seat) -> None:
-        """Ends the session that a job holds, for its owner. `settle` comes next."""
-        number, session = seat.at, seat.session
-        self.torn = True
-        seat.untold = session if session is not None and session.number == number else seat.offers(number)
-        if not self.may("lab_end", seat.index, self.turned_at):
-            seat.untold = None
-            raise NotHeld(f"{seat.name} holds nothing")
-        self.taken.append((seat.name, number))
-        self.limited &= ~seat.bit
-        self.comes_to(seat, False, "taken")
-
-    def takes_overdue(self) -> bool:
-        """Takes away each session that has held for longer than its limit while somebody asks for an instrument of it. Whether it did."""
-        late = [seat for seat in self.members(self.limited) if seat.due <= now()]
-        found = [seat for seat in late if any(self.share(other, seat) for other in self.seats if other is not seat)]
-        for seat in found:
-            self.takes(seat)
-        if found:
-            self.settle()
-        return bool(found)
-
-    def retires(self, seat: Seat) -> bool:
-        """Retires a job that has no session left, if it is in no meal; whether it did."""
-        if self.stands > STOPPED or self.retired & seat.bit or seat.at or seat.last < len(seat.plan):
+            return session.wake is None or session.wake() is not False
+        except RuntimeError:
             return False
-        status = self.calls["lab_retire"](self.at, seat.index, 1, self.turned_at)
-        if status not in (0, NOT_NOW, SESSIONS_LEFT):
-            raise unexpected("lab_retire", status)
-        self.retired |= 0 if status else seat.bit
-        return status == 0
 
     def stop(self) -> None:
-        if self.stands != CLOSED:
-            self.look_over()
-            self.stands, self.torn = STOPPED, True
-            self.rouse_all()
-            self.torn = False
+        """Whoever waits is woken, and gets Stopped. (With nothing held. A bench that is closed stays so.)"""
+        with self.lock(), contextlib.suppress(Closed), self:
+            self.is_stopped = True
+            for it in self.sessions.values():
+                self.rouse(it)
 
-    def rouse_all(self) -> None:
-        for seat in self.members(self.waiting):
-            self.rouse(seat)
-
-
-# the benches of this process
-_cores: weakref.WeakSet[Core] = weakref.WeakSet()
-
-
-def _after_fork() -> None:
-    """In the child: its copies of benches are none of its own. A thread that held a mutex may not be here to let it go."""
-    for core in list(_cores):
-        core.finalizer.detach()
-        if core.journal is not None:
-            core.journal.close()
-        core.mutex = core.new_lock()
-        if core.stands != CLOSED:
-            core.stands = ELSEWHERE
+    def close(self, jobs: int) -> str:
+        """The report's text. Each job that can retires: one may owe a meal, for which it needs forks that others give once they have let go.
+        (With the mutex alone, and a second time if an exception came.)"""
+        if not self.is_closed:
+            with self:
+                self.settle()
+                left = set(range(jobs))
+                while done := {it for it in left if self.call("lab_retire", it, 1, byref(Turned()), no=(NOT_NOW, SESSIONS_LEFT))}:
+                    left -= done
+            self.is_closed = True
+        for session in self.sessions.values():
+            self.rouse(session)
+        return told_text(self._calls, "lab_bench_close", self._at)
 
 
-os.register_at_fork(after_in_child=_after_fork)
+def _freed(calls: Library, handle: Handle, process: int) -> None:
+    if os.getpid() == process:
+        called(calls, "lab_bench_free", byref(handle), no=(NOT_OPEN,))

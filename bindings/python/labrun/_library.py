@@ -7,22 +7,23 @@ import ctypes.util
 import importlib
 import os
 import sys
-from typing import Any, Callable, Optional, Protocol
+from typing import Any, Callable, Optional
 
-from ._faults import LabrunError
+from ._faults import LabrunError, Refused, TooLong
 
 REFUSED, NO_SUCH, WAITS, TOO_LONG, NO_MEMORY, NO_ROOM, NOT_OPEN, NOT_NOW, NO_SESSION, SESSIONS_LEFT, IN_USE = range(1, 12)
 JOURNAL_FULL = 12
 RETIRED = 14
 
 
+def _words(names: str) -> list[tuple[str, Any]]:
+    return [(name, ctypes.c_uint32) for name in names.split()]
+
+
 class Told(ctypes.Structure):
     """`struct lab_told`."""
 
     _fields_ = [("written", ctypes.c_size_t), ("line", ctypes.c_size_t), ("cause", ctypes.c_uint32)]
-    written: int
-    line: int
-    cause: int
 
 
 class Handle(ctypes.Structure):
@@ -35,97 +36,42 @@ class Size(ctypes.Structure):
     """`struct lab_size`."""
 
     _fields_ = [("jobs", ctypes.c_size_t), ("instruments", ctypes.c_size_t)]
-    jobs: int
-    instruments: int
 
 
 class SessionOf(ctypes.Structure):
     """`struct lab_session`."""
 
-    _fields_ = [
-        ("needs", ctypes.c_uint64),
-        ("commands", ctypes.c_size_t),
-        ("patience", ctypes.c_uint32),
-        ("has_patience", ctypes.c_uint32),
-    ]
-    needs: int
-    commands: int
-    patience: int
-    has_patience: int
+    _fields_ = [("needs", ctypes.c_uint64), ("commands", ctypes.c_size_t), *_words("patience has_patience")]
 
 
 class Planned(ctypes.Structure):
     """`struct lab_planned`."""
 
-    _fields_ = [(name, ctypes.c_uint32) for name in ("instrument", "verb", "number")]
-    instrument: int
-    verb: int
-    number: int
+    _fields_ = _words("instrument verb number")
 
 
 class Turned(ctypes.Structure):
     """`struct lab_turned`."""
 
-    _fields_ = [("what", ctypes.c_uint32), ("count", ctypes.c_uint32)]
-    what: int
-    count: int
+    _fields_ = _words("what count")
 
 
 class Came(ctypes.Structure):
     """`struct lab_came`."""
 
-    _fields_ = [(name, ctypes.c_uint32) for name in ("holds", "given_up", "none_left", "deeds")]
-    holds: int
-    given_up: int
-    none_left: int
-    deeds: int
-
-
-class Keepers(ctypes.Structure):
-    """`struct lab_keepers`."""
-
-    _fields_ = [("jobs", ctypes.c_uint32), ("holding", ctypes.c_uint32)]
-    jobs: int
-    holding: int
-
-
-class Outside(ctypes.Structure):
-    """`struct lab_outside`."""
-
-    _fields_ = [("is_outside", ctypes.c_uint32), ("passed", ctypes.c_uint32)]
-    is_outside: int
-    passed: int
+    _fields_ = _words("holds given_up none_left deeds")
 
 
 class State(ctypes.Structure):
     """`struct lab_state`."""
 
-    _fields_ = [("turns", ctypes.c_uint64)] + [
-        (name, ctypes.c_uint32)
-        for name in ("dining", "drinking", "session", "sessions", "position", "sessions_done", "withdrawn", "meals", "waited")
-    ]
-    turns: int
-    dining: int
-    drinking: int
-    session: int
-    sessions: int
-    position: int
-    sessions_done: int
-    withdrawn: int
-    meals: int
-    waited: int
+    _fields_ = [("turns", ctypes.c_uint64), *_words("dining drinking session sessions position sessions_done withdrawn meals waited")]
 
 
 class Entered(ctypes.Structure):
     """`struct lab_entry`."""
 
-    _fields_ = [(name, ctypes.c_uint32) for name in ("session", "place", "length", "verb", "number", "value")]
-    session: int
-    place: int
-    length: int
-    verb: int
-    number: int
-    value: int
+    _fields_ = _words("session place length verb number value")
 
 
 _BYTES, _SIZE, _WORD = ctypes.c_char_p, ctypes.c_size_t, ctypes.c_uint32
@@ -135,42 +81,25 @@ _HANDLE, _TOLD, _TURNED = ctypes.POINTER(Handle), ctypes.POINTER(Told), ctypes.P
 # calls that may take long: the interpreter's lock is let go meanwhile
 _LONG: dict[str, list[Any]] = {
     "lab_rounds": [_BYTES, _SIZE, _WORD, _ROOM, _SIZE, _TOLD],
-    "lab_replay": [_BYTES, _SIZE, _ROOM, _SIZE, _TOLD],
-    "lab_check": [_BYTES, _SIZE, _ROOM, _SIZE, _TOLD],
-    "lab_upgrade": [_BYTES, _SIZE, _ROOM, _SIZE, _TOLD],
+    **dict.fromkeys(("lab_replay", "lab_check", "lab_upgrade"), [_BYTES, _SIZE, _ROOM, _SIZE, _TOLD]),
     "lab_bench_open": [_BYTES, _SIZE, _HANDLE, _TOLD],
-    "lab_bench_open_kept": [_BYTES, _SIZE, _HANDLE, _TOLD],
-    "lab_bench_resume": [_BYTES, _SIZE, _HANDLE, _TOLD],
     "lab_bench_close": [_HANDLE, _ROOM, _SIZE, _TOLD],
 }
 
 # calls that take microseconds and never wait: handing the interpreter's lock round for each would cost more than the call
 _SHORT: dict[str, list[Any]] = {
     "lab_bench_size": [_HANDLE, ctypes.POINTER(Size)],
-    "lab_job_name": [_HANDLE, _WORD, _ROOM, _SIZE, ctypes.POINTER(_SIZE)],
-    "lab_instrument_name": [_HANDLE, _WORD, _ROOM, _SIZE, ctypes.POINTER(_SIZE)],
+    **dict.fromkeys(("lab_job_name", "lab_instrument_name"), [_HANDLE, _WORD, _ROOM, _SIZE, ctypes.POINTER(_SIZE)]),
     "lab_session_of": [_HANDLE, _WORD, _WORD, ctypes.POINTER(SessionOf)],
     "lab_planned": [_HANDLE, _WORD, _WORD, _WORD, ctypes.POINTER(Planned)],
     "lab_state": [_HANDLE, _WORD, ctypes.POINTER(State)],
-    "lab_keepers": [_HANDLE, _WORD, _WORD, ctypes.POINTER(Keepers)],
-    "lab_overtakes": [_HANDLE, _WORD],
-    "lab_outside": [_HANDLE, _WORD, ctypes.POINTER(Outside)],
-    "lab_turn": [_HANDLE, _WORD, _TURNED],
     "lab_settle": [_HANDLE, _WORD, ctypes.POINTER(Came)],
     "lab_command": [_HANDLE, _WORD, ctypes.POINTER(Entered)],
     "lab_end": [_HANDLE, _WORD, _TURNED],
     "lab_withdraw": [_HANDLE, _WORD],
     "lab_retire": [_HANDLE, _WORD, _WORD, _TURNED],
-    "lab_journal": [_HANDLE, _ROOM, _SIZE, ctypes.POINTER(_SIZE)],
     "lab_bench_free": [_HANDLE],
 }
-
-
-class Calls(Protocol):
-    """Calls of the library, each by its name in C."""
-
-    def __getitem__(self, name: str) -> Callable[..., int]: ...
-    def quick(self, name: str) -> Callable[..., int]: ...
 
 
 class Library:
@@ -183,55 +112,31 @@ class Library:
         self._calls: dict[str, Callable[..., int]] = {}
 
     def __getitem__(self, name: str) -> Callable[..., int]:
-        call = self._calls.get(name)
-        return self._bound(name) if call is None else call
-
-    def _bound(self, name: str) -> Callable[..., int]:
-        """A call, looked up once: an older library has the runs and no bench."""
-        library, arguments = (self._long, _LONG[name]) if name in _LONG else (self._short, _SHORT[name])
-        try:
-            call: Any = getattr(library, name)
-        except AttributeError:
-            raise OSError(f"{self.path} has no {name}: it is of another version of labrun") from None
-        call.argtypes, call.restype = arguments, _WORD
-        bound: Callable[..., int] = call
-        self._calls[name] = bound
-        return bound
-
-    def quick(self, name: str) -> Callable[..., int]:
-        """A short call whose arguments are taken as they are, numbers and `byref`s: it takes a third of the time. Only for arguments that
-        are known to be right."""
-        self[name]
-        call: Any = self._short[name]
-        call.restype = _WORD
-        quick: Callable[..., int] = call
-        return quick
+        """Looked up once, as it is called: an older library has the runs and no bench."""
+        if name not in self._calls:
+            library, arguments = (self._long, _LONG[name]) if name in _LONG else (self._short, _SHORT[name])
+            try:
+                call: Any = getattr(library, name)
+            except AttributeError:
+                raise OSError(f"{self.path} has no {name}: it is of another version of labrun") from None
+            call.argtypes, call.restype = arguments, _WORD
+            self._calls[name] = call
+        return self._calls[name]
 
 
-def unexpected(call: str, status: int) -> Exception:
-    """The exception of a status that a call can't have here."""
-    if status == NO_SUCH:
-        return IndexError(f"{call}: no such job, session or instrument")
-    return MemoryError() if status == NO_MEMORY else LabrunError(f"{call}: status {status}")
+def called(calls: Library, name: str, *given: Any, no: tuple[int, ...] = (), told: Optional[Told] = None) -> bool:
+    """A call that is to be done; whether it was. Each other status than 0, and those that say `no`, is an exception."""
+    status = calls[name](*given)
+    if status and status not in no:
+        raise _fault(name, status, told)
+    return status == 0
 
 
-def done(name: str, call: Callable[..., int], *given: Any) -> None:
-    """A call that is to be done; every status but 0 is an exception."""
-    status = call(*given)
-    if status:
-        raise unexpected(name, status)
-
-
-def called(calls: Calls, name: str, *given: Any) -> None:
-    """The same of a call by its name."""
-    done(name, calls[name], *given)
-
-
-def freed(calls: Calls, handle: Handle) -> None:
-    """What the handle has is given back. (It may be empty.)"""
-    status = calls["lab_bench_free"](ctypes.byref(handle))
-    if status not in (0, NOT_OPEN):
-        raise unexpected("lab_bench_free", status)
+def _fault(name: str, status: int, told: Optional[Told]) -> Exception:
+    if status == REFUSED and told is not None:
+        return Refused(told.line, told.cause)
+    faults = {TOO_LONG: TooLong("script longer than 16777216 bytes"), NO_MEMORY: MemoryError()}
+    return faults.get(status, LabrunError(f"{name}: status {status}"))
 
 
 def may_load() -> None:

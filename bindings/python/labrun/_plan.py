@@ -2,11 +2,11 @@
 
 from __future__ import annotations
 
-import ctypes
+from ctypes import byref, c_size_t, create_string_buffer
 from dataclasses import dataclass
-from typing import Any, NamedTuple, Optional
+from typing import Callable, NamedTuple, Optional
 
-from ._library import Calls, Planned, SessionOf, Size, State, called, done
+from ._library import Planned, SessionOf, Size, State
 
 VERBS = ("set", "add", "read")
 
@@ -28,58 +28,30 @@ class Plan(NamedTuple):
     patience: Optional[int]
 
 
-class Plans:
-    """Of an open bench: the names of its `jobs` and `instruments`, in their order, and the `sessions` of each job."""
+def read_plan(call: Callable[..., bool]) -> tuple[tuple[str, ...], list[tuple[str, list[Plan]]]]:
+    """The names of an open bench's instruments, and those of its jobs, each with its sessions, by the calls on it."""
+    size, state, of_session, planned = Size(), State(), SessionOf(), Planned()
 
-    def __init__(self, calls: Calls, at: Any) -> None:
-        self._calls, self._at = calls, at
-        size = Size()
-        called(calls, "lab_bench_size", at, ctypes.byref(size))
-        self.instruments = tuple(self._name("lab_instrument_name", number) for number in range(size.instruments))
-        self.jobs = tuple(self._name("lab_job_name", number) for number in range(size.jobs))
-        # (most sessions and commands of a script are as others of it: each is made once)
-        self._sets: dict[int, tuple[str, ...]] = {}
-        self._commands: dict[tuple[int, int, int], Command] = {}
-        self._what, self._planned = SessionOf(), Planned()
-        self._of_session, self._of_command = calls["lab_session_of"], calls["lab_planned"]
-        self.sessions = [self._of_job(job) for job in range(size.jobs)]
+    def name(which: str, number: int) -> str:
+        text, written = create_string_buffer(16), c_size_t()
+        call(which, number, text, 16, byref(written))
+        return text.raw[: written.value].decode("ascii")
 
-    def _name(self, call: str, number: int) -> str:
-        name, written = ctypes.create_string_buffer(16), ctypes.c_size_t()
-        called(self._calls, call, self._at, number, name, 16, ctypes.byref(written))
-        return name.raw[: written.value].decode("ascii")
+    def command(*place: int) -> Command:
+        call("lab_planned", *place, byref(planned))
+        verb = VERBS[planned.verb]
+        return Command(instruments[planned.instrument], verb, None if verb == "read" else planned.number)
 
-    def _of_job(self, job: int) -> list[Plan]:
-        state = State()
-        called(self._calls, "lab_state", self._at, job, ctypes.byref(state))
-        return [self._session(job, number) for number in range(1, state.sessions + 1)]
+    def session(*place: int) -> Plan:
+        call("lab_session_of", *place, byref(of_session))
+        needs, patience = of_session.needs, of_session.patience if of_session.has_patience else None
+        names = tuple(it for at, it in enumerate(instruments) if needs >> at & 1)
+        return Plan(names, tuple(command(*place, at) for at in range(of_session.commands)), patience)
 
-    def _session(self, job: int, number: int) -> Plan:
-        what = self._what
-        done("lab_session_of", self._of_session, self._at, job, number, ctypes.byref(what))
-        commands = tuple(self._command(job, number, place) for place in range(what.commands))
-        return Plan(self._set(what.needs), commands, what.patience if what.has_patience else None)
+    def sessions(job: int) -> list[Plan]:
+        call("lab_state", job, byref(state))
+        return [session(job, number) for number in range(1, state.sessions + 1)]
 
-    def _set(self, needs: int) -> tuple[str, ...]:
-        if needs not in self._sets:
-            self._sets[needs] = tuple(self.instruments[at] for at in members(needs))
-        return self._sets[needs]
-
-    def _command(self, job: int, number: int, place: int) -> Command:
-        it = self._planned
-        done("lab_planned", self._of_command, self._at, job, number, place, ctypes.byref(it))
-        key = it.instrument, it.verb, it.number
-        if key not in self._commands:
-            verb = VERBS[it.verb]
-            self._commands[key] = Command(self.instruments[it.instrument], verb, None if verb == "read" else it.number)
-        return self._commands[key]
-
-
-def members(numbers: int) -> list[int]:
-    """The members of a set of bits, lowest first."""
-    found = []
-    while numbers:
-        bit = numbers & -numbers
-        numbers ^= bit
-        found.append(bit.bit_length() - 1)
-    return found
+    call("lab_bench_size", byref(size))
+    instruments = tuple(name("lab_instrument_name", at) for at in range(size.instruments))
+    return instruments, [(name("lab_job_name", job), sessions(job)) for job in range(size.jobs)]

@@ -7,8 +7,7 @@ import re
 from dataclasses import dataclass, field
 from typing import Any, Mapping, Union
 
-from ._faults import LabrunError, Refused, TooLong
-from ._library import NO_MEMORY, NO_ROOM, NOT_OPEN, REFUSED, TOO_LONG, WAITS, Told, library
+from ._library import NO_ROOM, WAITS, Library, Told, called, library
 
 Text = Union[str, bytes]
 
@@ -86,8 +85,7 @@ class Report:
                 log = logs.setdefault(words[1], [])
             else:
                 raise ValueError(f"line {number} is none of a report: {line!r}")
-        kept = {name: tuple(entries) for name, entries in logs.items()}
-        return cls(int(lines[0][4:]), lines[-2] == "finished", kept, tuple(jobs), text)
+        return cls(int(lines[0][4:]), lines[-2] == "finished", {name: tuple(it) for name, it in logs.items()}, tuple(jobs), text)
 
     @property
     def instruments(self) -> tuple[str, ...]:
@@ -100,10 +98,7 @@ class Report:
 
     def job(self, name: str) -> JobReport:
         """The line of a job. KeyError if there is none of this name."""
-        for job in self.jobs:
-            if job.name == name:
-                return job
-        raise KeyError(name)
+        return {job.name: job for job in self.jobs}[name]
 
     def to_rows(self) -> list[dict[str, Any]]:
         """All logs as one table, a dictionary a row, for `pandas.DataFrame(report.to_rows())`. `entry` counts from 1 in each log."""
@@ -125,40 +120,20 @@ class Counts:
     commands: int
 
 
-def told_fault(status: int, told: Told) -> Exception:
-    """The exception of a status that is a fault."""
-    if status == REFUSED:
-        return Refused(told.line, told.cause)
-    if status == TOO_LONG:
-        return TooLong("script longer than 16777216 bytes")
-    if status == NO_MEMORY:
-        return MemoryError()
-    if status == NOT_OPEN:
-        return LabrunError("the handle is in use, or isn't open")
-    return LabrunError(f"status {status}")
-
-
-def told_bytes(call: Any, *given: Any) -> bytes:
+def told_text(calls: Library, name: str, *given: Any) -> str:
     """Calls with ever more room, until the text fits."""
     told, room = Told(), 16384
     while True:
         text = ctypes.create_string_buffer(room)
-        status = call(*given, text, room, ctypes.byref(told))
-        if status == NO_ROOM:
-            room = told.written
-        elif status in (0, WAITS):
-            return ctypes.string_at(text, told.written)
-        else:
-            raise told_fault(status, told)
-
-
-def told_text(call: Any, *given: Any) -> str:
-    return told_bytes(call, *given).decode("ascii")
+        called(calls, name, *given, text, room, ctypes.byref(told), no=(WAITS, NO_ROOM), told=told)
+        if told.written <= room:
+            return text.raw[: told.written].decode("ascii")
+        room = told.written
 
 
 def _called(name: str, script: Text, *limit: int) -> str:
     given = as_bytes(script)
-    return told_text(library()[name], given, len(given), *limit)
+    return told_text(library(), name, given, len(given), *limit)
 
 
 def run(script: Text, limit: int = 10000) -> Report:

@@ -1,25 +1,24 @@
-"""A session, as the thread or task sees it whose it is."""
+"""The jobs of a bench, and their sessions one after another, as the threads or tasks see them whose they are."""
 
 from __future__ import annotations
 
 import asyncio
-import ctypes
+import contextlib
 import threading
+from ctypes import byref
 from types import TracebackType
-from typing import TYPE_CHECKING, Optional
+from typing import TYPE_CHECKING, Any, Callable, Iterator, NamedTuple, Optional
 
-from ._core import Core
-from ._faults import Closed, JournalError, LabrunError, NotHeld, OtherProcess, Stopped, TimeoutError, Withdrawn, WouldBlock
-from ._journal import Ticket
-from ._keepers import Keeper, keepers_of
-from ._library import Entered
-from ._plan import VERBS, Command
+from ._core import HOLDS, RETIRED, THIRSTY, TICK, Core
+from ._faults import Closed, LabrunError, NotHeld, OtherProcess, Withdrawn, WouldBlock
+from ._library import NOT_NOW, Entered
+from ._plan import VERBS, Plan
 from ._report import Entry
-from ._seat import ELSEWHERE, STOPPED, Seat, now
 
 if TYPE_CHECKING:
-    from ._jobs import Job
+    from ._bench import Bench
 
+OVER = ("finished", "withdrawn", "lapsed")
 # as a patience in turns: the largest that a script may have, which nobody counts to
 FOREVER = 999999
 
@@ -30,25 +29,24 @@ class Session:
 
     `number` counts the job's sessions from 1, `instruments` are the names of those that it needs, in the order in which the script first
     names them, `commands` what it does with them, `patience` is the script's, in turns, None if it has none. `state` is `new`; `waiting`,
-    for its instruments; `held`; `finished`, with its commands logged; `withdrawn`, with none; `asked`: a time limit passed, and it keeps
-    its place in the line; `left`: it was given up but may not be withdrawn; `lapsed`: it was given up, but held by then or came to hold
-    later, and so it let go, and its commands were logged though nobody did its work; `taken`: it was ended for its owner. `done` is how
-    many of its commands are done; `resumed`, whether it held its instruments when the process died that had the journal before: then it is
-    held as it is offered."""
+    for its instruments; `held`; `finished`, with its commands logged; `withdrawn`, with none; `left`: it was given up, but may not be
+    withdrawn; `lapsed`: it was given up, but held by then or came to hold later, and so it let go, and its commands were logged though
+    nobody did its work."""
 
-    __slots__ = ("job", "number", "timeout", "instruments", "commands", "patience", "state", "done", "resumed", "_core", "_seat")
-    instruments: tuple[str, ...]
-    commands: tuple[Command, ...]
-    patience: Optional[int]
-
-    def __init__(self, job: Job, core: Core, seat: Seat, number: int, timeout: Optional[float] = None) -> None:
-        self.job, self.number, self.timeout = job, number, timeout
-        self.instruments, self.commands, self.patience = seat.plan[number - 1]
-        self.state, self.done, self.resumed = "new", 0, False
-        self._core, self._seat = core, seat
+    def __init__(self, job: Job, core: Core, plan: Plan, number: int) -> None:
+        self.job, self.number, self.state, self._core = job, number, "new", core
+        self.instruments, self.commands, self.patience = plan
+        # for the core: its job; what it is once the library says that it is over; who waits for it, or has it; and what wakes that one
+        self.bit: int = 1 << job.index
+        self.fate, self.owner = "withdrawn", None  # type: str, object
+        self.wake: Optional[Callable[[], object]] = None
+        self._tick = -1 if self.patience is None or self.patience >= FOREVER else TICK
 
     def __repr__(self) -> str:
         return f"<Session {self.number} of {self.job.name}: {self.state}>"
+
+    def __str__(self) -> str:
+        return f"session {self.number} of {self.job.name}"
 
     @property
     def held(self) -> bool:
@@ -57,276 +55,213 @@ class Session:
 
     # ---- it is waited for
 
-    def acquire(self, timeout: Optional[float] = None) -> None:
-        """Blocks until the session holds all its instruments; at once if it does.
+    def acquire(self) -> Session:
+        """Blocks until the session holds all its instruments; at once if it does. LabrunError: another thread, or task, waits for it or holds
+        it. WouldBlock: a loop of asyncio runs on this thread.
 
-        After `timeout` seconds it raises TimeoutError, which says who keeps it waiting. The session keeps its place in the line, and may
-        come to its instruments meanwhile (unless it is still outside): acquire it again, or `give_up`. Withdrawn: its patience ran out.
-        TakenAway: it was ended for its owner. WouldBlock: it would have to wait, and a loop of asyncio runs on this thread. Any other
-        exception that comes before this returns, KeyboardInterrupt among them, gives it up, as `give_up` does; if it came to hold just
-        then, it lapses at once. (One that held before the call goes on to hold.)"""
-        core, seat, was_held = self._core, self._seat, self.state == "held"
+        Withdrawn: its patience ran out, or it was withdrawn. NotHeld: it was given up, or is over. Any other exception that comes before
+        this returns, KeyboardInterrupt among them, gives it up, as `give_up` does; if it came to hold just then, it lapses. (One that held
+        before the call goes on to hold.)"""
+        if asyncio._get_running_loop() is not None:
+            raise WouldBlock(self, f"{self} may have to wait, and a loop runs on this thread: use `async with`")
+        me, was_held, bell = whoever(), self.held, self._core.new_lock()
         try:
-            until = None if timeout is None else now() + timeout
-            with core.mutex:
-                holds = core.ask(seat, self, seat.get_up)
-                ticket = core.ticket()
-            if not holds:
-                ticket = self._sleep(core, seat, until, timeout)
-            if ticket is not None:
-                core.commit(ticket)
-        except BaseException as fault:
-            self._left_by(fault, was_held)
+            bell.acquire()
+            # (it may be awake already)
+            holds = self._asks(me, lambda: not bell.locked() or bell.release())
+            while not holds:
+                bell.acquire(True, self._tick)
+                holds = self._has_come()
+            return self
+        except BaseException:
+            self._not_come(me, was_held)
             raise
 
-    def _sleep(self, core: Core, seat: Seat, until: Optional[float], timeout: Optional[float]) -> Optional[Ticket]:
-        """Sleeps until the session holds, or has an end in another way."""
-        if asyncio._get_running_loop() is not None and timeout != 0:
-            with core.mutex:
-                if not core.has_come(seat, self):
-                    core.waits_no_longer(seat, self)
-                    raise WouldBlock(self)
-                return core.ticket()
-        while True:
-            seat.sleep.acquire(True, self._span(until))
-            if seat.outcome and core.journal is None:
-                self.state = "held"
-                if seat.at == self.number:
-                    return None
-                # it was taken away just now
-            with core.mutex:
-                if self._is_over(core, seat, until):
-                    return core.ticket()
-
-    async def acquire_async(self, timeout: Optional[float] = None) -> None:
+    async def acquire_async(self) -> Session:
         """As `acquire`, for a task of asyncio: other tasks go on meanwhile. A task that is cancelled while it waits leaves the session as
         KeyboardInterrupt does."""
-        core, seat, was_held = self._core, self._seat, self.state == "held"
-        until = None if timeout is None else now() + timeout
-        loop, event = asyncio.get_running_loop(), asyncio.Event()
-
-        def wake() -> None:
-            # (RuntimeError: the loop is closed, and nobody waits any more)
-            loop.call_soon_threadsafe(event.set)
-
+        me, was_held, loop, event = whoever(), self.held, asyncio.get_running_loop(), asyncio.Event()
         try:
-            with core.mutex:
-                holds = core.ask(seat, self, wake)
-                ticket = core.ticket()
+            holds = self._asks(me, lambda: loop.call_soon_threadsafe(event.set))
             while not holds:
                 # (not wait_for: before Python 3.12 it loses a cancellation that comes together with the event)
-                span = self._span(until)
-                timer = None if span < 0 else loop.call_later(span, event.set)
-                try:
-                    await event.wait()
-                finally:
-                    if timer is not None:
-                        timer.cancel()
+                if self._tick > 0:
+                    loop.call_later(self._tick, event.set)
+                await event.wait()
                 event.clear()
-                with core.mutex:
-                    holds = self._is_over(core, seat, until)
-                    ticket = core.ticket()
-            core.commit(ticket)
-        except BaseException as fault:
-            self._left_by(fault, was_held)
+                holds = self._has_come()
+            return self
+        except BaseException:
+            self._not_come(me, was_held)
             raise
 
-    def _span(self, until: Optional[float]) -> float:
-        """For how long it may sleep; -1 for without limit. Only who has a time limit or a patience looks again without being woken, and who
-        waits for a session that has a limit on holding."""
-        core, seat, time_now = self._core, self._seat, now()
-        ends = [it.due - time_now for it in core.members(core.limited)]
-        if until is not None:
-            ends.append(until - time_now)
-        if self._counts_turns():
-            ends.append(core.tick)
-        if seat.patience is not None:
-            ends.append(seat.asked + seat.patience - time_now)
-        return min(max(0.0, min(ends)), threading.TIMEOUT_MAX) if ends else -1
+    def _asks(self, me: object, wake: Callable[[], object]) -> bool:
+        with self._core.lock(), self._core as core:
+            self.is_of_one()
+            if not self.held and self.state not in OVER:
+                core.may_go_on()
+                self.owner, self.wake = me, None
+                core.settle(self)
+                self.wake = wake if self.state == "waiting" else None
+            return self._holds()
 
-    def _counts_turns(self) -> bool:
-        return self.patience is not None and self.patience < FOREVER
+    def _has_come(self) -> bool:
+        with self._core.lock(), self._core as core:
+            if self.state == "waiting":
+                core.may_go_on()
+                if self._tick > 0:
+                    core.tick()
+            return self._holds()
 
-    def _is_over(self, core: Core, seat: Seat, until: Optional[float]) -> bool:
-        """Whether it holds now. It raises what keeps it from waiting on. (With the mutex held.)"""
-        core.mends()
-        if core.has_come(seat, self):
-            return True
-        core.may_go_on()
-        if self._counts_turns():
-            if core.ticks() and core.has_come(seat, self):
-                return True
-            # (outside the library doesn't count it)
-            if core.settles - seat.settles >= (self.patience or 0) and core.outside_of(seat) is not None:
-                core.leaves(seat, self)
-                return core.has_come(seat, self)
-        if core.limited and core.takes_overdue() and core.has_come(seat, self):
-            return True
-        if seat.patience is not None and now() >= seat.asked + seat.patience:
-            keepers = keepers_of(core, seat)
-            core.leaves(seat, self)
-            raise Withdrawn(self, seat.patience, keepers)
-        if until is not None and now() >= until:
-            keepers = keepers_of(core, seat)
-            core.waits_no_longer(seat, self)
-            raise TimeoutError(self, keepers)
-        return False
+    def _holds(self) -> bool:
+        """Whether it does, or waits still; it raises what else became of it."""
+        if self.state == "withdrawn":
+            raise Withdrawn(self, f"{self} was withdrawn")
+        if self.state not in ("waiting", "held"):
+            raise NotHeld(f"{self} {'is over' if self.state == 'finished' else 'was given up'}")
+        return self.held
 
-    def waits_for(self) -> tuple[Keeper, ...]:
-        """Who keeps the session waiting now: for each instrument that it lacks, who holds it, or, where nobody does, who is before it in
-        the line, and why that one waits. Empty if it doesn't wait. Any thread may ask."""
-        core, seat = self._core, self._seat
-        with core.mutex:
-            core.look_over()
-            return keepers_of(core, seat) if seat.at == self.number else ()
-
-    # ---- it ends
-
-    def release(self) -> None:
-        """Logs the session's commands that are left, and lets its instruments go. NotHeld if it doesn't hold them."""
-        core, seat = self._core, self._seat
-        try:
-            with core.mutex:
-                ticket = core.ends(seat, self)
-            if ticket is not None:
-                core.commit(ticket)
-        except KeyboardInterrupt:
-            if self.state == "held":
-                self.release()
-            raise
+    def is_of_one(self) -> None:
+        """LabrunError if another thread, or task, waits for it or holds it: one acts for a job at a time."""
+        if self.owner not in (None, whoever()):
+            raise LabrunError(f"another thread, or task, is at {self}")
 
     def give_up(self) -> None:
         """Gives the session up, if it asked and isn't held or over. By that it never comes to hold. It is withdrawn if it has a patience:
-        it logs nothing.
+        it logs nothing. Without one it can't leave the line. It is `left` then: nobody comes for it, and once its turn comes, it lapses. It
+        lets go, its commands are logged, though nobody did its work, and `Bench.lapsed` names it."""
+        self._gives_up(False)
 
-        One without patience that is still outside is `new` again, as if it had never asked. In line, it can't leave. It is `left` then:
-        nobody comes for it, but its turn may come. Once somebody waits then, or at the close, it lapses: it lets go, its commands are
-        logged, though nobody did its work, and `Bench.lapsed` names it. Acquired before, it is as any other.
+    def _gives_up(self, also_held: bool) -> None:
+        with contextlib.suppress(Closed, OtherProcess), self._core.lock(), self._core as core:
+            if self.state not in OVER and (also_held or not self.held):
+                core.leave(self)
 
-        One whose turn in the line came before this call, while nobody looked, can't be withdrawn, with a patience or without: it lapses at
-        once."""
-        self._core.commit(self._give_up())
-
-    def _give_up(self, also_held: bool = False) -> Optional[Ticket]:
-        core, seat = self._core, self._seat
-        with core.mutex, core:
-            if core.stands > STOPPED:
-                return None
-            core.look_over()
-            # (one that is told that it holds, and whose thread isn't awake yet, is held: that thread is about to work)
-            one = seat.session
-            is_held = one is not None and one.number == seat.at and (one.state == "held" or one.state == "waiting" and bool(seat.outcome))
-            if seat.at != self.number or is_held and not (also_held and one is self):
-                return None
-            core.leaves(seat, self)
-            return core.ticket()
-
-    def _left_by(self, fault: BaseException, was_held: bool) -> None:
-        """Gives the session up, also where it came to hold just now, but for a fault that says itself what became of it."""
-        if not isinstance(fault, LabrunError) or isinstance(fault, Stopped):
-            self._give_up(not was_held)
+    def _not_come(self, me: object, was_held: bool) -> None:
+        if self.owner in (None, me) and not was_held:
+            self._gives_up(True)
 
     def withdraw(self) -> None:
         """Gives the session up while it waits, and wakes who waits for it; only if it has a patience. By that it never comes to hold.
-        NotHeld says that it may not be: it holds, it never asked, or it has no patience (`give_up` is for that). One that holds though
-        nobody was told, since its turn in the line came while nobody looked, goes on to hold: acquire it, or give it up."""
-        core, seat = self._core, self._seat
-        with core.mutex, core:
-            core.look_over()
-            holds = seat.at == self.number and core.holds(seat)
-            if seat.at != self.number or holds or self.patience is None:
-                raise NotHeld(f"session {self.number} of {seat.name} is {'held' if holds else self.state}: it can't be withdrawn")
-            core.leaves(seat, self)
-            ticket = core.ticket()
-        core.commit(ticket)
+        NotHeld says that it may not be: it holds, it never asked, or it has no patience (`give_up` is for that)."""
+        with self._core.lock(), self._core as core:
+            if self.state != "waiting" or self.patience is None:
+                raise NotHeld(f"{self} is {self.state}: it can't be withdrawn")
+            core.leave(self)
 
-    # ---- what is done in it
+    # ---- it holds
 
     def command(self) -> Optional[Entry]:
         """Does the session's next command and gives its line of the log; None if none is left. NotHeld if it doesn't hold."""
-        core, seat, entry = self._core, self._seat, Entered()
-        with core.mutex:
-            core.look_over()
-            if seat.at != self.number:
-                raise core.not_held(seat, self)
-            if not core.may("lab_command", seat.index, ctypes.byref(entry)):
-                if not core.holds(seat):
-                    raise core.not_held(seat, self)
+        entry = Entered()
+        with self._core.lock(), self._core as core:
+            self._must_hold()
+            if not core.call("lab_command", self.job.index, byref(entry), no=(NOT_NOW,)):
                 return None
-            self.done += 1
-            ticket = core.ticket()
-        core.commit(ticket)
         verb = VERBS[entry.verb]
         number = None if verb == "read" else entry.number
-        return Entry(seat.name, entry.session, entry.place, entry.length, verb, number, entry.value)
+        return Entry(self.job.name, entry.session, entry.place, entry.length, verb, number, entry.value)
 
-    def note(self, text: str, word: str = "note") -> None:
-        """Writes a comment of one line to the journal, as a reading, with the job and the session; what isn't printable is escaped. It is
-        on the disk when this returns. JournalError if the bench has no journal. With another `word` in front, of letters alone, the line is
-        a program's own: no note is ever taken for it."""
-        # (`hold` and `add` stand in journals before the lines of sessions that came)
-        if word in ("hold", "add") or not (word.isascii() and word.isalpha()):
-            raise ValueError(f"{word!r} can't stand before a note")
-        core = self._core
-        with core.mutex:
-            core.look_over()
-            if core.journal is None:
-                raise JournalError("", "the bench has no journal")
-            core.journal.note(f"{self.job.name} {self.number}: {text}", word)
-            ticket = core.ticket()
-        core.commit(ticket)
+    def release(self) -> None:
+        """Logs the session's commands that are left, and lets its instruments go. NotHeld if it doesn't hold them."""
+        try:
+            with self._core.lock(), self._core as core:
+                self._must_hold()
+                core.end(self, "finished")
+                core.settle()
+        except KeyboardInterrupt:
+            if self.held:
+                self.release()
+            raise
+
+    def _must_hold(self) -> None:
+        if not self.held:
+            raise NotHeld(f"{self} is {self.state}: it doesn't hold its instruments")
 
     # ---- as a block
 
-    def __enter__(self) -> Session:
-        try:
-            self.acquire(self.timeout)
-            return self
-        except BaseException as fault:
-            self._not_entered(fault)
-            raise
-
-    async def __aenter__(self) -> Session:
-        try:
-            await self.acquire_async(self.timeout)
-            return self
-        except BaseException as fault:
-            self._not_entered(fault)
-            raise
-
-    def _not_entered(self, fault: BaseException) -> None:
-        """The block isn't entered, so nobody is at work in it."""
-        if self.held and not isinstance(fault, LabrunError):
-            self.release()
+    __enter__, __aenter__ = acquire, acquire_async
 
     def __exit__(self, kind: Optional[type[BaseException]], fault: Optional[BaseException], at: Optional[TracebackType]) -> None:
-        core, seat = self._core, self._seat
-        if kind is not None:
-            self._raised()
-        elif self.state == "held":
-            self.release()
-        elif seat.untold is self:
-            raise core.taken_away(seat, self)
+        if self.held:
+            # (an exception of the body is told rather than that nobody can let go any more)
+            with contextlib.suppress(*((Closed, OtherProcess) if kind else ())):
+                if kind is not None:
+                    self._core.raised[self.job.name, self.number] = None
+                self.release()
 
     async def __aexit__(self, kind: Optional[type[BaseException]], fault: Optional[BaseException], at: Optional[TracebackType]) -> None:
         self.__exit__(kind, fault, at)
 
-    def _raised(self) -> None:
-        """The body is over by an exception, which is told rather than that the bench is closed, or another process's."""
-        core = self._core
-        if self.state != "held" or core.stands == ELSEWHERE:
-            return
-        with core.mutex:
-            core.raised.append((self.job.name, self.number))
-        self.release()
+
+def whoever() -> object:
+    """The task, or else the thread, that calls."""
+    loop = asyncio._get_running_loop()
+    return loop and asyncio.current_task(loop) or threading.current_thread()
 
 
-def drops(session: Session) -> None:
-    """The loop over the sessions was left. If the bench is closed by then, or another process's, there is nobody to tell that to."""
-    try:
-        if session.state == "asked":
-            session.give_up()
-        elif session.state == "held":
-            session.release()
-    except (Closed, OtherProcess, JournalError):
-        pass
+class JobState(NamedTuple):
+    """How far a job is: `session` is its current or last session, from 1, of `sessions`; `waited` is how many turns it waited for it."""
+
+    session: int
+    sessions: int
+    done: int
+    withdrawn: int
+    waits: bool
+    holds: bool
+    retired: bool
+    waited: int
+    meals: int
+    turns: int
+
+
+class Job:
+    """A job of the script. One thread, or task, acts for it at a time; which one doesn't matter."""
+
+    def __init__(self, bench: Bench, core: Core, index: int, name: str, plan: list[Plan]) -> None:
+        self.bench, self.index, self.name, self._core, self._plan = bench, index, name, core, plan
+
+    def __repr__(self) -> str:
+        return f"<Job {self.name}>"
+
+    @property
+    def state(self) -> JobState:
+        """How far the job is now."""
+        with self._core.lock(), self._core as core:
+            it = core.state_of(self.index)
+        how = it.drinking == THIRSTY, it.drinking in HOLDS, it.drinking == RETIRED
+        return JobState(it.session, it.sessions, it.sessions_done, it.withdrawn, *how, it.waited, it.meals, it.turns)
+
+    def next_session(self) -> Optional[Session]:
+        """The session that comes next, not yet acquired; the same one again if it isn't over. None if none is left. LabrunError: another thread,
+        or task, waits for it or holds it."""
+        with self._core.lock(), self._core as core:
+            core.may_go_on()
+            last = core.sessions.get(self.index)
+            if last is not None and last.state not in OVER:
+                last.is_of_one()
+                return last
+            number = 0 if last is None else last.number
+            if number == len(self._plan):
+                return None
+            session = core.sessions[self.index] = Session(self, core, self._plan[number], number + 1)
+            return session
+
+    def sessions(self) -> Iterator[Session]:
+        """The job's sessions, one after another. Each is yet to be entered: `with session:` blocks until it holds its instruments. One that was
+        neither held nor withdrawn comes again. One that is still held when the next is asked for, or the loop is left, is finished."""
+        me = whoever()
+        while session := self.next_session():
+            try:
+                yield session
+            finally:
+                if session.held and session.owner is me:
+                    with contextlib.suppress(Closed, OtherProcess):
+                        session.release()
+
+
+class Jobs(tuple[Job, ...]):
+    """The jobs in the order of the script, each by its number or by its name."""
+
+    def __getitem__(self, which: Any) -> Any:
+        return {job.name: job for job in self}[which] if isinstance(which, str) else super().__getitem__(which)

@@ -10,9 +10,9 @@ import threading
 from types import FrameType
 from typing import Any, Callable, Optional
 
-from labrun import _bench, _core, _jobs, _keepers, _mending, _run, _seat, _session
+from labrun import _bench, _core, _session
 
-FILES = tuple(it.__file__ for it in (_bench, _core, _jobs, _keepers, _mending, _run, _seat, _session))
+FILES = tuple(it.__file__ for it in (_bench, _core, _session))
 
 
 class Stuck(BaseException):
@@ -121,6 +121,7 @@ class Gates:
 
     def _has_a_lock(self, frame: FrameType, me: _Thread) -> bool:
         core = frame.f_locals.get("core", frame.f_locals.get("self"))
+        core = getattr(core, "_core", core)
         return getattr(getattr(core, "mutex", None), "owner", None) is me
 
     def _can_go_on(self) -> list[int]:

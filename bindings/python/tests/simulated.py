@@ -7,18 +7,12 @@ import ctypes
 import os
 import re
 import sys
-import zlib
-from ctypes import pointer
 from typing import Any, Callable, Iterable
 
-from labrun._library import Came, Entered, Turned
 from tests.test_runs import TOP
 
 sys.path.insert(0, os.path.join(TOP, "bench"))
 import simulate  # type: ignore[import]  # noqa: E402
-
-# the calls that take steps
-KEPT = ("lab_turn", "lab_settle", "lab_command", "lab_end", "lab_withdraw", "lab_retire", "lab_nobody_outside")
 
 DINING = (simulate.THINKING, simulate.HUNGRY, simulate.EATING)
 DRINKING = (simulate.TRANQUIL, simulate.THIRSTY, simulate.DRINKING, simulate.REACHING, simulate.RETIRED)
@@ -42,96 +36,10 @@ class Simulated:
     def __init__(self) -> None:
         self.runs: list[Any] = [None]
         self.calls = 0
-        # by the number of a run that is kept: the calls that did something, since they were taken
-        self.kept: dict[int, list[str]] = {}
 
     def __getitem__(self, name: str) -> Callable[..., Any]:
         call: Callable[..., Any] = getattr(self, name)
-        return self.keeping(name, call) if self.kept and name in KEPT else call
-
-    def keeping(self, name: str, call: Callable[..., Any]) -> Callable[..., Any]:
-        def keeps(handle: Any, *given: Any) -> Any:
-            status = call(handle, *given)
-            kept = self.kept.get(at(handle).at)
-            did = at(given[-1]).deeds or self.run(handle).line if name == "lab_settle" else status == 0
-            if did and kept is not None:
-                more = [str(self.run(handle).overtakes)] if name == "lab_settle" else []
-                kept.append(" ".join([name, *(str(it) for it in given if isinstance(it, int)), *more]))
-            return status
-
-        return keeps
-
-    # (its steps are the calls themselves, each a line, that of `lab_settle` with the number of `lab_overtakes`; and a checksum behind each
-    # batch)
-
-    def lab_bench_open_kept(self, script: bytes, length: int, handle: Any, told: Any) -> int:
-        status = self.lab_bench_open(script, length, handle, told)
-        if status == 0:
-            self.kept[at(handle).at] = []
-        return status
-
-    def lab_journal(self, handle: Any, room: Any, size: Any, written: Any) -> int:
-        kept = self.kept[at(handle).at]
-        text = "".join(line + "\n" for line in kept).encode()
-        text += b"# sum %08x\n" % zlib.crc32(text) if kept else b""
-        status = self.in_room(text, room, size, written)
-        if status == 0:
-            kept.clear()
-        return status
-
-    def in_room(self, text: bytes, room: Any, size: Any, written: Any) -> int:
-        at(written).value = len(text)
-        if len(text) > size.value:
-            return 6
-        ctypes.memmove(room, text, len(text))
-        return 0
-
-    def lab_bench_resume(self, journal: bytes, length: int, handle: Any, told: Any) -> int:
-        whole = journal[: journal.rfind(b"\n") + 1]
-        script, steps = whole.split(b"\nsteps\n", 1)
-        status = self.lab_bench_open_kept(script + b"\n", len(script) + 1, handle, told)
-        since = b""
-        for number, line in enumerate(steps.split(b"\n")[:-1], script.count(b"\n") + 3):
-            words = line.decode("ascii", "replace").split()
-            if words[:2] == ["#", "sum"]:
-                is_good, since = words[2:] == ["%08x" % zlib.crc32(since)], b""
-            elif words and not words[0].startswith("#"):
-                is_good, since = self.is_done_again(handle, words), since + line + b"\n"
-            else:
-                continue
-            if not is_good:
-                self.lab_bench_free(handle)
-                at(handle).at = at(handle).live = 0
-                at(told).line = number
-                return 1
-        self.kept[at(handle).at].clear()
-        if self.run(handle).line:
-            self["lab_nobody_outside"](handle)
-        self.run(handle).overtakes = 0
-        at(told).written = len(whole)
-        return status
-
-    def lab_nobody_outside(self, handle: Any) -> int:
-        """(A journal of the library has steps, and so it needn't say this.)"""
-        self.run(handle).line = []
-        return 0
-
-    def is_done_again(self, handle: Any, words: list[str]) -> bool:
-        name, *given = words
-        if name not in KEPT or not all(it.isdigit() for it in given) or len(given) != {"lab_retire": 2, "lab_settle": 2, "lab_nobody_outside": 0}.get(name, 1):
-            return False
-        if name == "lab_settle":
-            self.run(handle).overtakes = int(given.pop())
-        none: list[Any] = []
-        told = {"lab_settle": [pointer(Came())], "lab_command": [pointer(Entered())], "lab_withdraw": none}
-        told["lab_nobody_outside"] = none
-        try:
-            return getattr(self, name)(handle, *map(int, given), *told.get(name, [pointer(Turned())])) == 0
-        except IndexError:
-            return False
-
-    def quick(self, name: str) -> Callable[..., Any]:
-        return self[name]
+        return call
 
     def run(self, handle: Any) -> Any:
         return self.runs[at(handle).at]
@@ -169,7 +77,6 @@ class Simulated:
         if at(handle).at is None:
             return 7
         self.runs[at(handle).at] = None
-        self.kept.pop(at(handle).at, None)
         return 0
 
     def lab_bench_size(self, handle: Any, size: Any) -> int:
@@ -255,11 +162,6 @@ class Simulated:
         self.run(handle).overtakes = most
         return 0
 
-    def lab_outside(self, handle: Any, job: int, outside: Any) -> int:
-        found = [passed for one, _, passed in self.run(handle).line if one.number == job]
-        at(outside).is_outside, at(outside).passed = len(found), sum(found)
-        return 0
-
     def may_begin(self, one: Any) -> bool:
         return one.drinking == simulate.TRANQUIL and one.dining != simulate.EATING and one.session < one.total
 
@@ -317,35 +219,6 @@ class Simulated:
         )
         told.deeds = len(done)
         return 0
-
-    def lab_keepers(self, handle: Any, job: int, instrument: int, keepers: Any) -> int:
-        run, told = self.run(handle), at(keepers)
-        told.jobs = told.holding = 0
-        one = run.jobs[job]
-        for asker, needs, _ in run.line:
-            if asker is one and needs >> instrument & 1:
-                for its in run.jobs:
-                    if its.drinking in (simulate.THIRSTY, simulate.DRINKING, simulate.REACHING) and run.needed(its) >> instrument & 1:
-                        told.jobs |= 1 << its.number
-                        told.holding |= (its.drinking != simulate.THIRSTY) << its.number
-                return 0
-        if one.drinking != simulate.THIRSTY or not run.needed(one) >> instrument & 1:
-            return 0
-        for edge in one.edges:
-            low, high, common = run.plan.edges[edge]
-            end, other = (0, high) if low == job else (1, low)
-            its, seen = run.jobs[other], run.edges[edge]
-            if not common >> instrument & 1 or (seen.bottles >> instrument & 1) == end:
-                continue
-            holds = its.drinking in (simulate.DRINKING, simulate.REACHING)
-            if run.needed(its) >> instrument & 1 and (holds or seen.fork != end):
-                told.jobs |= 1 << other
-                told.holding |= holds << other
-        return 0
-
-    def lab_turn(self, handle: Any, job: int, turned: Any) -> int:
-        run = self.run(handle)
-        return self.told(turned, run.whole_turn(run.jobs[job])[0])
 
     def lab_command(self, handle: Any, job: int, entry: Any) -> int:
         run, it = self.run(handle), at(entry)

@@ -1,9 +1,8 @@
-"""The bench for threads: each method, time-outs, exceptions, threads that never come back, and whether two ever hold one instrument."""
+"""The bench for threads: each method, exceptions, sessions that are given up, and whether two ever hold one instrument."""
 
 import asyncio
 import ctypes
 import os
-import re
 import signal
 import subprocess
 import sys
@@ -12,6 +11,7 @@ import threading
 import time
 import unittest
 from typing import Any, Callable, Optional
+from unittest import mock
 
 import labrun
 from labrun._library import SessionOf
@@ -46,6 +46,29 @@ def logged(bench: labrun.Bench, name: str = "scale") -> list[str]:
 def in_thread(work: Any) -> threading.Thread:
     thread = threading.Thread(target=work, daemon=True)
     thread.start()
+    return thread
+
+
+def asked(bench: labrun.Bench, name: str) -> labrun.Session:
+    """The next session of a job."""
+    session = bench.jobs[name].next_session()
+    assert session
+    return session
+
+
+def waiting(session: labrun.Session, faults: Optional[list[BaseException]] = None) -> threading.Thread:
+    """A thread that acquires it, and waits or holds by now. What it raises is noted."""
+
+    def wait() -> None:
+        try:
+            session.acquire()
+        except labrun.LabrunError as fault:
+            if faults is None:
+                raise
+            faults.append(fault)
+
+    thread = in_thread(wait)
+    until(lambda: session.state != "new")
     return thread
 
 
@@ -146,21 +169,18 @@ class Alone(unittest.TestCase):
             with labrun.Bench.from_text(script) as bench:
                 what = SessionOf()
                 for job in bench.jobs:
-                    self.assertEqual(len(job._seat.plan), job.state.sessions)
-                    for number, (instruments, commands, patience) in enumerate(job._seat.plan, 1):
+                    self.assertEqual(len(job._plan), job.state.sessions)
+                    for number, (instruments, commands, patience) in enumerate(job._plan, 1):
                         bench._core.call("lab_session_of", job.index, number, ctypes.byref(what))
                         names = tuple(name for at, name in enumerate(bench.instruments) if what.needs >> at & 1)
                         self.assertEqual((instruments, len(commands)), (names, what.commands))
                         self.assertEqual(patience, what.patience if what.has_patience else None)
 
     def test_text_for_a_bench(self) -> None:
-        """It says what each job may use, for sessions that come while a bench is open: here none do. Its journal isn't begun."""
-        with tempfile.TemporaryDirectory() as folder:
-            for journal in (None, os.path.join(folder, "bay.journal")):
-                with self.assertRaises(labrun.Refused) as caught:
-                    labrun.Bench.from_text("# bay\nbench 1\njob a\nuses scope\n", journal=journal)
-                self.assertEqual((caught.exception.line, caught.exception.cause), (2, 1))
-            self.assertEqual(os.listdir(folder), [])
+        """It says what each job may use, for sessions that come while a bench is open: here none do."""
+        with self.assertRaises(labrun.Refused) as caught:
+            labrun.Bench.from_text("# bay\nbench 1\njob a\nuses scope\n")
+        self.assertEqual((caught.exception.line, caught.exception.cause), (2, 1))
 
     def test_some_commands_are_left(self) -> None:
         script = "lab 1\njob a\nsession\nscale set 3\nscale add 2\nend\n"
@@ -189,10 +209,23 @@ class Alone(unittest.TestCase):
         report = bench.close()
         self.assertIs(bench.close(), report)
         self.assertFalse(report.finished)
-        calls: list[Any] = [session.acquire, session.release, session.command, session.waits_for, bench.jobs[0].next_session]
+        calls: list[Any] = [session.acquire, session.release, session.command, session.withdraw, bench.jobs[0].next_session, lambda: bench.jobs[0].state]
         for call in calls:
             with self.assertRaises(labrun.Closed):
                 call()
+        session.give_up()
+        bench.stop()
+
+    def test_closed_in_the_body(self) -> None:
+        """It can't let go any more, which is told; an exception of the body goes first."""
+        for raises in (False, True):
+            bench = labrun.Bench.from_text(TWO)
+            with self.assertRaises(ZeroDivisionError if raises else labrun.Closed):
+                with asked(bench, "a"):
+                    bench.close()
+                    if raises:
+                        1 / 0
+            self.assertEqual((bench.report.job("a").done, bench.raised), (0, (("a", 1),) if raises else ()))
 
     def test_no_jobs_and_no_sessions(self) -> None:
         with labrun.Bench.from_text("lab 1\n") as bench:
@@ -225,98 +258,11 @@ class Waiting(unittest.TestCase):
 
     def holding(self, script: str) -> tuple[labrun.Bench, labrun.Session, labrun.Session]:
         """A bench where a holds the scale, and the session of b that wants it, which stands in line as soon as it asks."""
-        bench = labrun.Bench.from_text(script, overtakes=0)
+        bench = labrun.Bench.from_text(script)
         self.addCleanup(bench.close)
-        first, second = bench.jobs[0].next_session(), bench.jobs[1].next_session()
-        assert first and second
+        first, second = asked(bench, "a"), asked(bench, "b")
         first.acquire()
         return bench, first, second
-
-    def test_time_out_says_who(self) -> None:
-        bench, first, second = self.holding(TWO)
-        begun = time.monotonic()
-        with self.assertRaises(labrun.TimeoutError) as caught:
-            second.acquire(timeout=0.2)
-        self.assertGreaterEqual(time.monotonic() - begun, 0.2)
-        self.assertIsInstance(caught.exception, TimeoutError)
-        self.assertEqual(caught.exception.keepers, (labrun.Keeper("scale", "a", True),))
-        self.assertRegex(str(caught.exception), r"\Asession 1 of b still waits: scale is held by a for 0\.\d s\Z")
-        self.assertEqual(second.state, "asked")
-        self.assertEqual(second.waits_for(), (labrun.Keeper("scale", "a", True),))
-        self.assertEqual(first.waits_for(), ())
-        with self.assertRaises(labrun.TimeoutError):
-            second.acquire(timeout=0)
-        first.release()
-        second.acquire(timeout=LIMIT)
-        self.assertEqual(second.waits_for(), ())
-        self.assertEqual(first.waits_for(), ())
-        second.release()
-        self.assertEqual(second.state, "finished")
-
-    def test_time_out_of_with(self) -> None:
-        bench, first, _ = self.holding(TWO)
-        tries = 0
-        for session in bench.jobs[1].sessions(timeout=0.05):
-            try:
-                with session:
-                    break
-            except labrun.TimeoutError:
-                tries += 1
-                if tries == 2:
-                    first.release()
-        self.assertEqual(tries, 2)
-        self.assertEqual(bench.close().job("b").done, 1)
-
-    def test_asked_keeps_its_place(self) -> None:
-        bench, first, second = self.holding(TWO)
-        with self.assertRaises(labrun.TimeoutError):
-            second.acquire(timeout=0.05)
-        first.release()
-        following = bench.jobs[0].next_session()
-        assert following
-        try:
-            following.acquire(timeout=0.3)
-            following.release()
-        except labrun.TimeoutError as late:
-            self.assertEqual(late.keepers, (labrun.Keeper("scale", "b", True),))
-        second.acquire(timeout=LIMIT)
-        second.release()
-        self.assertEqual(bench.lapsed, ())
-
-    def test_left_keeps_nobody_waiting(self) -> None:
-        bench, first, second = self.holding(TWO)
-        with self.assertRaises(labrun.TimeoutError):
-            second.acquire(timeout=0.05)
-        second.give_up()
-        self.assertEqual(second.state, "left")
-        first.release()
-        for session in bench.jobs[0].sessions(timeout=LIMIT):
-            with session:
-                pass
-        self.assertEqual(bench.jobs[0].state.done, 2)
-        report = bench.close()
-        # its turn came, or it still stands in the line: nobody waited for it
-        self.assertEqual(bench.lapsed, (("b", 1),) if report.job("b").done else ())
-        self.assertEqual(second.state, "lapsed" if report.job("b").done else "left")
-
-    def test_left_holds_until_somebody_waits(self) -> None:
-        bench, first, second = self.holding(TWO)
-        with self.assertRaises(labrun.TimeoutError):
-            second.acquire(timeout=0.05)
-        second.give_up()
-        first.release()
-        self.assertEqual(bench.lapsed, ())
-        second.acquire(timeout=LIMIT)  # its owner came back
-        second.release()
-        self.assertEqual((second.state, bench.lapsed), ("finished", ()))
-
-    def test_left_with_a_patience_is_withdrawn(self) -> None:
-        bench, first, second = self.holding(PATIENT)
-        with self.assertRaises(labrun.TimeoutError):
-            second.acquire(timeout=0.05)
-        second.give_up()
-        self.assertEqual(second.state, "withdrawn")
-        second.give_up()
 
     def test_woken(self) -> None:
         """By the other's release: it doesn't look again from time to time."""
@@ -347,68 +293,138 @@ class Waiting(unittest.TestCase):
         first.release()
         back(thread)
 
-    def test_two_wait_for_one_job(self) -> None:
+    def test_two_threads_at_one_job(self) -> None:
+        """Whoever comes second is told, while the first waits and while it holds, and does it no harm."""
         bench, first, second = self.holding(TWO)
-        thread = in_thread(second.acquire)
-        until(lambda: bench.jobs[1].state.waits)
-        with self.assertRaises(labrun.LabrunError):
-            second.acquire()
-        first.release()
+        goes_on, seen = threading.Event(), []
+
+        def station() -> None:
+            for session in bench.jobs["b"].sessions():
+                with session:
+                    seen.append(session.number)
+                    goes_on.wait(LIMIT)
+
+        def loop() -> None:
+            for session in bench.jobs["b"].sessions():
+                with session:
+                    self.fail("two are in one session")
+
+        thread = in_thread(station)
+        until(lambda: second.state == "waiting")
+        for state in ("waiting", "held"):
+            self.assertEqual(second.state, state)
+            for call in (second.acquire, bench.jobs["b"].next_session, second.__enter__, loop):
+                with self.assertRaisesRegex(labrun.LabrunError, "another thread, or task, is at session 1 of b"):
+                    call()
+            if state == "waiting":
+                first.release()
+                until(lambda: bool(seen))
+        self.assertTrue(second.held and bench.jobs["b"].state.holds)
+        goes_on.set()
         back(thread)
-        self.assertTrue(second.held)
+        self.assertEqual((seen, second.state), ([1], "finished"))
+
+    def test_two_loops_over_one_job(self) -> None:
+        """Both were offered the session before one of them asked: the other one's loop doesn't end it."""
+        with labrun.Bench.from_text(TWO) as bench:
+            mine, holds, goes_on = bench.jobs["a"].sessions(), threading.Event(), threading.Event()
+            session = next(mine)
+
+            def station() -> None:
+                with asked(bench, "a"):
+                    holds.set()
+                    goes_on.wait(LIMIT)
+
+            thread = in_thread(station)
+            self.assertTrue(holds.wait(LIMIT))
+            with self.assertRaisesRegex(labrun.LabrunError, "another thread"):
+                session.acquire()
+            with self.assertRaisesRegex(labrun.LabrunError, "another thread"):
+                next(mine)
+            del mine
+            self.assertTrue(session.held and bench.jobs["a"].state.holds)
+            goes_on.set()
+            back(thread)
+            self.assertEqual(session.state, "finished")
+
+    def test_another_thread_lets_go(self) -> None:
+        """Which thread it is doesn't matter, as long as it is one at a time."""
+        bench, first, second = self.holding(TWO)
+        thread = waiting(second)
+        back(in_thread(first.release))
+        back(thread)
+        second.release()
+        with asked(bench, "a") as session:
+            self.assertEqual(session.number, 2)
 
     def test_withdraw(self) -> None:
         bench, first, second = self.holding(PATIENT)
         self.assertEqual(second.patience, 999999)
-        with self.assertRaises(labrun.NotHeld):
-            second.withdraw()  # it never asked
-        with self.assertRaises(labrun.TimeoutError):
-            second.acquire(timeout=0.05)
+        with self.assertRaisesRegex(labrun.NotHeld, "session 1 of b is new: it can't be withdrawn"):
+            second.withdraw()
+        faults: list[BaseException] = []
+        thread = waiting(second, faults)
         second.withdraw()
-        self.assertEqual(second.state, "withdrawn")
-        with self.assertRaises(labrun.Withdrawn):
-            second.acquire()
-        with self.assertRaises(labrun.NotHeld):
+        back(thread)
+        self.assertEqual(([str(it) for it in faults], second.state), (["session 1 of b was withdrawn"], "withdrawn"))
+        for call in (second.acquire, second.withdraw, second.release):
+            with self.assertRaises(labrun.Withdrawn if call == second.acquire else labrun.NotHeld):
+                call()
+        with self.assertRaisesRegex(labrun.NotHeld, "session 1 of a is held: it can't be withdrawn"):
             first.withdraw()
         first.release()
         for session in bench.jobs[1].sessions():
             with session:
                 self.assertEqual(session.number, 2)
         report = bench.close()
-        self.assertEqual((report.job("b").withdrawn, report.job("b").done, report.finished), (1, 1, True))
-
-    def test_withdraw_wakes(self) -> None:
-        bench, first, second = self.holding(PATIENT)
-        faults: list[BaseException] = []
-
-        def wait() -> None:
-            try:
-                second.acquire()
-            except labrun.Withdrawn as fault:
-                faults.append(fault)
-
-        thread = in_thread(wait)
-        until(lambda: bench.jobs[1].state.waits)
-        second.withdraw()
-        back(thread)
-        self.assertEqual(str(faults[0]), "session 1 of b was withdrawn")
+        self.assertEqual((report.job("b").withdrawn, report.job("b").done, bench.lapsed), (1, 1, ()))
 
     def test_no_patience_no_withdrawal(self) -> None:
         bench, first, second = self.holding(TWO)
-        with self.assertRaises(labrun.TimeoutError):
-            second.acquire(timeout=0.05)
+        thread = waiting(second)
         with self.assertRaises(labrun.NotHeld):
             second.withdraw()
+        first.release()
+        back(thread)
+        self.assertTrue(second.held)
 
     def test_patience_runs_out(self) -> None:
-        bench, first, second = self.holding(SOON)
-        with self.assertRaises(labrun.Withdrawn):
-            second.acquire(timeout=LIMIT)
-        self.assertEqual(second.state, "withdrawn")
+        """In turns, though nobody else does anything; also one that has none left at once."""
+        for script in (SOON, SOON.replace("patience 2", "patience 0")):
+            bench, first, second = self.holding(script)
+            with self.assertRaises(labrun.Withdrawn):
+                second.acquire()
+            self.assertEqual(second.state, "withdrawn")
+            first.release()
+            self.assertEqual(asked(bench, "b").number, 2)
+            report = bench.close()
+            self.assertEqual((report.job("b").withdrawn, report.job("b").done), (1, 0))
+
+    def test_patience_runs_out_in_a_task(self) -> None:
+        async def main() -> list[int]:
+            bench, first, second = labrun.Bench.from_text(SOON), None, None
+            first, seen = asked(bench, "a"), []
+            async with first:
+                for session in bench.jobs["b"].sessions():
+                    try:
+                        async with session:
+                            seen.append(session.number)
+                    except labrun.Withdrawn:
+                        seen.append(-session.number)
+                        first.release()
+            bench.close()
+            return seen
+
+        self.assertEqual(asyncio.run(main()), [-1, 2])
+
+    def test_the_largest_patience_counts_nothing(self) -> None:
+        bench, first, second = self.holding(PATIENT)
+        thread = waiting(second)
+        turns = bench.jobs["b"].state.turns
+        time.sleep(0.5)
+        self.assertEqual(bench.jobs["b"].state.turns, turns)
         first.release()
-        following = bench.jobs[1].next_session()
-        assert following
-        self.assertEqual(following.number, 2)
+        back(thread)
 
     def test_stop(self) -> None:
         for script, state in ((TWO, "left"), (PATIENT, "withdrawn")):
@@ -428,8 +444,10 @@ class Waiting(unittest.TestCase):
             self.assertEqual((len(faults), second.state), (1, state))
             self.assertTrue(first.held)
             first.release()
-            with self.assertRaises(labrun.Stopped):
-                bench.jobs[0].next_session()
+            for job in bench.jobs:
+                with self.assertRaises(labrun.Stopped):
+                    job.next_session()
+            self.assertEqual(bench.lapsed, (("b", 1),) if script == TWO else ())
 
     def test_close_wakes(self) -> None:
         bench, first, second = self.holding(TWO)
@@ -521,55 +539,67 @@ class Running(unittest.TestCase):
         self.assertEqual(bench.raised, (("a", 1),))
 
     def test_all_stations_raise(self) -> None:
+        """The first is raised, with the other as its note."""
+
         def station(job: labrun.Job) -> None:
             raise RuntimeError(job.name)
 
         bench = labrun.Bench.from_text(TWO)
-        with self.assertRaisesRegex(RuntimeError, "[ab]"):
+        with self.assertRaisesRegex(RuntimeError, "[ab]") as caught:
             bench.run(station)
+        if hasattr(caught.exception, "add_note"):
+            other = "b" if str(caught.exception) == "a" else "a"
+            self.assertEqual(caught.exception.__notes__, [f"also {other}: RuntimeError('{other}')"])
         bench.close()
 
-    def test_never_comes_back(self) -> None:
-        """a holds the scale for ever: b's time-out says so, and `run` says who isn't back."""
-        for_ever = threading.Event()
-        self.addCleanup(for_ever.set)
-        told: list[str] = []
+    def test_interrupted_as_it_begins(self) -> None:
+        """Before all threads are there: no station begins, and the bench is stopped."""
+        bench, begun, started, start = labrun.Bench.from_text(TWO), [], [], threading.Thread.start
+
+        def starts(thread: threading.Thread) -> None:
+            if started:
+                raise KeyboardInterrupt
+            started.append(thread)
+            start(thread)
+
+        with mock.patch.object(threading.Thread, "start", starts), self.assertRaises(KeyboardInterrupt):
+            bench.run(lambda job: begun.append(job.name))
+        back(started[0])
+        self.assertEqual(begun, [])
+        with self.assertRaises(labrun.Stopped):
+            bench.jobs[0].next_session()
+        bench.close()
+
+    def test_run_of_a_closed_bench(self) -> None:
+        bench = labrun.Bench.from_text(TWO)
+        bench.close()
+        with self.assertRaises(labrun.Closed):
+            bench.run(lambda job: None)
+
+    def test_others_go_on(self) -> None:
+        """One that never comes back keeps what it holds, and nothing else: others work beside it."""
+        for_ever, holds, ended = threading.Event(), threading.Event(), threading.Event()
 
         def station(job: labrun.Job) -> None:
-            for session in job.sessions(timeout=None if job.name == "a" else 0.3):
-                try:
-                    with session:
-                        if job.name == "a":
-                            for_ever.wait()
-                except labrun.TimeoutError as fault:
-                    told.append(str(fault))
-                    return
-                except labrun.Closed:
-                    return
+            if job.name != "a":
+                holds.wait(LIMIT)
+            for session in job.sessions():
+                with session:
+                    if job.name == "a" and session.number == 1:
+                        holds.set()
+                        for_ever.wait(LIMIT)
+            if job.name == "c":
+                ended.set()
 
-        # (a's thread goes on with the session that is held, and never lets go)
-        def wait(job: labrun.Job) -> None:
-            for_ever.wait() if job.name == "a" else station(job)
-
-        script = TWO.replace("job b", "job c\nsession\nlamp set 1\nend\njob b")
-        for limit in (1, 10, LIMIT):
-            told.clear()
-            bench = labrun.Bench.from_text(script)
-            held = bench.jobs[0].next_session()
-            assert held
-            held.acquire()
-            with self.assertRaises(labrun.NotBack) as caught:
-                bench.run(wait, timeout=limit)
-            report = bench.close()
-            if caught.exception.jobs == ("a",):
-                break
-            # the machine is so busy that b and c weren't back by then either
-            self.assertIn("a", caught.exception.jobs)
-        self.assertEqual(caught.exception.jobs, ("a",))
-        self.assertRegex(told[0], r"\Asession 1 of b still waits: scale is held by a for \d+(\.\d)? s\Z")
-        self.assertRegex(str(caught.exception), r"\Anot back: a \(holds scale for \d+(\.\d)? s\)\Z")
-        self.assertTrue(report.job("c").retired)
-        self.assertFalse(report.finished)
+        bench = labrun.Bench.from_text(TWO.replace("job b", "job c\nsession\nlamp set 1\nend\njob b"))
+        with bench:
+            thread = in_thread(lambda: bench.run(station))
+            self.assertTrue(ended.wait(LIMIT))
+            self.assertTrue(bench.jobs["a"].state.holds)
+            self.assertFalse(bench.jobs["b"].state.holds)
+            for_ever.set()
+            back(thread)
+        self.assertTrue(bench.report.finished)
 
     def test_async(self) -> None:
         bench = labrun.Bench.from_text(load_script(8, 20, 5, 4))
@@ -586,26 +616,49 @@ class Running(unittest.TestCase):
             asyncio.run(bench.run_async(station))
         self.assertEqual((counting.clashes, counting.done, bench.report.finished), (0, 160, True))
 
-    def test_async_time_out_and_cancel(self) -> None:
-        async def main(script: str, overtakes: int) -> str:
-            with labrun.Bench.from_text(script, overtakes=overtakes) as bench:
-                first, second = bench.jobs[0].next_session(), bench.jobs[1].next_session()
-                assert first and second
-                async with first:
-                    with self.assertRaises(labrun.TimeoutError):
-                        await second.acquire_async(timeout=0.05)
-                    task = asyncio.create_task(second.acquire_async())
-                    while second.state != "waiting":
-                        await asyncio.sleep(0)
-                    task.cancel()
-                    with self.assertRaises(asyncio.CancelledError):
-                        await task
-                    return second.state
+    def test_async_that_raises(self) -> None:
+        bench = labrun.Bench.from_text(TWO)
 
-        self.assertEqual(asyncio.run(main(TWO, 0)), "left")
-        self.assertEqual(asyncio.run(main(TWO, 9)), "new")
-        for overtakes in (0, 9):
-            self.assertEqual(asyncio.run(main(PATIENT, overtakes)), "withdrawn")
+        async def station(job: labrun.Job) -> None:
+            for session in job.sessions():
+                async with session:
+                    if job.name == "a":
+                        raise RuntimeError("the scope caught fire")
+
+        with self.assertRaisesRegex(RuntimeError, "caught fire"):
+            with bench:
+                asyncio.run(bench.run_async(station))
+        self.assertEqual((bench.raised, bench.report.job("b").done), ((("a", 1),), 1))
+
+    def test_async_run_that_is_cancelled(self) -> None:
+        """All its tasks are: those that hold let go, those that wait leave, and nothing is held by nobody."""
+        for script in (TWO, PATIENT):
+            bench, seen = labrun.Bench.from_text(script), []
+
+            async def station(job: labrun.Job) -> None:
+                for session in job.sessions():
+                    async with session:
+                        seen.append(job.name)
+                        await asyncio.sleep(LIMIT)
+
+            async def main() -> None:
+                task = asyncio.create_task(bench.run_async(station))
+                while not (seen and bench.jobs["b"].state.waits):
+                    await asyncio.sleep(0)
+                task.cancel()
+                with self.assertRaises(asyncio.CancelledError):
+                    await task
+
+            asyncio.run(main())
+            self.assertEqual((seen, bench.raised), (["a"], (("a", 1),)))
+            # (a may have let go before b was told that it is cancelled)
+            self.assertLessEqual(set(bench.lapsed), {("b", 1)})
+            self.assertFalse(any(job.state.holds or job.state.waits for job in bench.jobs))
+            for job in bench.jobs:
+                for session in job.sessions():
+                    with session:
+                        pass
+            self.assertTrue(bench.close().finished)
 
     def test_threads_and_tasks(self) -> None:
         bench = labrun.Bench.from_text(TWO)
@@ -638,7 +691,7 @@ class Ends(unittest.TestCase):
 
         bench = labrun.Bench.from_text(TWO)
         with self.assertRaises(labrun.StillHeld) as caught:
-            bench.run(station, timeout=LIMIT)
+            bench.run(station)
         self.assertEqual(str(caught.exception), "the station of a is over, and session 1 still holds scale")
         (held,) = caught.exception.sessions
         self.assertTrue(held.held)
@@ -657,7 +710,7 @@ class Ends(unittest.TestCase):
 
         bench = labrun.Bench.from_text(TWO)
         with self.assertRaisesRegex(RuntimeError, "caught fire"):
-            bench.run(station, timeout=LIMIT)
+            bench.run(station)
         self.assertTrue(bench.jobs[0].state.holds)
         bench.close()
 
@@ -673,25 +726,25 @@ class Ends(unittest.TestCase):
         bench.close()
 
     def test_with_in_a_coroutine(self) -> None:
-        async def main() -> tuple[str, str]:
+        """It is refused before it asks, whether it would have to wait or not."""
+
+        async def main() -> None:
             with labrun.Bench.from_text(TWO) as bench:
-                first, second = bench.jobs[0].next_session(), bench.jobs[1].next_session()
-                assert first and second
-                with first:  # (it needn't wait)
+                first, second = asked(bench, "a"), asked(bench, "b")
+                for is_free in (True, False):
                     with self.assertRaises(labrun.WouldBlock) as caught:
                         with second:
-                            pass
+                            self.fail("it is entered")
                     self.assertIn("async with", str(caught.exception))
                     self.assertIsInstance(caught.exception, RuntimeError)
-                    with self.assertRaises(labrun.TimeoutError):
-                        second.acquire(timeout=0)
-                    with self.assertRaises(labrun.WouldBlock):
-                        second.acquire(timeout=LIMIT)
-                    state = second.state
+                    self.assertEqual((second.state, bench.jobs["b"].state.waits), ("new", False))
+                    if is_free:
+                        await first.acquire_async()
+                first.release()
                 async with second:
-                    return state, second.state
+                    self.assertTrue(second.held)
 
-        self.assertEqual(asyncio.run(main()), ("asked", "held"))
+        asyncio.run(main())
 
     def test_generator_closed_late(self) -> None:
         """A loop over sessions that is left after the bench was closed says nothing of it."""
@@ -699,18 +752,11 @@ class Ends(unittest.TestCase):
         hook, sys.unraisablehook = sys.unraisablehook, told.append
         try:
             bench = labrun.Bench.from_text(TWO)
-            for states in ("held", "asked"):
-                sessions = bench.jobs[states == "asked"].sessions(timeout=0)
-                session = next(sessions)
-                try:
-                    session.acquire(timeout=0)
-                except labrun.TimeoutError:
-                    pass
-                self.assertEqual(session.state, states)
-                if states == "held":
-                    first = sessions
+            sessions = bench.jobs[0].sessions()
+            session = next(sessions)
+            session.acquire()
             bench.close()
-            del sessions, first, session
+            del sessions, session
         finally:
             sys.unraisablehook = hook
         self.assertEqual(told, [])
@@ -725,7 +771,7 @@ class Ends(unittest.TestCase):
         child = os.fork()
         if child == 0:
             refused = 0
-            calls: list[Callable[[], object]] = [first.release, second.acquire, second.waits_for, bench.jobs[1].next_session, bench.close, bench.stop]
+            calls: list[Callable[[], object]] = [first.release, second.acquire, second.withdraw, bench.jobs[1].next_session, bench.close, bench.stop]
             calls += [lambda: bench.jobs[0].state, first.command, first.withdraw, lambda: bench.run(lambda job: None)]
             try:
                 for call in calls:
@@ -748,39 +794,17 @@ class Ends(unittest.TestCase):
         bench._core.mutex.release()
         self.assertEqual(os.waitstatus_to_exitcode(os.waitpid(child, 0)[1]), 11)
         first.release()
-        second.acquire(timeout=LIMIT)
+        second.acquire()
         second.release()
         self.assertEqual(bench.close().job("b").done, 1)
 
-    def test_keepers(self) -> None:
-        """radio holds the scope, board has the supply and waits for the scope, drive wants the supply, which nobody holds."""
-        bench = labrun.Bench.from_text(
-            "lab 1\njob radio\nsession\nscope read\nend\njob board\nsession\nscope read\nsupply read\nend\njob drive\nsession\nsupply read\nend\n",
-            overtakes=0,
-        )
-        sessions = [job.next_session() for job in bench.jobs]
-        for session in sessions:
-            assert session
-            try:
-                session.acquire(timeout=0)
-            except labrun.TimeoutError as late:
-                text = str(late)
-        radio, board, drive = sessions
-        assert radio and board and drive
-        self.assertEqual(radio.waits_for(), ())
-        self.assertEqual(board.waits_for(), (labrun.Keeper("scope", "radio", True),))
-        self.assertEqual(drive.waits_for(), (labrun.Keeper("supply", "board", False),))
-        (kept,) = drive.waits_for()
-        self.assertEqual((kept.why, kept.end, kept.end.why), ("in line before you", labrun.Keeper("scope", "radio", True), "held"))
-        wanted = "session 1 of drive still waits for radio, at scope for 0.0 s: supply is kept for board, which waits for scope, held by radio for 0.0 s"
-        self.assertEqual(re.sub(r"\d+(\.\d)? s", "0.0 s", text), wanted)
-        radio.release()
-        board.acquire(timeout=LIMIT)
-        self.assertEqual(drive.waits_for(), (labrun.Keeper("supply", "board", True),))
-        board.release()
-        drive.acquire(timeout=LIMIT)
-        drive.release()
-        self.assertEqual([job.done for job in bench.close().jobs], [1, 1, 1])
+    def test_a_child_that_ends_frees_nothing(self) -> None:
+        """Nor does a bench that is dropped there."""
+        words = "import os, labrun\nbench = labrun.Bench.from_text(%r)\nsession = bench.jobs[0].next_session()\nsession.acquire()\n" % TWO
+        words += "if os.fork() == 0:\n    del bench, session\n    raise SystemExit(0)\nprint(os.waitstatus_to_exitcode(os.wait()[1]))\n"
+        words += "session.release()\nprint(bench.close().job('a').done)\n"
+        ran = subprocess.run([sys.executable, "-c", words], env=child(), capture_output=True, text=True)
+        self.assertEqual((ran.stdout, ran.stderr), ("0\n1\n", ""))
 
     def test_give_up_of_another_thread(self) -> None:
         """Who waits for a session that another thread gives up doesn't sleep on."""
@@ -810,7 +834,7 @@ import signal, sys, time, threading, labrun
 # (what a shell runs in the background ignores the signal, and so do its children)
 signal.signal(signal.SIGINT, signal.default_int_handler)
 WHERE, SCRIPT = sys.argv[1], sys.argv[2]
-bench = labrun.Bench.from_text(SCRIPT, overtakes=int(sys.argv[3]))
+bench = labrun.Bench.from_text(SCRIPT)
 def tell_once_it_waits():
     while not bench.jobs[1].state.waits:
         time.sleep(0.01)
@@ -835,7 +859,7 @@ try:
                         states[job.name] = session
                         if job.name == "a" and session.number == 1:
                             print("ready", flush=True)
-                            while not bench._core.stands:
+                            while not bench._core.is_stopped:
                                 time.sleep(0.01)
             bench.run(station)
 except KeyboardInterrupt:
@@ -851,8 +875,8 @@ def child() -> dict[str, str]:
 class Interrupted(unittest.TestCase):
     """KeyboardInterrupt, sent to a child process."""
 
-    def interrupted(self, where: str, script: str, overtakes: int = labrun.OVERTAKES) -> str:
-        words = [sys.executable, "-c", INTERRUPTED, where, script, str(overtakes)]
+    def interrupted(self, where: str, script: str) -> str:
+        words = [sys.executable, "-c", INTERRUPTED, where, script]
         ran = subprocess.Popen(words, env=child(), stdout=subprocess.PIPE, stderr=subprocess.PIPE, text=True)
         try:
             assert ran.stdout
@@ -869,14 +893,13 @@ class Interrupted(unittest.TestCase):
         self.assertEqual(self.interrupted("body", TWO), "finished new 1 0 False")
 
     def test_while_it_waits(self) -> None:
-        self.assertEqual(self.interrupted("waiting", TWO, 0), "held left 0 0 False")
-        self.assertEqual(self.interrupted("waiting", TWO), "held new 0 0 False")
-        for overtakes in (0, 9):
-            self.assertEqual(self.interrupted("waiting", PATIENT, overtakes), "held withdrawn 0 0 False")
+        self.assertEqual(self.interrupted("waiting", TWO), "held left 0 0 False")
+        self.assertEqual(self.interrupted("waiting", PATIENT), "held withdrawn 0 0 False")
 
     def test_in_run(self) -> None:
-        # a works at its first session until the bench is stopped: it ends that, and begins no other; b gave up, or had its session before
-        self.assertRegex(self.interrupted("run", TWO), r"\Anew new 1 [01] False\Z")
+        # a works at its first session until the bench is stopped: it ends that, and begins no other; b gave up, had its session before, or never
+        # asked
+        self.assertRegex(self.interrupted("run", TWO), r"\Afinished (lapsed 1 1|finished 1 1|new 1 0) False\Z")
 
 
 if __name__ == "__main__":

@@ -26,22 +26,6 @@ class Broker(unittest.TestCase):
         self.assertEqual(len(re.findall(r"session \d done", done.stdout)), 12)
         self.assertRegex(done.stdout, r"(?m)^32 talks with 6 instruments, 0 refused$")
 
-    def test_journal(self) -> None:
-        """Killed while a station holds, it goes on with that session."""
-        with tempfile.TemporaryDirectory() as folder:
-            words = ["examples/broker/broker.py", "--journal", os.path.join(folder, "bay.journal")]
-            first = subprocess.Popen([sys.executable, "-u", *words], cwd=TOP, env=child(), stdout=subprocess.PIPE, stderr=subprocess.DEVNULL, text=True)
-            assert first.stdout
-            held = re.search(r"(\S+) +session (\d) holds", first.stdout.readline())
-            first.kill()
-            first.communicate()
-            assert held
-            done = ran(words)
-            self.assertEqual((done.returncode, done.stderr), (0, ""))
-            self.assertRegex(done.stdout, rf"(?m) {held[1]} +session {held[2]} holds .* again$")
-            self.assertEqual(len(re.findall(r"session \d done", done.stdout)), 12)
-            self.assertRegex(done.stdout, r"(?m)^32 talks with 6 instruments, 0 refused$")
-
     def test_load(self) -> None:
         done = broker("--threads", "16", "--sessions", "1000")
         self.assertEqual((done.returncode, done.stderr), (0, ""))

@@ -1,17 +1,15 @@
 """That no wake-up is lost, and that no interrupt loses one: on the definitions, with a gate at every line of the package (tests/gates.py)."""
 
-import os
 import random
-import tempfile
 import unittest
 from typing import Callable, Optional
 from unittest import mock
 
 import labrun
-from labrun import _bench, _core, _journal, _seat
+from labrun import _bench, _core, _session
 from tests.gates import Gates, Stuck
 from tests.load import Counting, load_script
-from tests.test_bench import LIMIT, PATIENT, TWO
+from tests.test_bench import LIMIT, PATIENT, TWO, asked
 from tests.test_simulated import OnDefinitions
 
 # all need x; and a ring of three
@@ -30,14 +28,10 @@ def once(at: int) -> Callable[[int, int, list[int]], int]:
 
 
 class Gated(OnDefinitions):
-    # of a journal, for those that have one
-    path: Optional[str] = None
-    overtakes = labrun.OVERTAKES
-
     def gated(self, gates: Gates, script: str, station: Optional[Callable[[labrun.Job, Counting], None]] = None) -> labrun.Bench:
         """The stations of a script, each on a thread; no two hold an instrument at once, and all come to their ends."""
         with mock.patch.object(_bench, "_new_lock", gates.lock):
-            bench = labrun.Bench.from_text(script, journal=self.path, sync="none", overtakes=self.overtakes)
+            bench = labrun.Bench.from_text(script)
         counting = Counting(bench)
 
         def work(job: labrun.Job) -> None:
@@ -73,154 +67,42 @@ class WakeUps(Gated):
         """With one wake-up left out the test doesn't pass."""
         rouse = _core.Core.rouse
 
-        def forgets(core: _core.Core, seat: _seat.Seat) -> None:
-            if seat.name != "b":
-                rouse(core, seat)
+        def forgets(core: _core.Core, session: _session.Session) -> bool:
+            return session.job.name == "b" or rouse(core, session)
 
         with mock.patch.object(_core.Core, "rouse", forgets), self.assertRaises(Stuck):
             for at in range(200):
                 self.gated(Gates(once(at)), ALL_ONE)
 
     def test_given_up(self) -> None:
-        """One station gives up at a time limit, with a patience and without, and comes back or not."""
-        for seed in range(100):
-            chance, patience = random.Random(seed), seed % 2
+        """Another station gives b's sessions up, at any moment, with a patience and without; each has one end, and nobody sleeps on."""
+        for seed in range(150):
+            chance, ends, offered = random.Random(seed), [], []  # type: random.Random, list[str], list[labrun.Session]
 
             def station(job: labrun.Job, counting: Counting) -> None:
                 for session in job.sessions():
+                    offered.append(session)
                     try:
-                        session.acquire(timeout=0 if job.name == "b" and chance.random() < 0.8 else None)
-                    except labrun.TimeoutError:
-                        if chance.random() < 0.5:
-                            session.give_up()
-                            if chance.random() < 0.5:
-                                return
-                    except (labrun.Withdrawn, labrun.NotHeld):
-                        pass
-                    if session.held:
-                        counting.came(session.instruments)
-                        counting.went(session.instruments)
-                        session.release()
-
-            script = ALL_ONE if seed % 3 else RING
-            if patience:
-                before, after = script.split("job b\n")
-                script = before.replace("lab 1", "lab 2") + "job b\n" + after.replace("session\n", "session patience 3\n", 2)
-            with self.subTest(seed), mock.patch.object(_bench, "_TICK", 1e-9):
-                report = self.gated(Gates(sometimes(seed, 0.2)), script, station).close()
-                self.assertEqual((report.job("a").done, report.job("c").done), (2, 2))
-
-
-    def test_taken_away(self) -> None:
-        """Sessions are taken away at any moment, also just as they come to hold: each has one end, and nobody sleeps on."""
-        for seed in range(100):
-            chance, ends = random.Random(seed), []
-
-            def station(job: labrun.Job, counting: Counting) -> None:
-                for session in job.sessions(limit=0.0 if seed % 5 == 0 else None):
-                    try:
-                        with session:
-                            pass
-                    except labrun.TakenAway:
-                        pass
-                    ends.append(session.state)
-                    try:
-                        job.bench.take_away(chance.choice(job.bench.jobs.keys()))
-                        ends.append("take")
-                    except labrun.NotHeld:
-                        pass
-
-            with self.subTest(seed):
-                bench = self.gated(Gates(sometimes(seed, (0.02, 0.2, 0.7)[seed % 3])), ALL_ONE if seed % 2 else RING, station)
-                self.assertEqual(ends.count("taken"), len(bench.taken))
-                self.assertEqual(ends.count("taken") + ends.count("finished"), 6)
-                self.assertTrue(bench.close().finished)
-
-
-class InLine(WakeUps):
-    """The same where each stands in line as soon as it asks."""
-
-    overtakes = 0
-
-
-class Journals(Gated):
-    """The same with a journal, which has what is done, whatever fails."""
-
-    def setUp(self) -> None:
-        super().setUp()
-        folder = tempfile.TemporaryDirectory(dir="/dev/shm" if os.access("/dev/shm", os.W_OK) else None)
-        self.addCleanup(folder.cleanup)
-        self.path = os.path.join(folder.name, "bay.journal")
-
-    def finished(self, bench: labrun.Bench, script: str) -> None:
-        report = bench.close()
-        self.assertTrue(report.finished)
-        assert self.path
-        self.assertEqual(labrun.Bench.from_text(script, journal=self.path).close().text, report.text)
-        os.unlink(self.path)
-
-    def test_many_gates(self) -> None:
-        for seed in range(100):
-            script = (ALL_ONE, RING, load_script(4, 2, 3, seed))[seed % 3]
-            with self.subTest(seed):
-                self.finished(self.gated(Gates(sometimes(seed, (0.02, 0.2, 0.7)[seed // 3 % 3])), script), script)
-
-    def test_writes_that_fail(self) -> None:
-        """Stations that try again until there is room."""
-        real = _journal._pwrite
-        for seed in range(75):
-            chance, script = random.Random(seed), (ALL_ONE, RING, load_script(4, 2, 3, seed))[seed % 3]
-
-            def sometimes_fails(file: int, text: bytes, place: int) -> int:
-                if chance.random() < 0.3:
-                    raise OSError(28, "No space left on device")
-                return real(file, text, place)
-
-            def tried(call: Callable[[], None]) -> None:
-                while True:
-                    try:
-                        return call()
-                    except labrun.JournalError:
-                        pass
-
-            def station(job: labrun.Job, counting: Counting) -> None:
-                for session in job.sessions():
-                    tried(session.acquire)
-                    counting.came(session.instruments)
-                    counting.went(session.instruments)
-                    tried(session.release)
-
-            gates = Gates(sometimes(seed, (0.02, 0.2, 0.7)[seed // 3 % 3]))
-            with mock.patch.object(_bench, "_new_lock", gates.lock):
-                bench = labrun.Bench.from_text(script, journal=self.path, sync="none")
-            with self.subTest(seed), mock.patch.object(_journal, "_pwrite", sometimes_fails):
-                counting = Counting(bench)
-                gates.run([lambda job=job: station(job, counting) for job in bench.jobs], LIMIT)
-                self.assertEqual(counting.clashes, 0)
-            self.finished(bench, script)
-
-    def test_interrupts(self) -> None:
-        """One comes to the first station, which gives up or lets go; what it had added is written by others, or at the close."""
-        for at in range(0, 160, 3):
-
-            def station(job: labrun.Job, counting: Counting) -> None:
-                session = None
-                try:
-                    for session in job.sessions():
                         with session:
                             counting.came(session.instruments)
                             counting.went(session.instruments)
-                except KeyboardInterrupt:
-                    if session is not None:
-                        session.release() if session.state == "held" else session.give_up()
+                            if chance.random() < 0.3:
+                                chance.choice(offered).give_up()
+                    except (labrun.Withdrawn, labrun.NotHeld):
+                        pass
+                    ends.append(session.state)
+                    chance.choice(offered).give_up()
 
-            with self.subTest(at=at):
-                bench = self.gated(Gates(sometimes(at, 0.05), at), RING, station)
+            script = ALL_ONE if seed % 3 else RING
+            if seed % 2:
+                before, after = script.split("job b\n")
+                script = before.replace("lab 1", "lab 2") + "job b\n" + after.replace("session\n", "session patience 3\n", 2)
+            with self.subTest(seed), mock.patch.object(_core, "TICK", 1e-9):
+                bench = self.gated(Gates(sometimes(seed, (0.02, 0.2, 0.7)[seed // 3 % 3])), script, station)
                 report = bench.close()
-                self.assertEqual([job.done for job in report.jobs[1:]], [2, 2])
-                assert self.path
-                self.assertEqual(labrun.Bench.from_text(RING, journal=self.path).close().text, report.text)
-                os.unlink(self.path)
+                self.assertEqual(ends.count("finished") + ends.count("withdrawn") + len(bench.lapsed), 6, ends)
+                self.assertEqual(sum(job.withdrawn for job in report.jobs), ends.count("withdrawn"))
+                self.assertTrue(report.finished)
 
 
 class Interrupts(Gated):
@@ -244,7 +126,7 @@ class Interrupts(Gated):
 
         gates = Gates(pick, at)
         bench = self.gated(gates, script, station)
-        self.assertFalse(bench._core.torn)
+        self.assertFalse([job.name for job in bench.jobs if job.state.holds or job.state.waits])
         report = bench.close()
         self.assertEqual([job.done for job in report.jobs[1:]], [2] * (len(report.jobs) - 1), at)
         return gates
@@ -258,40 +140,81 @@ class Interrupts(Gated):
                     self.interrupted(script, at, sometimes(at % 7, 0.05))
 
 
-    def given_up(self, script: str, at: int) -> tuple[bool, labrun.Bench, labrun.Session]:
-        """One comes to whoever gives up a session that is outside, and whose instrument is free by now; who does it again then. Whether one came."""
-        gates, came = Gates(once(-1)), []
+    def given_up(self, script: str, at: int) -> tuple[bool, labrun.Bench]:
+        """One comes to whoever gives up a session for which another waits; who does it again then. Whether one came."""
+        gates, came, faults = Gates(once(-1)), [], []  # type: Gates, list[str], list[BaseException]
         with mock.patch.object(_bench, "_new_lock", gates.lock):
-            bench = labrun.Bench.from_text(script, overtakes=9)
-        first, second = (job.next_session() for job in bench.jobs)
-        assert first and second
+            bench = labrun.Bench.from_text(script)
+        first, second = asked(bench, "a"), asked(bench, "b")
 
-        def station() -> None:
+        def gives_up() -> None:
             first.acquire()
-            with self.assertRaises(labrun.TimeoutError):
-                second.acquire(timeout=0)
-            first.release()
-            gates.mine, gates.interrupt = 0, at
+            gates.pick = once(gates.gates + 1)  # the other goes on, until it waits
+            while second.state == "new":
+                bench.jobs[0].state
+            gates.pick, gates.mine, gates.interrupt = once(-1), 0, at
             try:
                 second.give_up()
             except KeyboardInterrupt:
                 came.append(gates.where)
                 second.give_up()
+            gates.interrupt = -1
+            first.release()
 
-        gates.run([station], LIMIT)
-        return bool(came), bench, second
+        def waits() -> None:
+            try:
+                second.acquire()
+            except (labrun.Withdrawn, labrun.NotHeld) as fault:
+                faults.append(fault)
+
+        gates.run([gives_up, waits], LIMIT)
+        self.assertEqual(len(faults), 1)
+        return bool(came), bench
 
     def test_given_up(self) -> None:
-        """It never holds by that, at whatever line the interrupt comes."""
-        for script, state in ((TWO, "new"), (PATIENT, "withdrawn")):
+        """Its thread is told, at whatever line the interrupt comes; it was withdrawn, or it lapses."""
+        for script in (TWO, PATIENT):
             at, came = 0, True
             while came:
-                with self.subTest(state, at=at):
-                    came, bench, session = self.given_up(script, at)
-                    core = bench._core
-                    self.assertEqual((session.state, bench.jobs[1].state.holds, bench.jobs[1].state.withdrawn), (state, False, int(state == "withdrawn")))
-                    self.assertEqual((core.torn, core.waiting, core.left, core.withdrawing, bench.lapsed), (False, 0, 0, None, ()))
-                    self.assertEqual([it.job for it in bench.close().log("scale")], ["a"])
+                with self.subTest(script, at=at):
+                    came, bench = self.given_up(script, at)
+                    self.assertEqual((bench.jobs[1].state.holds, bench.jobs[1].state.waits), (False, False))
+                    self.assertEqual((bench.lapsed, bench.jobs[1].state.withdrawn), ((("b", 1),), 0) if script == TWO else ((), 1))
+                    bench.close()
+                at += 1
+            self.assertGreater(at, 20)
+
+    def test_asks(self) -> None:
+        """One comes to a station that asks, and another needs the same: whatever became of the first one's session, nobody holds it."""
+        for script in (TWO, PATIENT):
+            came, at = True, 0
+            while came:
+                gates, came = Gates(sometimes(at % 7, 0.05), at), False
+                with mock.patch.object(_bench, "_new_lock", gates.lock):
+                    bench = labrun.Bench.from_text(script)
+                first, second = asked(bench, "a"), asked(bench, "b")
+
+                def interrupted() -> None:
+                    nonlocal came
+                    try:
+                        second.acquire()
+                    except KeyboardInterrupt:
+                        came = True
+                    gates.interrupt = -1
+                    if not came:
+                        second.release()
+
+                def other() -> None:
+                    with first:
+                        pass
+
+                with self.subTest(script, at=at):
+                    gates.run([interrupted, other], LIMIT)
+                    state, job = second.state, bench.jobs["b"].state
+                    self.assertIn(state, ("new", "withdrawn", "lapsed") if came else ("finished",))
+                    self.assertEqual((job.holds, job.waits, bench.jobs["a"].state.done), (False, False, 1))
+                    self.assertEqual((job.done, job.withdrawn), (int(state in ("lapsed", "finished")), int(state == "withdrawn")))
+                    self.assertEqual(bench.lapsed, (("b", 1),) if state == "lapsed" else ())
                 at += 1
             self.assertGreater(at, 20)
 

@@ -6,7 +6,7 @@ from unittest import mock
 
 import labrun
 from labrun import _library
-from tests import test_bench, test_journal, test_thirst
+from tests import test_bench, test_given_up
 from tests.load import Counting, load_script
 from tests.simulated import Simulated
 
@@ -25,7 +25,7 @@ class Loads(OnDefinitions):
         for seed in range(3):
             with labrun.Bench.from_text(load_script(jobs, sessions, instruments, seed)) as bench:
                 counting = Counting(bench, pause)
-                bench.run(counting.station, timeout=test_bench.LIMIT)
+                bench.run(counting.station)
             self.assertEqual((counting.clashes, counting.done), (0, jobs * sessions))
             self.assertTrue(bench.report.finished)
 
@@ -40,10 +40,8 @@ class Loads(OnDefinitions):
         """Where nobody waits a session makes two calls, and no other than those."""
         made: list[str] = []
         with labrun.Bench.from_text(load_script(3, 4, 3, 1)) as bench:
-            for name in ("lab_settle", "lab_end"):
-                call = getattr(bench._core, name)
-                setattr(bench._core, name, lambda *given, name=name, call=call: made.append(name) or call(*given))
-            with mock.patch.object(Simulated, "__getitem__", lambda library, name: made.append(name)):
+            found = Simulated.__getitem__
+            with mock.patch.object(Simulated, "__getitem__", lambda library, name: made.append(name) or found(library, name)):
                 for job in bench.jobs:
                     for _ in range(4):
                         session = job.next_session()
@@ -63,38 +61,20 @@ class Waiting(OnDefinitions, test_bench.Waiting):
     """All that the bench's tests say of waiting."""
 
 
-class Outside(OnDefinitions, test_thirst.Outside):
-    """Sessions that are outside until it is worth it."""
-
-
-class Taken(OnDefinitions, test_thirst.Taken):
-    """Instruments that are taken away."""
-
-
-class Limits(OnDefinitions, test_thirst.Limits):
-    """Limits on holding, and patience in seconds."""
-
-
-class GivenUp(OnDefinitions, test_thirst.GivenUp):
+class GivenUp(OnDefinitions, test_given_up.GivenUp):
     """Sessions that are given up."""
 
 
-class Files(OnDefinitions, test_journal.Files):
-    """The journal's file."""
+class Running(OnDefinitions, test_bench.Running):
+    """`run`, by threads and by tasks."""
 
-    test_killed = None  # type: ignore[assignment]
-
-
-class Broken(OnDefinitions, test_journal.Broken):
-    """Journals that were cut, or changed."""
-
-
-class Failing(OnDefinitions, test_journal.Failing):
-    """Writes that fail."""
+    test_many = test_32_threads = None  # type: ignore[assignment]  # (these are long)
 
 
 class Ends(OnDefinitions, test_bench.Ends):
     """Stations that end while they hold, forks, loops of asyncio, and generators that are closed late."""
+
+    test_a_child_that_ends_frees_nothing = None  # type: ignore[assignment]  # (this starts a program on the built library)
 
 
 if __name__ == "__main__":

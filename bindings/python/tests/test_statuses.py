@@ -3,8 +3,6 @@
 from __future__ import annotations
 
 import contextlib
-import os
-import tempfile
 import unittest
 from typing import Any, Callable, Iterator
 from unittest import mock
@@ -12,8 +10,7 @@ from unittest import mock
 import labrun
 from labrun import _library
 from tests.simulated import Simulated
-from tests.test_bench import PATIENT, TWO
-from tests.test_thirst import asked, in_vain
+from tests.test_bench import PATIENT, SOON, TWO, asked, back, waiting
 
 # 7 not open, 12 the journal is full, 13 another call is under way; and "not now", where that can't be
 ANYWHERE, NOT_NOW = (7, 12, 13), 8
@@ -39,9 +36,6 @@ class Statuses(unittest.TestCase):
         patch = mock.patch.object(_library, "_loaded", self.library)
         patch.start()
         self.addCleanup(patch.stop)
-        folder = tempfile.TemporaryDirectory(dir="/dev/shm" if os.access("/dev/shm", os.W_OK) else None)
-        self.addCleanup(folder.cleanup)
-        self.folder = folder.name
 
     @contextlib.contextmanager
     def refused(self, name: str, status: int) -> Iterator[None]:
@@ -53,7 +47,7 @@ class Statuses(unittest.TestCase):
         finally:
             del self.library.wrong[name]
         self.assertNotIsInstance(caught.exception, (labrun.NotHeld, labrun.Withdrawn, labrun.TimeoutError))
-        self.assertIn("the handle is in use, or isn't open" if str(caught.exception).startswith("the handle") else f"status {status}", str(caught.exception))
+        self.assertIn(f"{name}: status {status}", str(caught.exception))
 
     def each(self, name: str, act: Callable[[], Callable[[], object]], *more: int) -> None:
         """What is made ready first, and then calls it."""
@@ -63,100 +57,108 @@ class Statuses(unittest.TestCase):
                 with self.refused(name, status):
                     call()
 
-    def journal(self) -> str:
-        return os.path.join(self.folder, f"{len(os.listdir(self.folder))}.journal")
-
-    def held(self, script: str = TWO, overtakes: int = 9) -> tuple[labrun.Bench, labrun.Session, labrun.Session]:
-        bench = labrun.Bench.from_text(script, overtakes=overtakes)
+    def held(self, script: str = TWO) -> tuple[labrun.Bench, labrun.Session, labrun.Session]:
+        bench = labrun.Bench.from_text(script)
         first, second = asked(bench, "a"), asked(bench, "b")
         first.acquire()
         return bench, first, second
 
-    def waits(self, script: str = TWO, overtakes: int = 9) -> labrun.Session:
-        _, _, second = self.held(script, overtakes)
-        in_vain(second)
-        return second
+    @contextlib.contextmanager
+    def waits(self, script: str = TWO) -> Iterator[labrun.Session]:
+        """A thread waits for this one; it is back at the end."""
+        bench, first, second = self.held(script)
+        thread = waiting(second, [])
+        try:
+            yield second
+        finally:
+            if first.held:
+                first.release()
+            back(thread)
 
     def test_open(self) -> None:
-        of_all = ("lab_check", "lab_bench_open", "lab_overtakes", "lab_bench_size", "lab_job_name", "lab_instrument_name")
-        for name in (*of_all, "lab_state", "lab_session_of", "lab_planned"):
+        for name in ("lab_check", "lab_bench_open", "lab_bench_size", "lab_job_name", "lab_instrument_name", "lab_state", "lab_session_of", "lab_planned"):
             self.each(name, lambda: lambda: labrun.Bench.from_text(TWO), NOT_NOW)
-        self.each("lab_bench_open_kept", lambda: lambda: labrun.Bench.from_text(TWO, journal=self.journal()), NOT_NOW)
-        path = self.journal()
-        labrun.Bench.from_text(TWO, journal=path).close()
-        for name in ("lab_bench_resume", "lab_journal", "lab_outside", "lab_state"):
-            self.each(name, lambda: lambda: labrun.Bench.from_text(TWO, journal=path), NOT_NOW)
 
     def test_asks(self) -> None:
-        self.each("lab_settle", lambda: asked(labrun.Bench.from_text(TWO), "a").acquire, NOT_NOW)
-        for name in ("lab_settle", "lab_journal"):
-            self.each(name, lambda: asked(labrun.Bench.from_text(TWO, journal=self.journal()), "a").acquire, NOT_NOW)
+        """And nothing is asked for by that."""
+        for status in (*ANYWHERE, NOT_NOW):
+            with labrun.Bench.from_text(TWO) as bench:
+                session = asked(bench, "a")
+                with self.refused("lab_settle", status):
+                    session.acquire()
+                self.assertEqual((session.state, bench.jobs["a"].state.holds), ("new", False))
+                with session:
+                    pass
 
     def test_tells(self) -> None:
-        for name in ("lab_state", "lab_outside"):
-            self.each(name, lambda: lambda bench=self.held()[0]: bench.jobs["b"].state, NOT_NOW)  # type: ignore[misc]
-        self.each("lab_keepers", lambda: self.waits().waits_for, NOT_NOW)
+        self.each("lab_state", lambda: lambda bench=self.held()[0]: bench.jobs["b"].state, NOT_NOW)  # type: ignore[misc]
         self.each("lab_command", lambda: self.held()[1].command)
 
     def test_lets_go(self) -> None:
         """It holds as before, and may let go again."""
-        for status in ANYWHERE:
+        for status in (*ANYWHERE, NOT_NOW):
             bench, first, _ = self.held()
             with self.refused("lab_end", status):
                 first.release()
             self.assertTrue(first.held and bench.jobs["a"].state.holds)
             first.release()
-            bench, first, _ = self.held()
-            with self.refused("lab_end", status):
-                bench.take_away("a")
-            self.assertEqual((bench.taken, first.held, bench.jobs["a"].state.holds), ((), True, True))
-            bench.take_away("a")
-            self.assertEqual(bench.taken, (("a", 1),))
-        self.each("lab_settle", lambda: lambda bench=self.held()[0]: bench.take_away("a"), NOT_NOW)  # type: ignore[misc]
+            self.assertEqual((first.state, bench.jobs["a"].state.done), ("finished", 1))
+
+    def test_wakes(self) -> None:
+        """It let go, and whoever waits is told once all is right again."""
+        for status in (*ANYWHERE, NOT_NOW):
+            bench, first, second = self.held()
+            thread = waiting(second)
+            with self.refused("lab_settle", status):
+                first.release()
+            self.assertEqual(first.state, "finished")
+            following = waiting(asked(bench, "a"))
+            back(thread)
+            second.release()
+            back(following)
+
+    def test_waits(self) -> None:
+        """One that settles from time to time, since it has a patience: it is told, and nothing is held by nobody."""
+        for status in (*ANYWHERE, NOT_NOW):
+            bench, first, second = self.held(SOON.replace("patience 2", "patience 999998"))
+            faults: list[BaseException] = []
+            thread = waiting(second, faults)
+            self.library.wrong["lab_settle"] = status
+            back(thread)
+            del self.library.wrong["lab_settle"]
+            self.assertIn(f"lab_settle: status {status}", str(faults[0]))
+            first.release()
+            self.assertEqual((second.state, bench.jobs["b"].state.holds, bench.jobs["b"].state.waits), ("withdrawn", False, False))
 
     def test_gives_up(self) -> None:
         """And once more, when all is right again."""
-        for name in ("lab_withdraw", "lab_turn", "lab_settle", "lab_outside"):
+        for name in ("lab_withdraw", "lab_state"):
             for status in (*ANYWHERE, NOT_NOW):
-                with self.subTest(name, status=status):
-                    session = self.waits(PATIENT)
-                    with self.refused(name, status):
+                for gives_up in (labrun.Session.give_up, labrun.Session.withdraw):
+                    with self.subTest(name, status=status), self.waits(PATIENT) as session:
+                        with self.refused(name, status):
+                            gives_up(session)
                         session.give_up()
-                    session.give_up()
-                    self.assertEqual((session.state, session.job.state.withdrawn, session.job.state.holds), ("withdrawn", 1, False))
-        self.each("lab_withdraw", lambda: self.waits(PATIENT, 0).give_up, NOT_NOW)
-        self.each("lab_withdraw", lambda: self.waits(PATIENT).withdraw, NOT_NOW)
-        self.each("lab_withdraw", lambda: self.waits().give_up)
+                        self.assertEqual((session.state, session.job.state.withdrawn, session.job.state.holds), ("withdrawn", 1, False))
 
     def test_lapses(self) -> None:
-        """One that was left, or came to hold while nobody looked."""
-
-        def came_to_hold() -> Callable[[], object]:
-            bench, first, second = self.held(TWO, 0)
-            in_vain(second)
-            first.release()
-            return second.give_up
-
-        def left() -> labrun.Bench:
-            bench, first, second = self.held(TWO, 0)
-            in_vain(second)
-            second.give_up()
-            first.release()
-            self.assertTrue(bench.jobs["b"].state.holds)
-            return bench
-
-        self.each("lab_end", came_to_hold, NOT_NOW)
-        self.each("lab_end", lambda: left().close, NOT_NOW)
-        self.each("lab_end", lambda: asked(left(), "a").acquire, NOT_NOW)
+        """One that was left, and whose turn came."""
+        for status in (*ANYWHERE, NOT_NOW):
+            with self.waits() as session:
+                session.give_up()
+                with self.refused("lab_end", status):
+                    # (it is the first that doesn't let go)
+                    session.job.bench.jobs["a"].next_session().release()  # type: ignore[union-attr]
+            self.assertEqual((session.state, session.job.bench.lapsed), ("lapsed", (("b", 1),)))
 
     def test_ends(self) -> None:
         for name in ("lab_retire", "lab_bench_close"):
             self.each(name, lambda: labrun.Bench.from_text(IDLE).close)
-        self.each("lab_retire", lambda: labrun.Bench.from_text(IDLE).jobs["a"].next_session)
         bench = labrun.Bench.from_text(IDLE)
         # (7: it is empty already)
         with self.refused("lab_bench_free", 13):
             bench.close()
+        self.assertTrue(bench.close().finished)
 
 
 if __name__ == "__main__":
