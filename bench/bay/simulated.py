@@ -32,7 +32,7 @@ class Machine:
     notice = "Simulated: the machine behind this broker isn't the proved one, but a model of its rules."
 
     def __init__(self, classes: Sequence[tuple[int, int]], terms: Terms, journal: bytes = b"", now: int = 0) -> None:
-        rules = Rules(list(classes), terms.overtakes, terms.line, _moment(terms.grace), _moment(terms.disk), terms.keeps, terms.name)
+        rules = Rules(list(classes), terms.overtakes, terms.line, _moment(terms.grace), _moment(terms.disk), terms.keeps, terms.bay)
         self.used = journal.rfind(b"\n") + 1
         if journal:
             _is_sound(journal[: self.used], rules)
@@ -53,6 +53,11 @@ class Machine:
 
     def ask(self, number: int, owner: tuple[int, int], kind: int, sets: Sequence[int], deadline: int, limit: int, now: int) -> None:
         self._calls(self._bay.ask, number, sets, kind, _of_pair(owner), _moment(deadline), _moment(limit), now)
+
+    def holds(self, number: int, kind: int, sets: Sequence[int], deadline: int, now: int, done: int) -> Optional[tuple[int, int]]:
+        self.ask(number, (1, number), kind, sets, deadline, NEVER, now)
+        it = self.tell(done)
+        return (it.serial, it.needs) if it and it.number == number and it.what == machine.HOLDS else None
 
     def let_go(self, number: int, now: int) -> None:
         self._calls(self._bay.let_go, number, now)
@@ -105,14 +110,7 @@ class Machine:
         serial, number, what = it
         return Told(serial, number, WHAT.index(what), next((one.needs for one in self._bay.asks if one.number == number), 0))
 
-    def told(self, done: int) -> Optional[tuple[int, int, int, int]]:
-        it = self.tell(done)
-        return None if it is None else (it.serial, it.number, it.needs, it.what)
-
     # who looks on
-
-    def look(self, place: int) -> Optional[Standing]:
-        return (self.standings()[place : place + 1] or [None])[0]
 
     def keeper(self, number: int, instrument: int) -> Optional[Standing]:
         it = self._bay.keeper(number, instrument)

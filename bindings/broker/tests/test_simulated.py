@@ -27,7 +27,8 @@ class Calls(Simulated):
         import labrun_broker.opening
 
         calls = {name for name, it in vars(labrun.machine.Machine).items() if not name.startswith("_")}
-        self.assertEqual(calls - set(vars(labrun_broker.opening.Machine)), set())
+        # (the addresses are for the lab's extension in C)
+        self.assertEqual(calls - set(vars(labrun_broker.opening.Machine)), {"addresses"})
 
 
 class Sessions(Simulated, test_keeping.Sessions):
