@@ -1,10 +1,10 @@
-//! What C calls: whole runs, in `runs`; and for a bench or a desk the calls of `bench_calls` (of its `halls`, on a desk), with their contracts.
+//! What C calls: whole runs, in `runs`; and for a bench the calls of `bench_calls`, with their contracts.
 #![tactic(auto)]
 
 ghost use Rattle.std.specs.Prelude.{◌≡◌};
 ghost use Rattle.lab_journal.specs.Taking.{IsOpenedKept};
 ghost use Rattle.bench_calls.specs.Journals.{TellsJournal, Resumes};
-ghost use Rattle.bench_calls.specs.Closing.{Closes, Frees, is_of_a_lab};
+ghost use Rattle.bench_calls.specs.Closing.{Closes, Frees};
 ghost use Rattle.bench_calls.specs.Coming.{Comes, TellsMore};
 ghost use Rattle.bench_calls.specs.Openings.{IsFresh};
 ghost use Rattle.bench_calls.specs.Calls.{Opens, InLab, InRoom, TellsScript};
@@ -12,7 +12,6 @@ ghost use Rattle.bench_calls.specs.Calls.{Turns, Serves, ServesRest, SettlesAll,
 ghost use Rattle.bench_calls.specs.Calls.{TellsSize, TellsSession, TellsPlanned, TellsState, TellsKeepers, TellsOutside, TellsJobName, TellsInstrumentName};
 
 mod bytes;
-mod desks;
 mod runs;
 mod told;
 
@@ -361,7 +360,7 @@ pub extern "C" fn lab_bench_close(
 /// Frees the lab of the handle, or its report. The handle has nothing then.
 #[unsafe(no_mangle)]
 pub extern "C" fn lab_bench_free(alloc: Global, bench: &mut Handle) -> u32
-    ensures { Frees is_of_a_lab bench.old.slot.held bench.new.slot.held result }
+    ensures { Frees bench.old.slot.held bench.new.slot.held result }
 {
     bench_calls::free(alloc, bench)
 }

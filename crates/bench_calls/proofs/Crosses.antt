@@ -26,10 +26,6 @@ use Rattle.live_lab.proofs.clock.Clock.TheSendSync as clocks
 use Rattle.settling.proofs.due.Due.TheSendSync as dues
 use Rattle.late_thirst.proofs.line.Line.TheSendSync as lines
 use Rattle.live_lab.proofs.print.Printed.TheSendSync as printed
-use Rattle.bench_hall.specs.contracts.hall.Hall as Hall
-use Rattle.bench_hall.proofs.hall.Hall.TheSendSync as halls
-use Rattle.bench_hall.proofs.taken_desk.TakenDesk.TheSendSync as taken
-use Rattle.bench_hall.proofs.Crosses.{held_send}
 use Rattle.bench_calls.specs.contracts.inside.Inside as Inside
 
 -- events that contracts alone see own nothing
@@ -57,5 +53,4 @@ lab_send = view_send _ _ _ _ _ (declared_send InLab.the_type
     (world_send _, (as_row_send (Vec.the_field Clock.the_row Heap.the_row ghosts) clocks_send, (dues.the_send Heap.the_row ghosts heap.send heap.frees, (lines.the_send, tt)))))
 
 pub inside_send : IsSend Inside.the_row
-inside_send = variants_send Inside.enum
-    ((lab_send, tt), ((printed.the_send, tt), ((heap.Arc-send Hall.the_row halls.the_send halls.the_sync, tt), ((held_send, tt), ((taken.the_send, tt), (tt, tt))))))
+inside_send = variants_send Inside.enum ((lab_send, tt), ((printed.the_send, tt), tt))

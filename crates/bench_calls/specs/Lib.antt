@@ -4,6 +4,4 @@ pub mod Closing
 pub mod Calls
 pub mod Journals
 pub mod Coming
-pub mod DeskCalls
-pub mod Resuming
 pub mod Openings

@@ -1,8 +1,8 @@
 //! How what a handle has ends: from a lab to its report.
 ghost use Rattle.std.specs.Prelude.{◌≡◌};
-ghost use Rattle.bench_calls.specs.Closing.{Closes, ClosesInside, Frees, Reports, is_of_a_lab};
+ghost use Rattle.bench_calls.specs.Closing.{Closes, ClosesInside, Frees, Reports};
 
-use crate::handle::{Handle, NOT_OPEN, put, release, take};
+use crate::handle::{Handle, put, release, take};
 use crate::inside::Inside;
 use c_tells::{Told, deliver, fail};
 use lab_program::{RunFault, status_of};
@@ -30,7 +30,6 @@ fn close_in(alloc: Global, inside: &mut Inside, room: &mut [u8], told: &mut Told
             None => fail(RunFault::NoMemory, told),
         },
         Inside::Reported(printed) => give(printed, room, told),
-        _ => NOT_OPEN,
     }
 }
 
@@ -47,29 +46,15 @@ pub fn close(alloc: Global, bench: &mut Handle, room: &mut [u8], told: &mut Told
     status
 }
 
-fn is_of_a_lab(inside: &Inside) -> bool
-    ensures { result ≡ is_of_a_lab inside.now }
-{
-    match inside {
-        Inside::Open(_) => true,
-        Inside::Reported(_) => true,
-        _ => false,
-    }
-}
-
 /// Frees the lab of the handle, or its report. The handle has nothing then.
 pub fn free(alloc: Global, bench: &mut Handle) -> u32
-    ensures { Frees is_of_a_lab bench.old.slot.held bench.new.slot.held result }
+    ensures { Frees bench.old.slot.held bench.new.slot.held result }
 {
-    let inside = match take(&mut bench.slot, &mut bench.live, alloc) {
-        Ok(inside) => inside,
-        Err(status) => return status,
-    };
-    if is_of_a_lab(&inside) {
-        release(&mut bench.live);
-        0
-    } else {
-        put(&mut bench.slot, &mut bench.live, inside);
-        NOT_OPEN
+    match take(&mut bench.slot, &mut bench.live, alloc) {
+        Ok(_) => {
+            release(&mut bench.live);
+            0
+        }
+        Err(status) => status,
     }
 }

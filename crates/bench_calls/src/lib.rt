@@ -1,6 +1,5 @@
-//! One type of handle for C, which has a lab, a report, a bench of desks, a desk, or nothing; how a call takes out what it has and puts it back; and the
-//! calls on a lab of one handle: what each does to it, what it tells, as structs that C has too, and its status. Those on a bench of desks, and on a
-//! desk, stand in `halls`.
+//! One type of handle for C, which has a lab, a report, or nothing; how a call takes out what it has and puts it back; and the calls on a lab of one handle:
+//! what each does to it, what it tells, as structs that C has too, and its status.
 #![tactic(auto)]
 
 mod additions;
@@ -8,7 +7,6 @@ mod deeds;
 mod ending;
 mod for_text;
 mod giving_up;
-pub mod halls;
 mod handle;
 mod inside;
 mod journals;

@@ -5,13 +5,11 @@ use crate::waits::go_on;
 use instrument_log::Entry;
 use interleaving::{Counts, EdgeState, End, Event, JobState, NotLegal, World};
 use lab_plan::{EdgeNo, InstrumentNo, JobNo, Plan};
-use resuming::look_round;
 use std::alloc::Allocator;
 use std::process::Abort;
 
 mod guards;
 mod kept;
-mod marks;
 mod starts;
 mod stops;
 
@@ -19,8 +17,6 @@ mod stops;
 type Marks = (bool, u32);
 
 const NONE: Marks = (false, 0);
-
-const BOTH: Marks = (true, 1);
 
 /// What a world shows of its first two jobs, their edge and the last entry of the first log.
 #[derive(Clone, Copy, PartialEq)]
@@ -125,8 +121,6 @@ enum Way<'a> {
     Steps(&'a [Do]),
     /// The same, and then the event.
     Then(&'a [Do], &'a Event),
-    /// Each job looks at each of its edges.
-    Looks,
 }
 
 /// Answers as a replay of the steps and then the event, but counts the steps alone.
@@ -152,10 +146,6 @@ fn goes<T: Allocator>(rt: &impl Abort, world: &mut World<T>, way: Way) -> Replay
             Ok(steps.len())
         }
         Way::Then(steps, event) => walk_to(rt, world, steps, event),
-        Way::Looks => {
-            look_round(world);
-            Ok(0)
-        }
     }
 }
 
