@@ -1,6 +1,5 @@
-/* labrun in your own process. Three parts: the program's runs on one thread, from a script in memory to a report in memory; the bench
-   itself (`struct lab_bench`), on which threads of your own take turns, hold instruments, work, and let go, one call at a time; and a
-   bench whose desks threads drive at once (a `struct lab_bench` too, and a `struct lab_desk` for each desk).
+/* labrun in your own process. Two parts: the program's runs on one thread, from a script in memory to a report in memory; and the bench
+   itself (`struct lab_bench`), on which threads of your own take turns, hold instruments, work, and let go, one call at a time.
 
    Every call answers a status:
 
@@ -11,7 +10,7 @@
      4  LAB_TOO_LONG    the script has more than 16777216 bytes
      5  LAB_NO_MEMORY   no memory
      6  LAB_NO_ROOM     what was to be written has more than `room` bytes; `written` says how many
-     7  LAB_NOT_OPEN    the handle has nothing that the call could act on: it isn't open, or it is of another kind
+     7  LAB_NOT_OPEN    the handle has nothing that the call could act on: it isn't open
      8  LAB_NOT_YET     not yet, or not now: what was asked for isn't so
      9  LAB_NO_SESSION  the job has no session left to begin
     10  LAB_SESSIONS_LEFT  the job can't retire, because it is in a session or has one left
@@ -32,7 +31,7 @@
      - what one call is given doesn't overlap;
      - no call from a signal handler (on a handle that is busy it answers 13), nor in the child of a fork of a process with threads;
      - malloc and realloc align what they give as usual, and give NULL where they have none;
-     - of a bench, also what stands at `struct lab_bench`, or at the desks. */
+     - of a bench, also what stands at `struct lab_bench`. */
 #ifndef LABRUN_H
 #define LABRUN_H
 #include <stddef.h>
@@ -149,7 +148,7 @@ struct lab_session {
 };
 
 struct lab_turned {
-    uint32_t what;  /* 0 nothing was due; 2 acts were done; 1, at desks alone: an exchange found its edge changed, and the next turn looks anew */
+    uint32_t what;  /* 0 nothing was due; 2 acts were done */
     uint32_t count; /* how many */
 };
 
@@ -313,8 +312,7 @@ uint32_t lab_retire(struct lab_bench *bench, uint32_t job, uint32_t turns, struc
    still open); 7. A closed handle keeps its report, for a further call; an open answers 11, and every other call but the free 7. */
 uint32_t lab_bench_close(struct lab_bench *bench, uint8_t *report, size_t room, struct lab_told *told);
 
-/* Gives back all that the handle has, at any time; it is empty then, and may be opened again. 0; 7 if it is empty already, or has a
-   bench of desks or a desk (`lab_shared_free`, `lab_give_desk`). */
+/* Gives back all that the handle has, at any time; it is empty then, and may be opened again. 0; 7 if it is empty already. */
 uint32_t lab_bench_free(struct lab_bench *bench);
 
 /* ---- A bench that comes back when its process has died.
@@ -359,95 +357,6 @@ uint32_t lab_more(struct lab_bench *bench, uint32_t job, uint32_t session, uint8
    session that its job can't take (the line is that of `#more`; 7: there is no such job; else as `lab_add`); 5; 11. */
 uint32_t lab_bench_resume(const uint8_t *journal, size_t length, struct lab_bench *bench, struct lab_told *told);
 
-/* ---- A bench with a desk for each thread.
-
-   The same bench, used in another way: each job has a desk, and a thread that takes it (`lab_take_desk`) drives it by calls of its own,
-   at once with the threads at the other desks and without a mutex, until it gives it back (`lab_give_desk`). A thread
-
-     begins   lab_desk_begin, until its job holds (0) or has no session left (9);
-     works    and now and then serves (lab_desk_serve), so that neighbours who need other instruments don't wait for it;
-     lets go  lab_desk_end; or lab_desk_command, one by one, and then lab_desk_end;
-     retires  lab_desk_retire, after its last session, and goes on serving until all have retired; then it gives the desk back.
-
-   When all desks are back, `lab_shared_close` gives the report. The promise is the same: whatever the calls, from whatever threads, the
-   report is one of a legal run.
-
-   The rules, beside those at the top of this file:
-
-     - The bench's `struct lab_bench` and each `struct lab_desk` are all zero at first, and the calls alone write them. They may be moved
-       while no call on them runs, but a copy must not be used beside the first. A `lab_shared_` call on a bench that `lab_bench_open` opened
-       answers 7, and so does a call of the one handle on a bench of desks.
-     - One call at a time on one handle. `lab_take_desk` is a call on both of its handles, and every other on the one that it is given:
-       so take the desks before the threads start, or hold a mutex of yours around the calls on the bench; or call again
-       when it answers 13, because another thread takes its desk just then. Calls on the desks, `lab_give_desk` too, need none.
-     - A desk's handle may go from thread to thread, if something orders the calls: the start or the end of a thread, a mutex, a queue.
-     - A job gives up what a neighbour asks for only in calls on its own desk: turn, serve, begin, retire, end. So whoever has a desk calls
-       `lab_desk_serve` now and then, also while it holds, while it has nothing to do, and when its job is retired; or it gives the desk
-       back, so that another thread can take it and serve. A desk that nobody serves keeps its neighbours waiting: nothing else is lost.
-     - A thread that stops between two calls leaves its desk in the handle: let another go on with it, end its session (`lab_desk_end`),
-       and give it back. Until then the close answers 8. A thread that is killed within a call leaves the handle busy, and its desk
-       is lost: the close answers 8 for ever, and `lab_shared_free` gives back what it can.
-     - No call wakes a thread. If `what` is 0, nothing is due until a neighbour's call did something (but a session with patience counts
-       its own turns): sleep a little and call again, or wait on a condition variable of yours that each thread signals after a call
-       that told `what` 2, and after `lab_desk_withdraw`.
-     - What the script has (names, sessions, commands) is told by a bench that `lab_bench_open` opens for the same script.
-     - Such a bench may begin where a journal ends (`lab_shared_resume`). It keeps no steps of its own: the journal isn't gone on with.
-     - At each status but 0 nothing has changed and nothing is written, but for: `turned` and the turns taken, at 8 and 9 of
-       `lab_desk_begin`, 8 and 10 of `lab_desk_retire`, 8 of `lab_desk_end` if it holds still after 4294967295 turns; `written` at 6; `told` at 1, 4 and 5 of an open and at 0, 3, 5 and 6 of the close, which at 3 and 6
-       has closed the bench. */
-
-/* What C keeps of a desk. */
-struct lab_desk {
-    void *at;
-    uint64_t live; /* not 0 if it has something */
-};
-
-/* Opens a bench for a script, with each desk at its place. 0; 1 with `told->line` and `told->cause`; 4; 5; 11 if the handle is in use. */
-uint32_t lab_shared_open(const uint8_t *script, size_t length, struct lab_bench *shared, struct lab_told *told);
-
-/* Opens the bench that a journal tells of, with each desk at its place: who held, holds. The steps are done again, then a command that was in
-   hand, and then each job looks at its edges; all patience counts anew. 0, with `told->written` as the length of what was read, up to the
-   last line end; 1, 5 and 11 as `lab_bench_resume`. */
-uint32_t lab_shared_resume(const uint8_t *journal, size_t length, struct lab_bench *shared, struct lab_told *told);
-
-/* How many jobs and instruments there are. 0, 7. */
-uint32_t lab_shared_size(struct lab_bench *shared, struct lab_size *size);
-
-/* Takes the desk of a job into an empty handle. 0; 2; 5; 7 if the bench isn't open; 8 if the desk is out; 11 if the desk's handle is in use. */
-uint32_t lab_take_desk(struct lab_bench *shared, uint32_t job, struct lab_desk *desk);
-
-/* Gives the desk back to its own bench; the handle is empty then. 0; 7. (8, with the desk still in the handle, if the place has a desk:
-   that can't be, and is there because it isn't proved.) */
-uint32_t lab_give_desk(struct lab_desk *desk);
-
-/* As `lab_state`, `lab_turn`, `lab_serve`, `lab_command` and `lab_withdraw` of the desk's job. 7 if the handle has no desk. */
-uint32_t lab_desk_state(struct lab_desk *desk, struct lab_state *state);
-uint32_t lab_desk_turn(struct lab_desk *desk, struct lab_turned *turned);
-uint32_t lab_desk_serve(struct lab_desk *desk, struct lab_turned *turned);
-uint32_t lab_desk_command(struct lab_desk *desk, struct lab_entry *entry);
-uint32_t lab_desk_withdraw(struct lab_desk *desk);
-
-/* Takes turns of the desk, at most `turns`, until its job holds; ends before that if nothing was due. As `lab_begin`, but no other job is
-   served. 0 it holds; 8 not yet; 9 no session is left; 7. */
-uint32_t lab_desk_begin(struct lab_desk *desk, uint32_t turns, struct lab_turned *turned);
-
-/* As `lab_end`: does the commands that are left, ends the session and lets go. 0, 7, 8. */
-uint32_t lab_desk_end(struct lab_desk *desk, struct lab_turned *turned);
-
-/* Takes turns of a desk whose job's sessions are all done, at most `turns`, until it is retired. 0 it is; 8 not yet; 10 it is in a
-   session, or has one left; 7. */
-uint32_t lab_desk_retire(struct lab_desk *desk, uint32_t turns, struct lab_turned *turned);
-
-/* Closes the bench, whatever its jobs are at, and writes the report. 0 or 3 as a run; 8 while a desk is out; 5 and 6: nothing is lost, call
-   again; 7. After a close that answers 5 perhaps no desk can be taken any more: `lab_take_desk` then answers 7. A closed handle keeps its
-   report, for a further call; an open answers 11, and every other call but the free 7. */
-uint32_t lab_shared_close(struct lab_bench *shared, uint8_t *report, size_t room, struct lab_told *told);
-
-/* Gives back what the handle has; it is empty then. Desks that are out may be used on, and the last that is given back frees the bench. But
-   each open or resume that went well keeps the memory of its plan for good: don't open such benches one after another without end. 0; 7 if
-   it is empty already, or has no bench of desks. */
-uint32_t lab_shared_free(struct lab_bench *shared);
-
 /* ---- The sizes and places that the library goes by. */
 
 #if defined __cplusplus && __cplusplus >= 201103L
@@ -465,9 +374,6 @@ LAB_AT(lab_told, cause, 16);
 LAB_IS(sizeof(struct lab_bench) == 16);
 LAB_AT(lab_bench, at, 0);
 LAB_AT(lab_bench, live, 8);
-LAB_IS(sizeof(struct lab_desk) == 16);
-LAB_AT(lab_desk, at, 0);
-LAB_AT(lab_desk, live, 8);
 LAB_IS(sizeof(struct lab_size) == 16);
 LAB_AT(lab_size, jobs, 0);
 LAB_AT(lab_size, instruments, 8);

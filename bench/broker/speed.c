@@ -1,4 +1,4 @@
-/* Sessions a second: a bay and one handle of the library, each under a mutex, and a bench of desks, beside what one writes by hand, in one run.
+/* Sessions a second: a bay and one handle of the library, each under a mutex, beside what one writes by hand, in one run.
 
      cc -O2 -pthread -I include bench/broker/speed.c FOLDER/liblabrun.a -lm -o speed
      ./speed [--best N] [--work MICROSECONDS] [--sessions N] [--benches N] [--only THREADS]
@@ -10,37 +10,31 @@
      bay         one `struct lab_bay` without a journal, a mutex, and a condition variable for each station: lab_bay_ask, lab_bay_let_go, and
                  lab_bay_tell until nothing is left to tell
      handle      one `struct lab_bench`, a mutex, and a condition variable for each station: lab_settle, lab_end, and lab_settle if others wait
-     desks       one bench of desks and no mutex: each station takes turns at its own desk, and yields while nothing is due there. Behind its
-                 last session it serves until all others have done theirs, which isn't timed
      condition   one mutex and one condition variable over a set of the instruments that are taken
      mutexes     a mutex for each instrument, all taken in one order
 
    Each number is the best of N runs (5), which are taken in turn; a run is so many benches (10), one after another, as a script has a
-   thousand sessions of a job at most; what is timed are the sessions alone. Beside them stand the bay beside the condition variable and the
-   desks beside the handle, and below the geometric means and the worst of these. The last columns are of one bench more, which isn't timed:
-   how long a session waits from asking to holding, in milliseconds, 99 of 100 and the longest. */
+   thousand sessions of a job at most; what is timed are the sessions alone. Beside them stands the bay beside the condition variable, and below
+   the geometric mean and the worst of these. The last columns are of one bench more, which isn't timed: how long a session waits from
+   asking to holding, in milliseconds, 99 of 100 and the longest. */
 #define _POSIX_C_SOURCE 200809L
 #include "labrun_bay.h"
 #include <math.h>
 #include <pthread.h>
-#include <sched.h>
-#include <stdatomic.h>
 #include <stdio.h>
 #include <stdlib.h>
 #include <string.h>
 #include <time.h>
 
 #define MOST 32
-enum way { BAY, HANDLE, DESKS, CONDITION, MUTEXES, WAYS };
-static const char *const names[] = {"bay", "handle", "desks", "condition", "mutexes"};
+enum way { BAY, HANDLE, CONDITION, MUTEXES, WAYS };
+static const char *const names[] = {"bay", "handle", "condition", "mutexes"};
 enum { DISJOINT, RING, RANDOM, ALL_ONE, SHAPES };
 static const char *const shapes[] = {"disjoint", "ring", "random", "all one"};
 static const uint32_t counts[] = {2, 8, 32};
 
 static struct lab_bench bench;
 static struct lab_bay bay;
-static struct lab_desk desks[MOST];
-static atomic_uint retired; /* stations */
 static uint64_t bay_number, serial; /* of the last ask, and of what was told last */
 static pthread_mutex_t mutex = PTHREAD_MUTEX_INITIALIZER, locks[MOST];
 static pthread_cond_t came[MOST], freed = PTHREAD_COND_INITIALIZER;
@@ -164,33 +158,6 @@ static void by_bay(uint32_t me) {
     }
 }
 
-/* (What a station needs is at its neighbours' desks, who do something for it only in calls of their own: so it yields, and doesn't sleep.) */
-static void by_desk(uint32_t me) {
-    struct lab_turned turned;
-    uint32_t status;
-    for (long left = sessions; left; left--) {
-        double asked = asks();
-        while ((status = lab_desk_begin(&desks[me], 100, &turned)) == LAB_NOT_YET) sched_yield();
-        if (status != LAB_DONE) stop("lab_desk_begin", status);
-        holds_since(asked, me, left);
-        work();
-        while ((status = lab_desk_end(&desks[me], &turned)) == LAB_NOT_YET) sched_yield();
-        if (status != LAB_DONE) stop("lab_desk_end", status);
-    }
-}
-
-static void serve_the_others(uint32_t me) {
-    struct lab_turned turned;
-    uint32_t status;
-    while ((status = lab_desk_retire(&desks[me], 100, &turned)) == LAB_NOT_YET) sched_yield();
-    if (status != LAB_DONE) stop("lab_desk_retire", status);
-    atomic_fetch_add(&retired, 1);
-    while (atomic_load(&retired) < threads) {
-        if ((status = lab_desk_serve(&desks[me], &turned)) != LAB_DONE) stop("lab_desk_serve", status);
-        sched_yield();
-    }
-}
-
 static void by_condition(uint32_t me) {
     uint64_t mine = needs(me);
     for (long left = sessions; left; left--) {
@@ -221,7 +188,7 @@ static void by_mutexes(uint32_t me) {
     }
 }
 
-static void (*const by[])(uint32_t) = {by_bay, by_handle, by_desk, by_condition, by_mutexes};
+static void (*const by[])(uint32_t) = {by_bay, by_handle, by_condition, by_mutexes};
 static double begun[MOST], ended[MOST];
 
 static void *station(void *given) {
@@ -230,7 +197,6 @@ static void *station(void *given) {
     begun[me] = now();
     by[way](me);
     ended[me] = now();
-    if (way == DESKS) serve_the_others(me);
     return NULL;
 }
 
@@ -249,12 +215,9 @@ static void open_bench(void) {
             length += (size_t)sprintf(script + length, "end\n");
         }
     }
-    uint32_t status = way == DESKS ? lab_shared_open((const uint8_t *)script, length, &bench, &told)
-                                   : lab_bench_open((const uint8_t *)script, length, &bench, &told);
+    uint32_t status = lab_bench_open((const uint8_t *)script, length, &bench, &told);
     if (status != LAB_DONE) stop("open", status);
     free(script);
-    for (uint32_t job = 0; way == DESKS && job < threads; job++)
-        if ((status = lab_take_desk(&bench, job, &desks[job])) != LAB_DONE) stop("lab_take_desk", status);
 }
 
 static void open_bay(void) {
@@ -270,15 +233,12 @@ static void close_bench(void) {
     struct lab_told told;
     struct lab_turned turned;
     uint8_t none[1];
-    for (uint32_t job = 0; job < threads; job++)
-        if (way == DESKS) lab_give_desk(&desks[job]);
-        else lab_retire(&bench, job, 1, &turned);
-    uint32_t (*const close)(struct lab_bench *, uint8_t *, size_t, struct lab_told *) = way == DESKS ? lab_shared_close : lab_bench_close;
-    uint32_t status = close(&bench, none, 0, &told);
+    for (uint32_t job = 0; job < threads; job++) lab_retire(&bench, job, 1, &turned);
+    uint32_t status = lab_bench_close(&bench, none, 0, &told);
     uint8_t *report = malloc(told.written + 1);
-    if (status != LAB_NO_ROOM || !report || (status = close(&bench, report, told.written, &told)) != LAB_DONE) stop("close", status);
+    if (status != LAB_NO_ROOM || !report || (status = lab_bench_close(&bench, report, told.written, &told)) != LAB_DONE) stop("close", status);
     free(report);
-    (way == DESKS ? lab_shared_free : lab_bench_free)(&bench);
+    lab_bench_free(&bench);
 }
 
 /* The seconds from the first station's first session to the last one's last. */
@@ -286,9 +246,8 @@ static double timed(void) {
     pthread_t each[MOST];
     uint32_t numbers[MOST];
     waiting = 0, taken = 0;
-    atomic_store(&retired, 0);
     if (way == BAY) open_bay();
-    if (way == HANDLE || way == DESKS) open_bench();
+    if (way == HANDLE) open_bench();
     pthread_barrier_init(&start, NULL, threads);
     for (uint32_t at = 0; at < threads; at++) {
         numbers[at] = at;
@@ -302,7 +261,7 @@ static double timed(void) {
     }
     pthread_barrier_destroy(&start);
     if (way == BAY) lab_bay_free(&bay);
-    if (way == HANDLE || way == DESKS) close_bench();
+    if (way == HANDLE) close_bench();
     return last - first;
 }
 
@@ -351,10 +310,10 @@ int main(int count, char **words) {
     }
     printf("sessions a second, best of %ld, %ld us of work each\n| shape | threads |", runs, microseconds);
     for (way = 0; way < WAYS; way++) printf(" %s |", names[way]);
-    printf(" bay / condition | desks / handle |");
+    printf(" bay / condition |");
     for (way = 0; way < WAYS; way++) printf(" %s: waits |", names[way]);
-    printf("\n|%s\n", "---|---|---|---|---|---|---|---|---|---|---|---|---|---|");
-    struct share bays = {0, 1e9, 0}, all_desks = bays;
+    printf("\n|%s\n", "---|---|---|---|---|---|---|---|---|---|---|");
+    struct share bays = {0, 1e9, 0};
     for (shape = 0; shape < SHAPES; shape++)
         for (int row = 0; row < 3; row++) {
             double best[WAYS] = {0};
@@ -369,12 +328,11 @@ int main(int count, char **words) {
                 }
             printf("| %s | %u |", shapes[shape], threads);
             for (way = 0; way < WAYS; way++) printf(" %.0f |", best[way]);
-            printf(" %.3f | %.2f |", add_share(&bays, best[BAY] / best[CONDITION]), add_share(&all_desks, best[DESKS] / best[HANDLE]));
+            printf(" %.3f |", add_share(&bays, best[BAY] / best[CONDITION]));
             for (way = 0; way < WAYS; way++) tell_waits();
             printf("\n");
             fflush(stdout);
         }
     tell_share("the bay beside the condition variable", &bays);
-    tell_share("the desks beside the handle", &all_desks);
     return 0;
 }

@@ -16,8 +16,6 @@
 #define SECONDS 20
 
 static struct lab_bench bench;
-static struct lab_bench shared;
-static struct lab_desk desks[JOBS];
 static char script[4096];
 static pthread_mutex_t mutex = PTHREAD_MUTEX_INITIALIZER;
 static atomic_long took, waited;
@@ -146,69 +144,6 @@ static void opened_at_once(size_t length) {
     }
 }
 
-/* ---- desks that are taken at once, and two threads at one desk */
-
-static void *gives(void *number) {
-    uint32_t job = (uint32_t)(size_t)number;
-    IS(lab_give_desk(&desks[job]) == LAB_DONE);
-    return NULL;
-}
-
-static void *its_own_turns(void *number) {
-    uint32_t job = (uint32_t)(size_t)number, status;
-    struct lab_turned turned;
-    while ((status = lab_take_desk(&shared, job, &desks[job])) == LAB_BUSY) sched_yield();
-    IS(status == LAB_DONE);
-    for (int call = 0; call < 100; call++) IS(lab_desk_turn(&desks[job], &turned) == LAB_DONE);
-    return NULL;
-}
-
-static void desks_at_once(size_t length) {
-    static uint8_t report[65536];
-    struct lab_told told;
-    pthread_t threads[JOBS];
-    IS(lab_shared_open((const uint8_t *)script, length, &shared, &told) == LAB_DONE);
-    for (int times = 0; times < 20; times++) {
-        spawn(its_own_turns, threads, JOBS);
-        join(threads, JOBS);
-        spawn(gives, threads, JOBS);
-        join(threads, JOBS);
-    }
-    uint32_t status = lab_shared_close(&shared, report, sizeof report, &told);
-    IS((status == LAB_DONE || status == LAB_UNFINISHED) && told.written > 0);
-    IS(lab_shared_free(&shared) == LAB_DONE);
-}
-
-static void *any_turns(void *number) {
-    struct lab_turned turned;
-    uint32_t job = (uint32_t)(size_t)number % 2;
-    for (int call = 0; call < CALLS; call++) {
-        uint32_t status = lab_desk_turn(&desks[job], &turned);
-        if (status == LAB_DONE) atomic_fetch_add(&took, 1);
-        else IS(status == LAB_BUSY);
-    }
-    return NULL;
-}
-
-static void two_at_a_desk(size_t length) {
-    struct lab_told told;
-    struct lab_state state;
-    pthread_t threads[4];
-    uint64_t turns = 0;
-    took = 0;
-    IS(lab_shared_open((const uint8_t *)script, length, &shared, &told) == LAB_DONE);
-    for (uint32_t job = 0; job < 2; job++) IS(lab_take_desk(&shared, job, &desks[job]) == LAB_DONE);
-    spawn(any_turns, threads, 4);
-    join(threads, 4);
-    for (uint32_t job = 0; job < 2; job++) {
-        IS(lab_desk_state(&desks[job], &state) == LAB_DONE);
-        turns += state.turns;
-        IS(lab_give_desk(&desks[job]) == LAB_DONE);
-    }
-    IS(turns == (uint64_t)took);
-    IS(lab_shared_free(&shared) == LAB_DONE);
-}
-
 /* ---- a signal handler */
 
 static volatile sig_atomic_t handled, refused, wrong;
@@ -248,8 +183,6 @@ int main(void) {
     without_a_mutex(length);
     freed_meanwhile(length);
     opened_at_once(length);
-    desks_at_once(length);
-    two_at_a_desk(length);
     in_a_handler(length);
     return summary();
 }

@@ -1,4 +1,4 @@
-"""The calls of labrun.h on handles, for tests in Python (labs.py, late.py, journals.py, benches.py, desks.py)."""
+"""The calls of labrun.h on handles, for tests in Python (labs.py, late.py, journals.py, benches.py)."""
 import ctypes
 import importlib
 import os
@@ -29,20 +29,20 @@ class Outside(ctypes.Structure):
 
 
 C = package()
-TURNED = ["turn", "serve", "serve_others", "begin", "end", "retire", "desk_turn", "desk_serve", "desk_begin", "desk_end", "desk_retire"]
+TURNED = ["turn", "serve", "serve_others", "begin", "end", "retire"]
 # what each call tells in a struct; the others of these tell nothing
 TELLS = {
     **dict.fromkeys(TURNED, C.Turned),
-    **dict.fromkeys(["command", "desk_command"], C.Entered),
-    **dict.fromkeys(["state", "desk_state"], C.State),
-    **dict.fromkeys(["bench_size", "shared_size"], C.Size),
+    "command": C.Entered,
+    "state": C.State,
+    "bench_size": C.Size,
     "session_of": C.SessionOf,
     "planned": C.Planned,
     "keepers": Keepers,
     "outside": Outside,
     "settle": C.Came,
 }
-SILENT = ["overtakes", "withdraw", "bench_free", "take_desk", "give_desk", "desk_withdraw", "shared_free"]
+SILENT = ["overtakes", "withdraw", "bench_free"]
 ANSWERS = {kind: namedtuple(kind.__name__, ["status", *(name for name, _ in kind._fields_)]) for kind in (C.Told, *TELLS.values())}
 UNTOLD = 9
 WROTE = (0, 3)
@@ -94,7 +94,7 @@ def put(room, name, *given):
 
 
 class Handle(C.Handle):
-    """A `struct lab_bench`, or a `struct lab_desk`, which has the same fields. `it.settle(3)` is `lab_settle(it, 3, ..)`: each call answers
+    """A `struct lab_bench`. `it.settle(3)` is `lab_settle(it, 3, ..)`: each call answers
     its status, and what it told behind it."""
 
     def __getattr__(self, name):
@@ -145,7 +145,7 @@ class Test(unittest.TestCase):
         it = Handle()
         self.same(it.opens(name, text).status, 0)
         self.same(it.opens(name, text), (11, 9, 9, 9))
-        self.addCleanup(it.shared_free if "shared" in name else it.bench_free)
+        self.addCleanup(it.bench_free)
         return it
 
 

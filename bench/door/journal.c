@@ -1,5 +1,5 @@
 /* journal.c: a bench that keeps its steps. Its journal is taken piece by piece, and from it the bench comes back: from each prefix that
-   has the line `steps`, as from a file that a dying process was writing. A bench of desks goes on from it, too.
+   has the line `steps`, as from a file that a dying process was writing.
    cc -I include bench/door/journal.c FOLDER/liblabrun.a */
 #include "poison.h"
 
@@ -62,16 +62,6 @@ static void resumes(void) {
     uint32_t status = lab_bench_resume(file, length, &other, &told);
     expect(status == LAB_DONE && told.written == length && told.line == 0 && told.cause == 0, "resume: status %u, line %zu, cause %u", status,
            told.line, told.cause);
-}
-
-static struct lab_bench shared;
-static struct lab_desk desks[3];
-
-static void shares(size_t cut) {
-    struct lab_told told = {77, 77, 77};
-    uint32_t status = lab_shared_resume(file, cut, &shared, &told);
-    expect(status == LAB_DONE && told.written == whole_lines(cut) && told.line == 0 && told.cause == 0, "with desks: status %u, line %zu, cause %u",
-           status, told.line, told.cause);
 }
 
 static void not_kept(void) {
@@ -242,10 +232,9 @@ static void goes_on(void) {
     IS(lab_state(&bench, 1, &state) == LAB_DONE && state.sessions == 2 && state.sessions_done == 2);
 }
 
-/* The bench that comes back has them, from each prefix of the file; and so has a bench of desks. */
+/* The bench that comes back has them, from each prefix of the file. */
 static void come_back(void) {
     struct lab_session session;
-    struct lab_state state;
     resumes();
     IS(same_lab(&bench, &other) && take(&other) == 0);
     IS(lab_session_of(&other, 1, 2, &session) == LAB_DONE && session.commands == 1 && session.patience == 5 && session.has_patience == 1);
@@ -253,10 +242,6 @@ static void come_back(void) {
     lab_bench_free(&other);
     goes_on();
     torn();
-    shares(length);
-    IS(lab_take_desk(&shared, 0, &desks[0]) == LAB_DONE && lab_desk_state(&desks[0], &state) == LAB_DONE);
-    IS(state.sessions == 3 && state.sessions_done == 3 && lab_give_desk(&desks[0]) == LAB_DONE);
-    IS(lab_shared_free(&shared) == LAB_DONE);
     lab_bench_free(&bench);
 }
 
@@ -313,53 +298,23 @@ static void in_hand(void) {
     lab_bench_free(&other);
 }
 
-/* ---- with desks */
-
-/* The report of a bench of desks that was resumed is that of a replay, if nothing is done at its desks: from some lengths of the file. */
-static void closes_as_replayed(void) {
+/* A bench that came back from a file that was cut is closed with the report of a replay: from some lengths of the file. */
+static void closed_as_replayed(void) {
+    static const char steps[] = "look a b\nthirst a\ndrink a\nreach a\nact a\nthirst b\naskbottles b a scale\n";
     static uint8_t report[65536], again[65536];
     struct lab_told told, told_again;
-    for (size_t cut = head; cut <= length; cut += 9) {
-        if (memcmp(file + whole_lines(cut) - 8, "reach a\n", 8) == 0) continue; /* (its command is done on the way back) */
-        shares(cut);
-        uint32_t status = lab_shared_close(&shared, report, sizeof report, &told);
-        uint32_t status_again = lab_replay(file, whole_lines(cut), again, sizeof again, &told_again);
-        expect(status == status_again && told.written == told_again.written && memcmp(report, again, told.written) == 0,
-               "with desks from %zu bytes: status %u and %u", cut, status, status_again);
-        IS(lab_shared_free(&shared) == LAB_DONE);
-    }
-}
-
-/* A journal at whose end job a holds, and job b waits: their desks go on from there to the end. */
-static void with_desks(void) {
-    static uint8_t report[65536];
-    static const char steps[] = "look a b\nthirst a\ndrink a\nreach a\nact a\nthirst b\naskbottles b a scale\n";
-    static const char logs[] = "lab 2\ninstrument scale 3\na 1 1/2 add 1 = 1\na 1 2/2 read = 1\nb 1 1/1 add 2 = 3\ninstrument lamp 2\n"
-                               "a 1 1/1 set 7 = 7\na 2 1/1 read = 7\njob a sessions 2 of 2 withdrawn 0 meals ";
-    struct lab_state state;
-    struct lab_turned turned;
-    struct lab_told told;
-    int retired = 0;
     begin_file(two);
     memcpy(file + length, steps, sizeof steps - 1);
     length += sizeof steps - 1;
-    closes_as_replayed();
-    shares(length);
-    IS(lab_shared_resume(file, length, &shared, &told) == LAB_IN_USE && lab_settle(&shared, 7, &out.came) == LAB_NOT_OPEN);
-    for (uint32_t job = 0; job < 3; job++) IS(lab_take_desk(&shared, job, &desks[job]) == LAB_DONE);
-    IS(lab_desk_state(&desks[0], &state) == LAB_DONE && state.drinking == 2 && state.session == 1 && state.position == 1);
-    IS(lab_desk_state(&desks[1], &state) == LAB_DONE && state.drinking == 1 && state.session == 1);
-    IS(lab_desk_end(&desks[0], &turned) == LAB_DONE);
-    IS(lab_desk_begin(&desks[1], 9, &turned) == LAB_DONE && lab_desk_end(&desks[1], &turned) == LAB_DONE);
-    IS(lab_desk_begin(&desks[0], 9, &turned) == LAB_DONE && lab_desk_end(&desks[0], &turned) == LAB_DONE);
-    for (uint32_t job = 0; job < 3; job++) retired += lab_desk_retire(&desks[job], 9, &turned) == LAB_DONE;
-    IS(retired == 3);
-    for (uint32_t job = 0; job < 3; job++) IS(lab_give_desk(&desks[job]) == LAB_DONE);
-    IS(lab_shared_close(&shared, report, sizeof report, &told) == LAB_DONE && memcmp(report, logs, sizeof logs - 1) == 0);
-    IS(lab_shared_free(&shared) == LAB_DONE);
-    /* what is refused is refused with its line, and leaves the handle empty */
-    memcpy(file + length, "drink c\n", 8);
-    IS(lab_shared_resume(file, length + 8, &shared, &told) == LAB_REFUSED && told.line == 24 && shared.live == 0);
+    for (size_t cut = head; cut <= length; cut += 9) {
+        if (memcmp(file + whole_lines(cut) - 8, "reach a\n", 8) == 0) continue; /* (its command is done on the way back) */
+        IS(lab_bench_resume(file, cut, &other, &told) == LAB_DONE && told.written == whole_lines(cut));
+        uint32_t status = lab_bench_close(&other, report, sizeof report, &told);
+        uint32_t status_again = lab_replay(file, whole_lines(cut), again, sizeof again, &told_again);
+        expect(status == status_again && told.written == told_again.written && memcmp(report, again, told.written) == 0,
+               "from %zu bytes: status %u and %u", cut, status, status_again);
+        IS(lab_bench_free(&other) == LAB_DONE);
+    }
 }
 
 /* A bench whose journal nobody takes says so in time, and goes on once it is taken. */
@@ -418,7 +373,7 @@ int main(void) {
     come_back();
     come_wrong();
     in_hand();
-    with_desks();
+    closed_as_replayed();
     full();
     return summary();
 }

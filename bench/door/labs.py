@@ -51,6 +51,17 @@ class Labs(Test):
         self.same(bench.session_of(1, 1), (0, 1, 1, 1, 1))
         self.same(bench.planned(0, 1, 1), (0, 0, 2, 0))
 
+    def test_not_zeroed(self):
+        """A handle that wasn't zeroed isn't open, and isn't empty: nobody fills it, and nobody frees what it seems to have."""
+        for fill in (b"\x01", b"\xa5", b"\xff"):
+            bench = Handle.from_buffer_copy(fill * 16)
+            self.same(bench.turn(0), (7, 9, 9))
+            self.same(bench.closes("bench_close"), (7, b""))
+            self.same(bench.bench_free(), 7)
+            for name in ("bench_open", "bench_open_kept", "bench_resume"):
+                self.same(bench.opens(name, PATIENT), (11, 9, 9, 9))
+            self.same(bytes(bench), fill * 16)
+
     def test_names_the_line(self):
         bench = Handle()
         came = bench.opens("bench_open", b"lab 1\njob a\nnonsense\n")

@@ -1,10 +1,10 @@
-/* What can be seen of a bench from outside: whether its handle and those of its desks are in use, and each job's state. */
+/* What can be seen of a bench from outside: whether its handle is in use, and each job's state. */
 #ifndef LOOKS_H
 #define LOOKS_H
 #include "scripts.h"
 
 struct seen {
-    uint64_t live, desks[MOST_JOBS];
+    uint64_t live;
     uint32_t status[MOST_JOBS];
     struct lab_state states[MOST_JOBS];
 };
@@ -13,15 +13,6 @@ static inline void look_at_bench(struct seen *seen, struct lab_bench *bench) {
     memset(seen, 0, sizeof *seen);
     seen->live = bench->live;
     for (uint32_t job = 0; job < MOST_JOBS; job++) seen->status[job] = lab_state(bench, job, &seen->states[job]);
-}
-
-static inline void look_at_desks(struct seen *seen, struct lab_bench *shared, struct lab_desk *desks) {
-    memset(seen, 0, sizeof *seen);
-    seen->live = shared->live;
-    for (uint32_t job = 0; job < MOST_JOBS; job++) {
-        seen->desks[job] = desks[job].live;
-        seen->status[job] = lab_desk_state(&desks[job], &seen->states[job]);
-    }
 }
 
 static inline int is_same(const struct seen *before, const struct seen *after) { return memcmp(before, after, sizeof *before) == 0; }

@@ -1,4 +1,4 @@
-"""Looks at the reports that threads.c and desks.c left, each with its script, by what must be true of every run (bench/check_report.py).
+"""Looks at the reports that threads.c left, each with its script, by what must be true of every run (bench/check_report.py).
 reports.py FOLDER"""
 import glob
 import os

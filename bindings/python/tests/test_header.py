@@ -19,8 +19,8 @@ STRUCTURES = {
     "entry": (_library.Entered, "Entered"),
     "planned": (_library.Planned, "Planned"),
 }
-# The handle of a desk, and what a bench of a script doesn't ask here: who keeps an instrument, and who waits outside.
-NOT_HERE = {"desk", "keepers", "outside"}
+# What a bench of a script doesn't ask here: who keeps an instrument, and who waits outside.
+NOT_HERE = {"keepers", "outside"}
 # Each status by its name in the header, with what the packages call it if they call it otherwise.
 STATUSES = {
     "REFUSED": "REFUSED",
