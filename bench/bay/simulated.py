@@ -108,7 +108,8 @@ class Machine:
         if it is None:
             return None
         serial, number, what = it
-        return Told(serial, number, WHAT.index(what), next((one.needs for one in self._bay.asks if one.number == number), 0))
+        needs = next((one.needs for one in self._bay.asks if one.number == number), 0)
+        return Told(serial, number, needs, WHAT.index(what))
 
     # who looks on
 

@@ -26,7 +26,7 @@ const OPEN_MARK: u64 = 0x6c61_6272_756e_3031;
 /// A handle that a call is made on: "lab_busy".
 const BUSY_MARK: u64 = 0x6c61_625f_6275_7379;
 
-/// In C: `struct lab_bench { void *at; uint64_t live; };`, and `struct lab_desk` with the same fields, at first all zero.
+/// In C: `struct lab_bay { void *at; uint64_t live; };`, at first all zero.
 #[repr(C)]
 #[derive(Drop)]
 pub struct Handle {
