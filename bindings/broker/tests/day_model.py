@@ -211,10 +211,13 @@ class Rules:
         return True
 
     def _is_there(self, session: Session, is_new: bool = False) -> None:
-        if session.state == "gone" or is_new:
+        was_gone = session.state == "gone"
+        if was_gone or is_new:
             self.line.back(session.number, owner_of(session.ticket), self.now)
             session.state, session.gone_at = "holding", None
-            self._record("back", session)
+            # (a second connection may come before it is seen that the first one ended: nobody was gone)
+            if was_gone:
+                self._record("back", session)
             self.follows()
 
     def ping(self, stream: Stream, at: float) -> None:
