@@ -78,20 +78,24 @@ static int file_sync_name(const char *path) {
     return is_done;
 }
 
+/* The text stands there, if not on the disk yet. */
+static int file_put(const struct shell_file *it, const uint8_t *text, size_t length, uint64_t place) {
+    for (size_t at = 0; at < length;) {
+        ssize_t wrote = pwrite(it->file, text + at, length - at, (off_t)(place + at));
+        if (wrote < 0 && errno == EINTR) continue;
+        if (wrote <= 0) return 0;
+        at += (size_t)wrote;
+    }
+    return 1;
+}
+
 /* The text is behind the others, and on the disk. If that fails, the file is cut back to what it had: whoever reads it finds nothing that
    was refused, and nothing new is written behind half a line. (If the cut fails too, it comes before the next text.) */
 static int file_add(struct shell_file *it, const uint8_t *text, size_t length) {
     if (it->is_torn && !file_cut(it, it->length)) return 0;
-    size_t at = 0;
-    while (at < length) {
-        ssize_t wrote = pwrite(it->file, text + at, length - at, (off_t)(it->length + at));
-        if (wrote < 0 && errno == EINTR) continue;
-        if (wrote <= 0) break;
-        at += (size_t)wrote;
-    }
     /* (after an fsync that fails nobody knows what is on the disk, and a second one would say that all is well: so the same text is written
        again) */
-    if (at < length || !file_sync(it)) {
+    if (!file_put(it, text, length, it->length) || !file_sync(it)) {
         file_cut(it, it->length);
         return 0;
     }

@@ -9,6 +9,8 @@ from typing import Protocol
 
 from ._faults import JournalError
 
+PART = 1 << 20  # bytes
+
 
 class Store(Protocol):
     """The text is written by one thread, from its beginning on, in the order in which the bay hands it out."""
@@ -52,7 +54,7 @@ class FileStore:
             self.close()
             raise JournalError(self.path, "another process has it open") from None
         self._length = os.fstat(self._file).st_size
-        self._is_torn = False
+        self._is_torn, self._is_known = False, False
 
     def text(self) -> bytes:
         parts, at = [], 0
@@ -69,8 +71,18 @@ class FileStore:
         self._length, self._is_torn = length, False
         if self._syncs:
             # what a process wrote just before it was killed may be in memory alone, and its name may be, too
+            if not self._is_known:
+                self._writes_again()
             os.fsync(self._file)
             self._syncs_folder()
+            self._is_known = True
+
+    def _writes_again(self) -> None:
+        """What was found in the file. (If a sync failed before its process was killed, the system may take for written what isn't on the disk:
+        then a sync alone would say that all is well.)"""
+        at = 0
+        while at < self._length and (part := os.pread(self._file, min(PART, self._length - at), at)):
+            at += os.pwrite(self._file, part, at)
 
     def append(self, text: bytes) -> None:
         if self._is_torn:

@@ -51,6 +51,11 @@ impl Kept {
     pub fn begin(&mut self, path: &Path, length: u64) -> io::Result<()> {
         self.cut(length)?;
         if self.syncs {
+            // (if a sync failed before its process was killed, the system may take for written what isn't on the disk: then a sync alone
+            // would say that all is well)
+            let mut text = vec![0; length as usize];
+            self.file.read_exact_at(&mut text, 0)?;
+            self.file.write_all_at(&text, 0)?;
             self.file.sync_data()?;
             let folder = path.parent().filter(|it| !it.as_os_str().is_empty()).unwrap_or(Path::new("."));
             File::open(folder)?.sync_all()?;
