@@ -282,7 +282,8 @@ class Day:
         def does() -> None:
             stream.is_cut = True
             stream.sends(grpc.aio.EOF) if says_so else stream.task.cancel()
-            if self.rules.grace is not None and (it := stream.rules.session) is not None and not it.pings:
+            # (a client that never said that it is there holds for the grace from when its stream ended; whoever pings once has a lease)
+            if self.rules.grace is not None and (it := stream.rules.session) is not None and not it.pings and it.heard_at is None:
                 self.believes[it.number] = self.halves / 2 + self.rules.grace
 
         self.goes(does, lambda: self.rules.is_cut(stream.rules, says_so))
@@ -344,7 +345,7 @@ class Day:
             self.believes.pop(session.number, None)
         elif session is not None and kind == "gone":
             self._has_let_go(session.number)
-        elif session is not None and (kind == "noted" or kind == "pong" and its.holds) and session.pings:
+        elif session is not None and (kind == "noted" or kind == "pong" and its.holds) and (session.pings or session.heard_at is not None):
             self.believes[session.number] = stream.sent[kind] + LEASE * (self.rules.grace or math.inf)
         if kind == "noted":
             self._is_noted(stream)
