@@ -11,6 +11,7 @@ inline std::function<void()> meanwhile;            // what happens before one fa
 inline std::atomic<bool> is_hanging{false};        // a sync doesn't come back as long as this is so
 inline std::atomic<int> syncs{0}, folder_syncs{0}; // how many there were
 inline std::atomic<int> sync_takes{0};             // microseconds
+inline std::atomic<std::size_t> bytes_written{0};
 
 inline void disk(long first, long last) {
     last_bad = 0;
@@ -40,6 +41,7 @@ ssize_t pwrite(int file, const void *text, std::size_t length, off_t place) {
     const bool bad = is_bad();
     const ssize_t wrote = syscall(SYS_pwrite64, file, text, bad ? length / 2 : length, place);
     if (bad) errno = ENOSPC;
+    else bytes_written += length;
     return bad ? -1 : wrote;
 }
 int ftruncate(int file, off_t length) noexcept { return is_bad() ? -1 : static_cast<int>(syscall(SYS_ftruncate, file, length)); }

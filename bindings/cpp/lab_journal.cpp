@@ -407,9 +407,12 @@ static void what_is_synced() {
             held.finish();
             expect("an end", (syncs > 0) == does);
         }
+        const std::size_t found = written().size();
         syncs = folder_syncs = 0;
+        bytes_written = 0;
         const lab bay(BAY, options(how));
         expect("what was read, and the name", (syncs > 0) == does && (folder_syncs > 0) == does);
+        expect("what was read is written again", bytes_written == (does ? found : 0));
     }
 }
 

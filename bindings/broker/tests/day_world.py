@@ -204,8 +204,7 @@ class Disk:
             self.names = dict(self.names if share < 0.5 and set(self.names) >= set(self.kept_names) else self.kept_names)
             for it in self.names.values():
                 it.cache = it.kept = it.after_power_cut(share)
-        for it in self.names.values():
-            it.lost = None
+                it.lost = None
         self.open_files, self._stuck, self.is_dead, self.kill_in_callbacks, self.kill_in_calls = {}, [], False, None, None
         self.acked, self.mode, self.tried = b"", "sound", set()
 
@@ -252,6 +251,8 @@ class Disk:
 
         def writes(length: int) -> int:
             file.cache = file.cache[:place] + text[:length] + file.cache[place + length :]
+            if file.lost is not None and place <= file.lost[0] and file.lost[1] <= place + length:
+                file.lost = None
             return length
 
         if self.mode == "full" and len(text) < 40:

@@ -15,6 +15,7 @@ from typing import Any, Callable
 from unittest import mock
 
 import labrun
+from labrun.store import FileStore
 from tests.labs import NAMES, STATIONS, OnFile, are_gone, full, threads_since
 from tests.test_bench import LIMIT, back, child, in_thread, until
 
@@ -22,6 +23,7 @@ from tests.test_bench import LIMIT, back, child, in_thread, until
 KILLED = """
 import os, signal, sys, threading
 import labrun
+from labrun.store import FileStore
 from labrun import store
 
 count, at, path = [0], int(sys.argv[2]), sys.argv[1]
@@ -115,6 +117,40 @@ class InTheFile(OnFile):
             lab.close()
             os.remove(self.path)
             self.assertEqual(number.state, "new")
+
+    def test_found_is_written_again(self) -> None:
+        """A sync that failed before the process was killed may leave bytes that the system takes for written, and that no later sync brings to
+        the disk: so whoever opens the file writes all of them again, and then syncs."""
+        lab = self.opened()
+        self.held(lab, "", "scope")
+        kept, calls = self.text(), list[tuple[str, int, bytes]]()
+        path = self.path + "-copy"
+        with open(path, "wb") as copy:
+            copy.write(kept)
+        real = os.pwrite, os.fsync
+
+        def writes(file: int, text: bytes, place: int) -> int:
+            calls.append(("write", place, bytes(text)))
+            return real[0](file, text, place)
+
+        def syncs(file: int) -> None:
+            calls.append(("sync", 0, b""))
+            real[1](file)
+
+        with mock.patch("os.pwrite", writes), mock.patch("os.fsync", syncs):
+            store = FileStore(path)
+            store.cut(len(kept) - 1)
+            # (a cut after a write that failed has nothing to find)
+            store.cut(len(kept) - 2)
+            store.close()
+        self.assertEqual(calls[:2], [("write", 0, kept[:-1]), ("sync", 0, b"")])
+        self.assertEqual([it[0] for it in calls], ["write", "sync", "sync", "sync", "sync"])
+        with mock.patch("os.pwrite", writes):
+            calls.clear()
+            store = FileStore(path, syncs=False)
+            store.cut(len(kept) - 2)
+            store.close()
+        self.assertEqual(calls, [])
 
     def test_folder(self) -> None:
         """A new file's folder is synced before the open returns; and what is read is synced before anybody is told."""

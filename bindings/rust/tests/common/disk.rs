@@ -2,7 +2,7 @@
 //! is.
 use std::ffi::{c_int, c_void};
 use std::path::PathBuf;
-use std::sync::atomic::{AtomicBool, AtomicU32, Ordering::SeqCst};
+use std::sync::atomic::{AtomicBool, AtomicU32, AtomicUsize, Ordering::SeqCst};
 use std::sync::Mutex;
 
 /// How many calls were made, and the first and the last that fail.
@@ -11,6 +11,8 @@ static FIRST: AtomicU32 = AtomicU32::new(0);
 static LAST: AtomicU32 = AtomicU32::new(0);
 /// A sync hangs as long as this is so.
 pub static HANGS: AtomicBool = AtomicBool::new(false);
+/// How many bytes were written.
+pub static WRITTEN: AtomicUsize = AtomicUsize::new(0);
 /// What was synced by `fsync`; and what the file had that was synced last by `fdatasync`.
 pub static SYNCED: Mutex<Vec<PathBuf>> = Mutex::new(Vec::new());
 pub static DURABLE: Mutex<String> = Mutex::new(String::new());
@@ -51,6 +53,7 @@ fn path(file: c_int) -> PathBuf {
 #[no_mangle]
 unsafe extern "C" fn pwrite64(file: c_int, text: *const c_void, length: usize, place: i64) -> isize {
     if !is_bad() {
+        WRITTEN.fetch_add(length, SeqCst);
         return unsafe { pwrite(file, text, length, place) };
     }
     unsafe { pwrite(file, text, length / 2, place) };
