@@ -75,10 +75,12 @@ function drawStuck() {
   if (long) stuck.push(long);
   const most = WALL ? WALL_ALARMS : stuck.length, boxes = stuck.slice(0, most).map(alarmOf);
   if (stuck.length > most) boxes.push(make("div", "alarm gone", `and ${stuck.length - most} more`));
-  $("stuck").replaceChildren(...(boxes.length ? boxes : [make("div", "alarm fine", "Nothing is stuck.")]));
+  // (what is wrong with the disk stands above, and keeps everybody)
+  const fine = status.disk ? "" : "Nothing is stuck.";
+  $("stuck").replaceChildren(...(boxes.length || !fine ? boxes : [make("div", "alarm fine", fine)]));
   // (who listens to the page hears it when it changes, and not each second)
   const texts = stuck.map(it => `${it.name} ${it.state === "gone" ? "is gone, and still holds" : "holds for long, and is waited for:"} ${it.instruments.join(", ")}`);
-  say("told", texts.join(". ") || "Nothing is stuck.");
+  say("told", texts.join(". ") || fine);
 }
 function say(where, text) {
   if ($(where).textContent !== text) $(where).textContent = text;
@@ -136,7 +138,7 @@ function drawNow() {
   const all = [...waiting.map(it => () => chainOf(it)), ...(status.in_line || []).map(it => () => inLineOf(it))], most = WALL ? WALL_WAITS : all.length;
   const chains = all.slice(0, most).map(it => it());
   if (all.length > most) chains.push(make("div", "chain soft", `and ${all.length - most} more`));
-  $("waits").replaceChildren(...(chains.length ? chains : [make("div", "soft", "Nobody waits.")]));
+  $("waits").replaceChildren(...(chains.length ? chains : [make("div", "soft", status.disk ? "Nobody waits for another." : "Nobody waits.")]));
 }
 function rowHeight() {
   // on a wall all rows are seen, unless they would be too low to be read: then the page is higher than the screen

@@ -212,8 +212,15 @@ class Browser(unittest.TestCase):
         self.web.keeping.disk = "a write failed (No space left on device)"
         self.do("hold", "board", "scope")
         self.seen("#disk", lambda text: text == "The broker can't write: a write failed (No space left on device). Nobody comes to hold until it can.")
+        # and nothing beside it says that all is well
+        self.assertEqual((self.text("#stuck"), self.text("#told"), self.text("#waits")), ("", "", "Nobody waits for another."))
+        self.do("gone", "board")
+        self.seen("#stuck", lambda text: "board has been gone for" in text)
+        self.do("back", "board")
+        self.seen("#stuck", lambda text: text == "")
         self.web.keeping.disk = ""
         self.seen("#disk", lambda text: text == "", 8.0)
+        self.assertEqual((self.text("#stuck"), self.text("#told"), self.text("#waits")), ("Nothing is stuck.", "Nothing is stuck.", "Nobody waits."))
         self.assertFalse(self.browser.execute_script("return document.querySelector('#disk').checkVisibility()"))
 
     def test_what_is_simulated_says_so(self) -> None:
