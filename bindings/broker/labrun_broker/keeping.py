@@ -387,9 +387,9 @@ class Keeping:
     def status(self) -> dict[str, Any]:
         return Standings(self).status()
 
-    def disk_fault(self) -> str:
-        """What is wrong with the disk; mostly nothing."""
-        return self._shell.is_wrong()
+    def disk_fault(self) -> tuple[str, Optional[int]]:
+        """What is wrong with the disk, mostly nothing, and since when."""
+        return self._shell.is_wrong(), self._shell.wrong_since
 
     @property
     def write_failures(self) -> int:

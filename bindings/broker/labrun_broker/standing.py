@@ -134,7 +134,7 @@ class Standings:
     def why(self, session: Session) -> str:
         """The same as a text; also if there is no place, or the disk keeps it waiting."""
         if self._holds(session):
-            wrong = self._keeping.disk_fault()
+            wrong, _ = self._keeping.disk_fault()
             return "it is its turn, and it holds once that is on the disk" + (f" ({wrong})" if wrong else "")
         if self.is_full(session.kind):
             return self._is_taken(session)
@@ -180,7 +180,7 @@ class Standings:
     # the whole
 
     def status(self) -> dict[str, Any]:
-        keeping = self._keeping
+        keeping, (wrong, wrong_since) = self._keeping, self._keeping.disk_fault()
         rows, in_line = self._rows()
         waiting = collections.defaultdict[int, list[str]](list)
         for session, _ in self.waiters:
@@ -196,6 +196,8 @@ class Standings:
             "sessions": keeping.sessions,
             "refusals": keeping.refusals,
             "version": 2,
+            "disk": wrong,
+            "disk_since": self.when(wrong_since),
         }
 
     def _instrument(self, name: str, waiting: dict[int, list[str]]) -> dict[str, Any]:

@@ -85,9 +85,6 @@ class Keeping:
     def recent(self) -> list[Record]:
         return recent_records(self.state) if self.state else []
 
-    def disk_fault(self) -> str:
-        return self.disk
-
     def status(self) -> Record:
         stations = [{**it, "waits_for": self._waits_for(it)} for it in self.stations.values()]
         rows = []
@@ -96,7 +93,7 @@ class Keeping:
             waiting = [it["name"] for it in stations if name in it["instruments"] and it["state"] == "waiting"]
             rows.append({"name": name, "holder": holder and holder["name"], "since": holder and holder["since"], "waiting": waiting})
         about: Record = {"bay": self.name, "at": self._t(), "since": self.since}
-        return {**about, "instruments": rows, "stations": stations}
+        return {**about, "instruments": rows, "stations": stations, "disk": self.disk}
 
     async def changes(self) -> AsyncIterator[None]:
         wake = asyncio.Event()

@@ -285,11 +285,14 @@ class Hanging(OnFolder):
         with mock.patch("os.fdatasync", fdatasync):
             asks = list[Session]()
             waits = asyncio.create_task(keeping.hold(Wish(("scope",), station="board"), owner, asks.append))
-            begun = time.monotonic()
+            begun, began = time.monotonic(), time.time()
             with self.assertRaisesRegex(labrun.JournalError, "it isn't on the disk after 0.5 s: the disk doesn't answer"):
                 await keeping.hold(Wish(("supply",), timeout=0), owner)
             self.assertLess(time.monotonic() - begun, 5)
             self.assertEqual(Standings(keeping).why(asks[0]), "it is its turn, and it holds once that is on the disk (the disk doesn't answer)")
+            status = keeping.status()
+            self.assertEqual(status["disk"], "the disk doesn't answer")
+            self.assertLess(abs(status["disk_since"] - began), 1)
             self.assertRegex(said[0], "bay.journal: the disk doesn't answer: nobody is told that it holds until it does$")
             may.set()
             self.assertEqual((await asyncio.wait_for(waits, LIMIT)).name, "board")
@@ -411,6 +414,24 @@ class FullDisk(OnFolder):
         self.assertEqual(Standings(keeping).for_whom(asks[0])[:2], ([], why))
         self.breaks("")
         self.assertEqual((await waits).name, "board")
+
+    async def test_how_the_bay_stands(self) -> None:
+        """It says what is wrong with the disk, and since when, until that is mended."""
+        keeping = await self.on_disk()
+        told = lambda: (keeping.status()["disk"], keeping.status()["disk_since"])
+        self.assertEqual(told(), ("", None))
+        for how_it_breaks, why in (("full", "No space left on device"), ("fails", "Input/output error")):
+            self.breaks(how_it_breaks)
+            begun = time.time()
+            waits = asyncio.create_task(keeping.hold(Wish(("scope",), station="board"), self.owner))
+            await asyncio.sleep(0.5)
+            wrong, since = told()
+            self.assertEqual(wrong, f"a write failed ({why})")
+            self.assertLess(abs(since - begun), 0.3)
+            self.breaks("")
+            session = await waits
+            await keeping.let_go(session, self.owner)
+            self.assertEqual(told(), ("", None))
 
     async def test_who_lets_go(self) -> None:
         """It is answered at once, and who waits comes to hold once there is room."""
