@@ -15,8 +15,9 @@ from unittest import mock
 
 import labrun
 import labrun_broker
-from labrun_broker import shell
+from labrun_broker import records, shell
 from labrun_broker.keeping import Keeping
+from labrun_broker.past import read_past
 from labrun_broker.standing import Session, Standings
 from labrun_broker.wishes import Wish
 from tests.brokers import BAY, COMMAND, LIMIT, Broker, OnBroker
@@ -267,6 +268,19 @@ class Soon(OnFolder):
         await asyncio.sleep(0.01)
         self.assertEqual(self.whats(folder), ["opened", "asked", "held", "gone"])
 
+    async def test_as_soon_as_there_is_room(self) -> None:
+        """Nothing more happens, and they are written all the same."""
+        folder = self.folder()
+        self.enterContext(mock.patch.object(records, "AGAIN", 0.05))
+        keeping = await self.keeping(folder)
+        with mock.patch("os.write", side_effect=OSError(28, "No space left on device")) as write:
+            await keeping.hold(Wish(("scope",), station="radio"), Owner())
+            await asyncio.sleep(0.2)
+        self.assertGreaterEqual(write.call_count, 3)
+        self.assertEqual(self.whats(folder), [])
+        await asyncio.sleep(0.1)
+        self.assertEqual(self.whats(folder), ["opened", "asked", "held"])
+
 
 class Hanging(OnFolder):
     async def test_who_asks(self) -> None:
@@ -414,6 +428,23 @@ class FullDisk(OnFolder):
         self.assertEqual(Standings(keeping).for_whom(asks[0])[:2], ([], why))
         self.breaks("")
         self.assertEqual((await waits).name, "board")
+
+    async def test_records(self) -> None:
+        """Once it is said that all is written, they are, too: whoever looks then sees that nobody holds."""
+        keeping, seen = await self.on_disk(), list[Any]()
+        self.enterContext(mock.patch.object(records, "AGAIN", 60))
+        session = await keeping.hold(Wish(("scope",), station="board"), self.owner)
+        await asyncio.sleep(0.1)
+        keeping.says = lambda text: seen.append((text, read_past(self.its_folder)[0].sessions()))
+        self.breaks("full")
+        with mock.patch("os.write", side_effect=OSError(28, "No space left on device")):
+            await keeping.let_go(session, self.owner)
+            await asyncio.sleep(0.1)
+        self.assertEqual([it.how for it in seen[-1][1]], ["holds"])
+        self.breaks("")
+        await asyncio.sleep(0.2)
+        self.assertRegex(seen[-1][0], "bay.journal: all is written$")
+        self.assertEqual([it.how for it in seen[-1][1]], ["done"])
 
     async def test_how_the_bay_stands(self) -> None:
         """It says what is wrong with the disk, and since when, until that is mended."""
