@@ -301,6 +301,8 @@ function listen() {
 }
 
 document.body.classList.toggle("wall", WALL);
+// (above the picture there is no room for what the colours mean)
+if (WALL) $("clock").before(document.querySelector(".keys"));
 drawSpans();
 listen();
 setInterval(tick, 1000);

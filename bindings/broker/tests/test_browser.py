@@ -172,6 +172,25 @@ class Browser(unittest.TestCase):
         self.seen("body", lambda _: "tall" in self.browser.execute_script("return document.body.className"))
         self.assertGreater(self.browser.execute_script("return document.documentElement.scrollHeight"), 800)
 
+    def test_a_wall_shows_what_its_colours_mean(self) -> None:
+        """All of it, and where the picture and the rows beside it go on."""
+        keys = ["done", "holds now", "failed", "taken away", "client gone", "somebody waits", "gave up"]
+        for width, height in ((1920, 1080), (1280, 800), (900, 700)):
+            self.width_at(width, height)
+            self.browser.get(f"http://127.0.0.1:{self.web.port}/?wall")
+            self.seen("#gantt", lambda text: ":" in text)
+            found, over, rows = self.browser.execute_script(
+                "const box = document.querySelector('#over').getBoundingClientRect(), root = document.documentElement;"
+                "const inside = it => [it, ...(function* () { for (let on = it.parentElement; on; on = on.parentElement) yield on; })()].every(on => {"
+                "  const is = it.getBoundingClientRect(), of = on.getBoundingClientRect();"
+                "  return is.left >= of.left - .5 && is.right <= of.right + .5 && is.top >= of.top - .5 && is.bottom <= of.bottom + .5; });"
+                "const top = it => document.querySelector(it).getBoundingClientRect().top;"
+                "return [[...document.querySelectorAll('.keys span')].filter(inside).map(it => it.innerText), root.scrollWidth,"
+                " top('#gantt svg') + 18 - top('.row')]"
+            )
+            self.assertEqual((found, over), (keys, width))
+            self.assertLess(abs(rows), 1)
+
     def test_the_focus_stays(self) -> None:
         self.browser.execute_script("document.querySelector('#spans button:nth-of-type(3)').focus()")
         ActionChains(self.browser).send_keys(Keys.ENTER).perform()
