@@ -108,7 +108,8 @@ function rowOf(it, long) {
 function links(why, seen) {
   // the rest of a chain: who has the instrument, and, if that one only waits, for whom
   const other = station(why.station), state = other && other.state === "gone" ? "gone" : why.holds ? "holding" : "";
-  const told = state === "gone" ? [" has been gone for ", since(other.gone_since)] : why.holds ? [" has held for ", since(why.since)] : [];
+  const holding = other && other.state === "waiting" ? [" waits for the disk"] : [" has held for ", since(why.since)];
+  const told = state === "gone" ? [" has been gone for ", since(other.gone_since)] : why.holds ? holding : [];
   const next = why.holds || !other || seen.has(why.station) ? null : other.waits_for[0];
   seen.add(why.station);
   return [" → ", named(why.instrument), ": ", make("span", `chip ${state}`, named(why.station)), ...told, ...(next ? links(next, seen) : [])];
@@ -117,7 +118,7 @@ function chainOf(it) {
   // (a line is too short for all of it: for what it waits stands beside the instruments, too)
   const box = WALL ? make("div", "chain", bold(it.name), " ", since(it.since)) : make("div", "chain", bold(it.name), " waits for ", ...list(it.instruments), ": ", since(it.since));
   for (const why of it.waits_for.slice(0, WALL ? 1 : MOST_CHAINS)) box.append(make("div", "links", ...(WALL ? [] : [named(it.name)]), ...links(why, new Set([it.name]))));
-  if (!it.waits_for.length) box.append(make("div", "links", "nobody keeps it waiting at this moment"));
+  if (!it.waits_for.length) box.append(make("div", "links", status.disk ? "it waits for the disk" : "nobody keeps it waiting at this moment"));
   return box;
 }
 function inLineOf(it) {

@@ -231,6 +231,14 @@ class Browser(unittest.TestCase):
         self.web.keeping.disk = "a write failed (No space left on device)"
         self.do("hold", "board", "scope")
         self.seen("#disk", lambda text: text == "The broker can't write: a write failed (No space left on device). Nobody comes to hold until it can.")
+        self.do("ask", "drive", "supply")
+        self.do("untold", "drive")
+        self.do("ask", "night", "supply")
+        self.seen("#waits", lambda text: "drive waits for supply" in text and "it waits for the disk" in text)
+        self.seen("#waits", lambda text: "night → supply: drive waits for the disk" in text)
+        for name in ("night", "drive"):
+            self.do("end", name, "gave_up")
+        self.seen("#waits", lambda text: "drive" not in text)
         # and nothing beside it says that all is well
         self.assertEqual((self.text("#stuck"), self.text("#told"), self.text("#waits")), ("", "", "Nobody waits for another."))
         self.do("gone", "board")

@@ -429,6 +429,27 @@ class FullDisk(OnFolder):
         self.breaks("")
         self.assertEqual((await waits).name, "board")
 
+    async def test_who_waits_for_the_disk(self) -> None:
+        """It waits, for whoever looks, and doesn't hold; the others are told so, and again when it holds."""
+        keeping = await self.on_disk()
+        self.breaks("full")
+        asks, began = list[Session](), time.time()
+        first = asyncio.create_task(keeping.hold(Wish(("scope",), station="board"), self.owner, asks.append))
+        second = asyncio.create_task(keeping.hold(Wish(("scope",), station="radio"), self.owner, asks.append))
+        self.addCleanup(second.cancel)
+        await asyncio.sleep(0.5)
+        row = how(keeping, "board")
+        self.assertEqual((row["state"], row["instruments"], row["waits_for"], how(keeping, "radio")["state"]), ("waiting", ["scope"], [], "waiting"))
+        self.assertLess(abs(row["since"] - began), 0.3)
+        _, why, told = Standings(keeping).for_whom(asks[1])
+        self.assertEqual(why, "scope is board's once that is on the disk (a write failed (No space left on device))")
+        self.breaks("")
+        await keeping.note(await first, self.owner, "5 V")
+        self.assertEqual(how(keeping, "board")["state"], "holding")
+        _, why, again = Standings(keeping).for_whom(asks[1])
+        self.assertRegex(why, "^scope is held by board for ")
+        self.assertNotEqual(told, again)
+
     async def test_records(self) -> None:
         """Once it is said that all is written, they are, too: whoever looks then sees that nobody holds."""
         keeping, seen = await self.on_disk(), list[Any]()
