@@ -46,11 +46,11 @@ class WithoutBroker(unittest.TestCase):
         for option, package in (("--page", "aiohttp"), ("--metrics", "prometheus_client")):
             if not find_spec("aiohttp") or not find_spec(package):
                 continue
-            port, said = self.taken(), io.StringIO()
-            with self.subTest(option), contextlib.redirect_stderr(said):
-                status = main(["serve", f"{self.folder}/bay.toml", "--listen", f"unix:{self.folder}/b.sock", option, f"127.0.0.1:{port}"])
+            port = self.taken()
+            with self.subTest(option):
+                done = ran("serve", f"{self.folder}/bay.toml", "--listen", f"unix:{self.folder}/b.sock", option, f"127.0.0.1:{port}")
                 told = f"labrun-broker: {option} 127.0.0.1:{port}: it can't listen there: Address already in use\n"
-                self.assertEqual((status, said.getvalue()), (78, told))
+                self.assertEqual((done.returncode, done.stderr), (78, told))
 
     def test_words_and_statuses(self) -> None:
         bay, nowhere = f"{self.folder}/bay.toml", f"unix:{self.folder}/no.sock"
