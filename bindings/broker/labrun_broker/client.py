@@ -53,6 +53,7 @@ class Lab:
         self._metadata = (("authorization", f"Bearer {token}"),) if token else ()
         self._idle: list[Stream] = []
         self._held: set[Held] = set()
+        self._waiting: set[asyncio.Task[Any]] = set()
         self._loop = loop_of_this_process()
         self._process = os.getpid()
         self._was_there = self._is_closed = self._has_left = False
@@ -78,6 +79,11 @@ class Lab:
             work.close()
             raise labrun.OtherProcess(self._process)
         return Work(work, self._loop).result()
+
+    def _may_go_on(self) -> None:
+        """Before anything is asked."""
+        if self._is_closed:
+            raise labrun.Closed("the lab is closed")
 
     async def _run_async(self, work: Coroutine[Any, Any, Result]) -> Result:
         return await asyncio.wrap_future(asyncio.run_coroutine_threadsafe(work, self._loop))
@@ -116,6 +122,7 @@ class Lab:
             self._loop.call_soon_threadsafe(call.cancel)
 
     async def _watch(self) -> Any:
+        self._may_go_on()
         return self._methods["Watch"](pb.StatusWish(), metadata=self._metadata)
 
     def release(self, station: str, session: int = 0) -> tuple[str, ...]:
@@ -124,6 +131,7 @@ class Lab:
         return tuple(self._run(self._unary("Release", wish)).instruments)
 
     async def _unary(self, name: str, wish: Any, within: Optional[float] = ANSWER) -> Any:
+        self._may_go_on()
         try:
             answer = await self._methods[name](wish, metadata=self._metadata, timeout=within)
             self._was_there = True
@@ -132,7 +140,8 @@ class Lab:
             raise why_lost(self.address, fault.code(), str(fault.details())) from None
 
     def close(self, lets_go: bool = True) -> None:
-        """What is still held is let go, unless the program just ends: then it is kept for whoever has its ticket."""
+        """What is still held is let go, unless the program just ends: then it is kept for whoever has its ticket. Who waits, and each further call,
+        gets Closed."""
         if not self._is_closed and self._process == os.getpid():
             self._is_closed = True
             self._run(self._close(lets_go))
@@ -140,6 +149,10 @@ class Lab:
 
     async def _close(self, lets_go: bool) -> None:
         fault: Optional[labrun.LabrunError] = None
+        for task in self._waiting:
+            task.cancel()
+        if self._waiting:
+            await asyncio.wait(set(self._waiting))
         # (a broker that doesn't answer keeps what was held for whoever has its ticket)
         with contextlib.suppress(builtins.TimeoutError):
             async with asyncio.timeout(ANSWER):
@@ -153,6 +166,8 @@ class Lab:
                         if task is not None:
                             task.cancel()
         self._has_left = True
+        for stream in list(self._idle):
+            stream.cancel()
         with contextlib.suppress(builtins.TimeoutError):
             async with asyncio.timeout(CLOSING):
                 await self._channel.close()

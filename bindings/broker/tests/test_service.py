@@ -248,6 +248,31 @@ class Clients(OnBroker):
                 waits.hold("scope", timeout=LIMIT).acquire()
             until(lambda: station(lab, "guest-1")["state"] == "idle")
 
+    def test_a_closed_lab(self) -> None:
+        """It asks for nothing any more, also where a stream of it was idle, and nothing of it is left at the broker."""
+        broker = self.broker()
+        other, lab = self.lab(broker), broker.lab()
+        with lab.hold("supply"):
+            pass
+        late, ended = lab.hold("supply"), lab.hold("load-1")
+        ended.acquire()
+        with concurrent.futures.ThreadPoolExecutor(1) as pool, other.hold("scope"):
+            waits = pool.submit(lab.hold("scope").acquire)
+            until(lambda: other.status()["instruments"][0]["waiting"])
+            lab.close()
+            with self.assertRaises(labrun.Closed):
+                waits.result(LIMIT)
+        calls = (late.acquire, lab.hold("supply").acquire, lab.status, lambda: lab.release("board"), lambda: next(lab.watch()),
+                 ended.release, lambda: ended.note("x"), lambda: asyncio.run(lab.hold("supply").acquire_async()))
+        for call in calls:
+            with self.assertRaisesRegex(labrun.Closed, "the lab is closed"):
+                call()
+        status = other.status()
+        self.assertEqual([it["holder"] for it in status["instruments"]], [None] * 4)
+        self.assertEqual({it["state"] for it in status["stations"]}, {"idle"})
+        self.assertEqual(status["in_line"], [])
+        lab.close()
+
     def test_a_fork(self) -> None:
         lab = self.lab(self.broker())
         child = os.fork()
