@@ -40,7 +40,7 @@ def run_status(args: argparse.Namespace) -> int:
 
 def run_top(args: argparse.Namespace) -> int:
     clears = "\x1b[H\x1b[2J" if sys.stdout.isatty() and not args.json else ""
-    with contextlib.suppress(KeyboardInterrupt, BrokenPipeError), lab_of(args) as lab:
+    with contextlib.suppress(BrokenPipeError), lab_of(args) as lab:
         for status in lab.watch():
             text = json.dumps(status) if args.json else "\n".join([*lines_of(status), ""])
             print(f"{clears}{text}", flush=True)

@@ -11,6 +11,7 @@ import socket
 import subprocess
 import sys
 import tempfile
+import time
 import unittest
 from typing import Any
 from unittest import mock
@@ -225,9 +226,11 @@ class WithBroker(OnBroker):
         with self.lab(broker, "board").hold("scope"):
             until(lambda: json.loads(top.stdout.readline())["instruments"][0]["holder"] == "board")
         self.assertEqual(first["instruments"][0]["holder"], None)
+        begun = time.monotonic()
         top.send_signal(signal.SIGINT)
-        top.communicate(timeout=LIMIT)
-        self.assertEqual(top.returncode, 0)
+        _, said = top.communicate(timeout=LIMIT)
+        self.assertEqual((top.returncode, said), (130, ""))
+        self.assertLess(time.monotonic() - begun, 3)
 
     def test_release(self) -> None:
         broker = self.broker()
