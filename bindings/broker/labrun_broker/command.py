@@ -21,7 +21,7 @@ from .words import ABOUT, INTERRUPTED, MAY_NOT, NO_BAY, NOT_WRITTEN, PROGRAM, ST
 
 # the status of each error, by its name, or by that of the first of its kinds: it is looked up without importing what has it
 ENDS = {"TimeoutError": TIMED_OUT, "TakenAway": TAKEN, "MayNotUse": MAY_NOT, "Unreachable": UNREACHABLE, "JournalError": NOT_WRITTEN}
-ENDS |= {"BayFault": NO_BAY, "BadAddress": NO_BAY, "LabrunError": 1, "OSError": 1, "ValueError": 1}
+ENDS |= {"NoInstrument": USAGE, "BayFault": NO_BAY, "BadAddress": NO_BAY, "LabrunError": 1, "OSError": 1, "ValueError": 1}
 
 # ---- how it stands
 

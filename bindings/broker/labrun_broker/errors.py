@@ -57,6 +57,10 @@ class BadWish(_Told, labrun.LabrunError, ValueError):
     """What was asked for can't be."""
 
 
+class NoInstrument(BadWish):
+    """The bay has no instrument of this name."""
+
+
 KINDS: dict[str, Callable[[str], Exception]] = {
     "TimeoutError": TimeoutError,
     "TakenAway": TakenAway,
@@ -66,6 +70,7 @@ KINDS: dict[str, Callable[[str], Exception]] = {
     "JournalError": JournalError,
     "Stopped": Stopped,
     "BadWish": BadWish,
+    "NoInstrument": NoInstrument,
 }
 
 

@@ -107,7 +107,10 @@ class WithBroker(OnBroker):
                 (["hold", "scope", "--", "./nothing"], 127, "", "./nothing: No such file or directory"),
                 (["hold", "scope", "--", "/"], 126, "", "/: Permission denied"),
                 (["hold", "supply", "--timeout", "0.1", "--", "echo", "ran"], 75, "", "supply is held by board for"),
-                (["hold", "lamp", "--", "echo", "ran"], 77, "", "a guest may not use lamp: it may use scope, supply, load-1, load-2"),
+                (["hold", "lamp", "--", "echo", "ran"], 2, "", "lamp is no instrument of this bay: there are scope, supply, load-1, load-2\n"),
+                (["hold", "scop", "--station", "radio", "--", "echo", "ran"], 2, "", "there are scope, supply, load-1, load-2 (did you mean scope?)\n"),
+                (["hold", "--any", "scope", "lod-1", "--", "echo", "ran"], 2, "", "lod-1 is no instrument of this bay"),
+                (["hold", "supply", "--station", "radio", "--", "echo", "ran"], 77, "", "radio may not use supply: it may use scope"),
                 (["hold", "scope", "--station", "moon", "--", "echo", "ran"], 1, "", "moon is no station of this bay: there are board, radio"),
             )
             for words, status, out, fault in rows:

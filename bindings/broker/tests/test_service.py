@@ -67,8 +67,11 @@ class Clients(OnBroker):
             for kind in (labrun_broker.TimeoutError, labrun.TimeoutError, TimeoutError):
                 with self.assertRaisesRegex(kind, "scope is held by board for"):
                     lab.hold("scope", timeout=0.05).acquire()
-        with self.assertRaisesRegex(labrun.MayNotUse, "a guest may not use lamp"):
-            lab.hold("lamp").acquire()
+        with self.assertRaisesRegex(labrun.MayNotUse, "radio may not use supply"):
+            lab.hold("supply", station="radio").acquire()
+        for kind in (labrun_broker.NoInstrument, ValueError, labrun.LabrunError):  # (of labrun.Lab it is a ValueError)
+            with self.assertRaisesRegex(kind, r"scop is no instrument of this bay: .* \(did you mean scope\?\)"):
+                lab.hold("scop").acquire()
         with self.assertRaisesRegex(ValueError, "say which instruments"):
             lab.hold().acquire()
         with self.assertRaisesRegex(labrun.NotHeld, "radio holds nothing"):
