@@ -96,6 +96,8 @@ class Lab:
         seconds TimeoutError says who keeps it waiting, and it is given up. `waits` is called with a line whenever it is known for whom it waits."""
         if timeout is not None and not timeout >= 0:
             raise BadWish(f"a timeout of {timeout:g} s; it is 0 or more")
+        if any_of and isinstance(any_of, str):
+            raise BadWish(f"any_of: a list of instruments, or of sets of them, is wanted, and not the text {any_of!r}")
         choices = [pb.Instruments(names=(it,) if isinstance(it, str) else tuple(it)) for it in any_of]
         wish = pb.Wish(instruments=instruments, any_of=choices, station=self.station if station is None else station, by=self.by)
         wish.wants_waits, wish.pings = waits is not None, True

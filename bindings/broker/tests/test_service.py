@@ -74,6 +74,8 @@ class Clients(OnBroker):
                 lab.hold("scop").acquire()
         with self.assertRaisesRegex(ValueError, "say which instruments"):
             lab.hold().acquire()
+        with self.assertRaisesRegex(labrun_broker.BadWish, r"any_of: a list of instruments, .* and not the text 'load-\*'"):
+            lab.hold(any_of="load-*")
         with self.assertRaisesRegex(labrun.NotHeld, "radio holds nothing"):
             lab.release("radio")
 
