@@ -22,7 +22,7 @@ import grpc
 import labrun
 
 from . import broker_pb2 as pb
-from .errors import BadWish, Unreachable, why_lost
+from .errors import BadWish, why_lost
 from .held import Held
 from .quick import DEFAULT, Quick, user
 from .stream import Stream
@@ -118,7 +118,7 @@ class Lab:
         """The status now, and whenever it has changed."""
         call = self._run(self._watch())
         try:
-            while (bay := self._run(_read(call))) is not None:
+            while (bay := self._run(self._reads(call))) is not None:
                 yield _as_dict(bay)
         finally:
             self._loop.call_soon_threadsafe(call.cancel)
@@ -126,6 +126,19 @@ class Lab:
     async def _watch(self) -> Any:
         self._may_go_on()
         return self._methods["Watch"](pb.StatusWish(), metadata=self._metadata)
+
+    async def _reads(self, call: Any) -> Any:
+        try:
+            bay = await call.read()
+        except grpc.aio.AioRpcError as fault:
+            self._may_go_on()
+            raise self._why_lost(fault.code(), str(fault.details())) from None
+        except asyncio.CancelledError:
+            # (it may be the lab's end that ended it)
+            self._may_go_on()
+            raise
+        self._was_there = True
+        return None if bay is grpc.aio.EOF else bay
 
     def release(self, station: str, session: int = 0) -> tuple[str, ...]:
         """Ends the session that a station holds, for its owner; with a number, no other one. First see that nobody is at the instruments."""
@@ -139,7 +152,10 @@ class Lab:
             self._was_there = True
             return answer
         except grpc.aio.AioRpcError as fault:
-            raise why_lost(self.address, fault.code(), str(fault.details())) from None
+            raise self._why_lost(fault.code(), str(fault.details())) from None
+
+    def _why_lost(self, code: Any, text: str) -> Exception:
+        return why_lost(self.address, code, text, self._certificate is None and not self._was_there)
 
     def close(self, lets_go: bool = True) -> None:
         """What is still held is let go, unless the program just ends: then it is kept for whoever has its ticket. Who waits, and each further call,
@@ -186,14 +202,6 @@ class Lab:
         self.close()
 
 
-async def _read(call: Any) -> Any:
-    try:
-        bay = await call.read()
-    except grpc.aio.AioRpcError as fault:
-        raise Unreachable(str(fault.details())) from None
-    return None if bay is grpc.aio.EOF else bay
-
-
 def _as_dict(message: Any) -> dict[str, Any]:
     """With a None where nothing is said, as the broker's own has it."""
     found: dict[str, Any] = {}
@@ -221,7 +229,19 @@ def connect(
     if certificate_file is not None:
         with open(certificate_file, "rb") as given:
             certificate = given.read()
+        if not _is_certificate(certificate):
+            raise BadWish(f"{certificate_file}: there is no certificate in it (as PEM)")
     return Lab(address or os.environ.get("LABRUN_BROKER") or DEFAULT, station, token, certificate, by or _who())
+
+
+def _is_certificate(pem: bytes) -> bool:
+    import ssl
+
+    try:
+        ssl.SSLContext(ssl.PROTOCOL_TLS_CLIENT).load_verify_locations(cadata=pem.decode("ascii", "ignore"))
+    except (ssl.SSLError, ValueError):
+        return False
+    return True
 
 
 def _who() -> str:

@@ -12,7 +12,7 @@ import grpc
 import labrun
 
 from . import broker_pb2 as pb
-from .errors import BadWish, NotHeld, TakenAway, Unreachable, raised, why_lost
+from .errors import BadWish, NotHeld, TakenAway, Unreachable, raised
 from .stream import AGAIN, Lost, Stream
 from .work import clock
 
@@ -181,7 +181,7 @@ class Held:
             # (one that was idle may be of a broker that is gone)
             is_over = self._lost_at is not None and loop.time() > self._lost_at + GRACE or until is not None and loop.time() > until
             if is_new and (lost.code not in AGAIN or not lab._was_there or is_over):
-                raise why_lost(lab.address, lost.code, str(lost)) from None
+                raise lab._why_lost(lost.code, str(lost)) from None
             if is_new:
                 await asyncio.sleep(PAUSE)
             return False
@@ -283,7 +283,7 @@ class Held:
                 is_late = bool(self._asked) and now > self._asked_at + GRACE
                 # (where too many clients are, there may be room later)
                 if lost.code not in (*AGAIN, grpc.StatusCode.RESOURCE_EXHAUSTED) or is_late:
-                    return self._is_over("lost", why_lost(self.lab.address, lost.code, str(lost)))
+                    return self._is_over("lost", self.lab._why_lost(lost.code, str(lost)))
             except asyncio.CancelledError:
                 stream.cancel()
                 raise
@@ -336,7 +336,7 @@ class Held:
                 if lost.code is grpc.StatusCode.RESOURCE_EXHAUSTED and "note" in what:
                     raise BadWish(f"the broker doesn't take this note: {lost}") from None
                 if asyncio.get_running_loop().time() > self._asked_at + GRACE:
-                    raise why_lost(self.lab.address, lost.code, str(lost)) from None
+                    raise self.lab._why_lost(lost.code, str(lost)) from None
                 # (it comes back meanwhile)
                 await asyncio.sleep(pause)
                 pause = min(2 * pause, 1.0)

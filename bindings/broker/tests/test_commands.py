@@ -235,6 +235,15 @@ class WithBroker(OnBroker):
         self.assertEqual((top.returncode, said), (130, ""))
         self.assertLess(time.monotonic() - begun, 3)
 
+    def test_top_of_a_broker_that_dies(self) -> None:
+        broker = self.broker()
+        top = broker.started("top", "--json")
+        assert top.stdout is not None
+        top.stdout.readline()
+        broker.kill()
+        _, said = top.communicate(timeout=LIMIT)
+        self.assertEqual((top.returncode, said), (69, f"labrun-broker: the broker at {broker.address} can't be reached: it closed the connection\n"))
+
     def test_release(self) -> None:
         broker = self.broker()
         runs = broker.started("hold", "scope", "--station", "board", "--", "sleep", "60")

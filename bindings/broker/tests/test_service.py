@@ -2,6 +2,7 @@
 
 import asyncio
 import concurrent.futures
+import contextlib
 import os
 import signal
 import socket
@@ -323,6 +324,29 @@ class WhoIsLetIn(OnBroker):
         Door(("0.0.0.0:1",), "c", "k", "t").check()
         Door(("unix:x", "127.0.0.1:1")).check()
 
+    def test_why_it_cant_be_reached(self) -> None:
+        folder = self.enterContext(tempfile.TemporaryDirectory())
+        closes = socket.socket(socket.AF_UNIX)
+        closes.bind(f"{folder}/closes")
+        closes.listen()
+        self.addCleanup(closes.close)
+
+        def close() -> None:
+            with contextlib.suppress(OSError):
+                while True:
+                    closes.accept()[0].close()
+
+        threading.Thread(target=close, daemon=True).start()
+        path = f"{folder}/a:b.sock"
+        rows = [(path, f"a socket's path is written unix:{path}"), ("./no.sock", "a socket's path is written unix:./no.sock")]
+        rows += [("no.sock", "unix:PATH or HOST:PORT is wanted"), (f"unix:{folder}/closes", "it closed the connection")]
+        for address, why in rows:
+            with self.subTest(address), labrun_broker.connect(address) as lab:
+                for act in (lab.status, lab.hold("scope").acquire, lambda: next(lab.watch())):
+                    with self.assertRaises(labrun_broker.Unreachable) as fault:
+                        act()
+                    self.assertEqual(str(fault.exception), f"the broker at {address} can't be reached: {why}")
+
     def certificate(self, folder: str) -> tuple[str, str, str]:
         names = (f"{folder}/certificate", f"{folder}/key", f"{folder}/token")
         words = ["openssl", "req", "-x509", "-newkey", "ec", "-pkeyopt", "ec_paramgen_curve:prime256v1", "-nodes", "-days", "2", "-subj", "/CN=localhost",
@@ -350,10 +374,18 @@ class WhoIsLetIn(OnBroker):
         for more, why in (({}, "asks for its token"), ({"token_file": f"{folder}/wrong"}, "this isn't its token")):
             with labrun_broker.connect(at, certificate_file=certificate, **more) as lab:
                 for act in (lab.hold("scope").acquire, lab.status, lambda: lab.release("board"), lambda: next(lab.watch())):
-                    with self.assertRaisesRegex(labrun_broker.Unreachable, why):
+                    with self.assertRaisesRegex(labrun_broker.Unreachable, f"^the broker at {at} doesn't let this client in: .*{why}"):
                         act()
-        with labrun_broker.connect(at, token_file=token) as lab, self.assertRaises(labrun_broker.Unreachable):
-            lab.status()
+        with labrun_broker.connect(at, token_file=token) as lab:
+            with self.assertRaisesRegex(labrun_broker.Unreachable, r"it closed the connection \(a broker with TLS wants --certificate FILE\)$"):
+                lab.status()
+        with open(certificate, encoding="ascii") as file:
+            damaged = file.read().replace("M", "*")
+        with open(f"{folder}/damaged", "w", encoding="ascii") as file:
+            file.write(damaged)
+        for wrong in (token, key, f"{folder}/damaged"):
+            with self.assertRaisesRegex(labrun_broker.BadWish, f"^{wrong}: there is no certificate in it"):
+                labrun_broker.connect(at, certificate_file=wrong)
         for wrong in (f"{folder}/another", token):
             words = ["--listen", f"127.0.0.1:{free_port()}", "--tls-certificate", certificate, "--tls-key", wrong]
             done = broker.ran("serve", f"{broker.folder}/bay.toml", *words)
