@@ -167,8 +167,8 @@ class Lab:
 
     async def _close(self, lets_go: bool) -> None:
         fault: Optional[labrun.LabrunError] = None
-        for task in self._waiting:
-            task.cancel()
+        for waits in self._waiting:
+            waits.cancel()
         if self._waiting:
             await asyncio.wait(set(self._waiting))
         # (a broker that doesn't answer keeps what was held for whoever has its ticket)
