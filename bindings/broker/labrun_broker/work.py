@@ -63,14 +63,19 @@ class Work(Generic[Result]):
     def _give_up(self) -> None:
         self._is_given_up = True
         if self._task is None:
-            self._done.cancel()
+            self._is_cancelled()
         else:
             self._task.cancel()
 
     def _ends(self, task: asyncio.Task[Result]) -> None:
         if task.cancelled():
-            self._done.cancel()
+            self._is_cancelled()
         elif (fault := task.exception()) is not None:
             self._done.set_exception(fault)
         else:
             self._done.set_result(task.result())
+
+    def _is_cancelled(self) -> None:
+        self._done.cancel()
+        # (else whoever waits for it goes on to wait)
+        self._done.set_running_or_notify_cancel()

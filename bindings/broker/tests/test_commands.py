@@ -11,6 +11,7 @@ import socket
 import subprocess
 import sys
 import tempfile
+import time
 import unittest
 from typing import Any
 from unittest import mock
@@ -106,7 +107,10 @@ class WithBroker(OnBroker):
                 (["hold", "scope", "--", "./nothing"], 127, "", "./nothing: No such file or directory"),
                 (["hold", "scope", "--", "/"], 126, "", "/: Permission denied"),
                 (["hold", "supply", "--timeout", "0.1", "--", "echo", "ran"], 75, "", "supply is held by board for"),
-                (["hold", "lamp", "--", "echo", "ran"], 77, "", "a guest may not use lamp: it may use scope, supply, load-1, load-2"),
+                (["hold", "lamp", "--", "echo", "ran"], 2, "", "lamp is no instrument of this bay: there are scope, supply, load-1, load-2\n"),
+                (["hold", "scop", "--station", "radio", "--", "echo", "ran"], 2, "", "there are scope, supply, load-1, load-2 (did you mean scope?)\n"),
+                (["hold", "--any", "scope", "lod-1", "--", "echo", "ran"], 2, "", "lod-1 is no instrument of this bay"),
+                (["hold", "supply", "--station", "radio", "--", "echo", "ran"], 77, "", "radio may not use supply: it may use scope"),
                 (["hold", "scope", "--station", "moon", "--", "echo", "ran"], 1, "", "moon is no station of this bay: there are board, radio"),
             )
             for words, status, out, fault in rows:
@@ -225,9 +229,20 @@ class WithBroker(OnBroker):
         with self.lab(broker, "board").hold("scope"):
             until(lambda: json.loads(top.stdout.readline())["instruments"][0]["holder"] == "board")
         self.assertEqual(first["instruments"][0]["holder"], None)
+        begun = time.monotonic()
         top.send_signal(signal.SIGINT)
-        top.communicate(timeout=LIMIT)
-        self.assertEqual(top.returncode, 0)
+        _, said = top.communicate(timeout=LIMIT)
+        self.assertEqual((top.returncode, said), (130, ""))
+        self.assertLess(time.monotonic() - begun, 3)
+
+    def test_top_of_a_broker_that_dies(self) -> None:
+        broker = self.broker()
+        top = broker.started("top", "--json")
+        assert top.stdout is not None
+        top.stdout.readline()
+        broker.kill()
+        _, said = top.communicate(timeout=LIMIT)
+        self.assertEqual((top.returncode, said), (69, f"labrun-broker: the broker at {broker.address} can't be reached: it closed the connection\n"))
 
     def test_release(self) -> None:
         broker = self.broker()
