@@ -11,6 +11,7 @@ import subprocess
 import time
 from typing import TYPE_CHECKING, Callable, Iterator, Optional, Union
 
+from .family import Family, adopting, ends
 from .quick import DEFAULT, Odd, Quick, Wish, user
 from .texts import plain, seconds
 from .words import CANT_RUN, NOT_FOUND, PROGRAM, TAKEN, USAGE, add_client, lab_of, say
@@ -48,7 +49,7 @@ def run_hold(args: argparse.Namespace) -> int:
         return USAGE
     wish = Wish(() if any_of else its, any_of, args.station, args.by or f"{user()} {os.getpid()} {what}"[:64], args.timeout)
     waits: Waits = None if args.quiet else lambda text: say(f"waits: {plain(text)}")
-    with passing_on() as signals, contextlib.ExitStack() as ends:
+    with passing_on() as signals, adopting(), contextlib.ExitStack() as ends:
         held = holds(args, wish, waits, signals, ends)
         status = runs(args.command, held, signals, address_of(args))
         if held.held:
@@ -124,20 +125,20 @@ def runs(command: list[str], held: Union[Quick, Held], signals: Signals, address
     environment = {**ENVIRONMENT, **its, "LABRUN_AROUND": around(address, held)}
     taken: list[object] = []
     try:
-        process = signals.starts(command, environment, held.is_released_if_gone)
+        signals.starts(command, environment, held.is_released_if_gone)
     except OSError as fault:
         say(f"{command[0]}: {fault.strerror}")
         return NOT_FOUND if isinstance(fault, FileNotFoundError) else CANT_RUN
 
-    def ends(fault: object) -> None:
+    def is_taken(fault: object) -> None:
         taken.append(fault)
         say(f"{plain(fault)}; the command is ended")
-        process.terminate()
+        signals.send(signal.SIGTERM)
 
-    held.on_taken = ends
+    held.on_taken = is_taken
     if not held.held and not taken:
-        ends("the session is over")
-    status = process.wait()
+        is_taken("the session is over")
+    status = signals.wait()
     return TAKEN if taken else status if status >= 0 else 128 - status
 
 
@@ -159,11 +160,12 @@ def ends_with(parent: int) -> Callable[[], None]:
 
 
 class Signals:
-    """What comes before there is a command ends this process; from there on it is sent on. (A terminal sends Ctrl-C to all of its foreground.)"""
+    """What comes before there is a command ends this process; from there on it is sent on, to the command and to all its descendants. (A
+    terminal sends Ctrl-C to all of its foreground.)"""
 
     def __init__(self) -> None:
-        self.process: Optional[subprocess.Popen[bytes]] = None
-        self.is_starting = False
+        self.family: Optional[Family] = None
+        self.is_starting = self.were_sent = False
         self.came: list[int] = []
 
     def begins(self) -> None:
@@ -172,14 +174,15 @@ class Signals:
 
     def starts(self, command: list[str], environment: dict[str, str], ends_with_this: bool = False) -> subprocess.Popen[bytes]:
         self.is_starting = True
-        self.process = subprocess.Popen(command, env=environment, preexec_fn=ends_with(os.getpid()) if ends_with_this else None)
+        process = subprocess.Popen(command, env=environment, preexec_fn=ends_with(os.getpid()) if ends_with_this else None)
+        self.family = Family(process)
         for number in self.came:
-            self.process.send_signal(number)
-        return self.process
+            self.send(number)
+        return process
 
     def comes(self, number: int, _: object) -> None:
-        if self.process is not None:
-            self.sends_on(number, self.process)
+        if self.family is not None:
+            self.sends_on(number, self.family)
         elif self.is_starting:
             self.came.append(number)
         elif number == signal.SIGINT:
@@ -187,11 +190,26 @@ class Signals:
         else:
             raise SystemExit(128 + number)
 
-    def sends_on(self, number: int, process: subprocess.Popen[bytes]) -> None:
+    def sends_on(self, number: int, family: Family) -> None:
+        has_ended = family.command.returncode is not None
         with contextlib.suppress(OSError):
-            if number == signal.SIGINT and os.isatty(0) and os.tcgetpgrp(0) == os.getpgrp():
+            if not has_ended and number == signal.SIGINT and os.isatty(0) and os.tcgetpgrp(0) == os.getpgrp():
+                self.were_sent = True
                 return
-        process.send_signal(number)
+        self.send(ends(number) if has_ended else number)
+
+    def send(self, number: int) -> None:
+        self.were_sent = True
+        if self.family is not None:
+            self.family.send(number)
+
+    def wait(self) -> int:
+        """The status of the command. After a signal nothing of it goes on any more: who holds next would meet it at the instruments."""
+        assert self.family is not None
+        status = self.family.wait()
+        if self.were_sent:
+            self.family.wait_for_all(lambda names: say(f"waits until what the command started has ended: {plain(names)}"))
+        return status
 
 
 @contextlib.contextmanager
