@@ -53,8 +53,21 @@ def run_hold(args: argparse.Namespace) -> int:
         held = holds(args, wish, waits, signals, ends)
         status = runs(args.command, held, signals, address_of(args))
         if held.held:
-            held.release(f"status {status}" if status else None)
+            lets_go(held, status, signals, ends)
     return status
+
+
+def lets_go(held: Union[Quick, Held], status: int, signals: Signals, ends: contextlib.ExitStack) -> None:
+    try:
+        with signals.giving_up(status):
+            held.release(f"status {status}" if status else None)
+    except BaseException as fault:
+        # (whatever is closed now might try to tell the broker once more)
+        ends.pop_all()
+        if not isinstance(fault, GivenUp):
+            say(f"the command ran, and ended with status {status}, but:")
+            raise
+        say("the broker wasn't told, as far as is known here: the session may go on holding, as `labrun-broker status` says")
 
 
 def choices(args: argparse.Namespace) -> tuple[str, ...]:
@@ -159,13 +172,20 @@ def ends_with(parent: int) -> Callable[[], None]:
     return asks
 
 
+LATE = 1.5  # seconds, after which it is said that the broker doesn't answer
+
+
+class GivenUp(Exception):
+    """Whoever waits doesn't want to wait until the broker answers."""
+
+
 class Signals:
     """What comes before there is a command ends this process; from there on it is sent on, to the command and to all its descendants. (A
     terminal sends Ctrl-C to all of its foreground.)"""
 
     def __init__(self) -> None:
         self.family: Optional[Family] = None
-        self.is_starting = self.were_sent = False
+        self.is_starting = self.were_sent = self.is_telling = self.is_late = False
         self.came: list[int] = []
 
     def begins(self) -> None:
@@ -181,7 +201,10 @@ class Signals:
         return process
 
     def comes(self, number: int, _: object) -> None:
-        if self.family is not None:
+        if self.is_telling:
+            self.came.append(number)
+            self.gives_up()
+        elif self.family is not None:
             self.sends_on(number, self.family)
         elif self.is_starting:
             self.came.append(number)
@@ -210,6 +233,29 @@ class Signals:
         if self.were_sent:
             self.family.wait_for_all(lambda names: say(f"waits until what the command started has ended: {plain(names)}"))
         return status
+
+
+    @contextlib.contextmanager
+    def giving_up(self, status: int) -> Iterator[None]:
+        """While the broker is told that the command has ended. Mostly it answers at once, and then no signal keeps it from being told."""
+
+        def is_late(*_: object) -> None:
+            self.is_late = True
+            say(f"the command has ended with status {status}; the broker doesn't answer, and is told again for a minute, unless Ctrl-C gives that up")
+            self.gives_up()
+
+        before, self.came, self.is_telling = signal.signal(signal.SIGALRM, is_late), [], True
+        signal.setitimer(signal.ITIMER_REAL, LATE)
+        try:
+            yield
+        finally:
+            self.is_telling = False
+            signal.setitimer(signal.ITIMER_REAL, 0)
+            signal.signal(signal.SIGALRM, before)
+
+    def gives_up(self) -> None:
+        if self.is_late and self.came:
+            raise GivenUp
 
 
 @contextlib.contextmanager

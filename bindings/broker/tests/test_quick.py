@@ -89,6 +89,56 @@ class Quick(OnBroker):
         finally:
             broker.process.send_signal(signal.SIGCONT)
 
+    def test_a_broker_that_is_away_as_the_command_ends(self) -> None:
+        """It is said soon, and Ctrl-C ends the hold then, with the command's status."""
+        for slashes, number in (("", signal.SIGINT), ("//", signal.SIGTERM)):
+            with self.subTest(slashes, number=number):
+                broker = self.broker(BAY, "--state", "FOLDER/state")
+                socket, broker.address = broker.address, broker.address.replace("unix:", f"unix:{slashes}")
+                runs = self.holds(broker, "exit 5")
+                broker.kill()
+                with open(f"{broker.folder}/go", "w", encoding="utf-8"):
+                    pass
+                assert runs.stderr is not None
+                self.assertIn("the command has ended with status 5; the broker doesn't answer", runs.stderr.readline())
+                begun = time.monotonic()
+                runs.send_signal(number)
+                said = runs.communicate(timeout=LIMIT)[1]
+                self.assertLess(time.monotonic() - begun, 5)
+                self.assertEqual((runs.returncode, said.count("\n")), (5, 1), said)
+                self.assertIn("the session may go on holding", said)
+                broker.address = socket
+                broker.begin()
+                self.assertEqual(self.state(broker), "gone")
+
+    def test_a_signal_as_it_lets_go(self) -> None:
+        """It keeps no broker from being told that answers soon."""
+        broker = self.broker()
+        with broker.lab() as lab:
+            for number in range(12):
+                runs = broker.started("hold", "scope", "--", "sh", "-c", "echo runs; sleep 0.05; exit 5")
+                assert runs.stdout is not None
+                runs.stdout.readline()
+                time.sleep(0.04 + number * 0.004)
+                runs.terminate()
+                runs.communicate(timeout=LIMIT)
+                self.assertIn(runs.returncode, (5, 143, -15))
+                until(lambda: all(it["state"] == "idle" for it in lab.status()["stations"]), "that all are idle")
+
+    def test_a_broker_that_is_never_told(self) -> None:
+        broker = self.broker(BAY, "--state", "FOLDER/state")
+        assert broker.process is not None
+        script = "import sys; from labrun_broker import command, held; held.GRACE = 1.0; sys.exit(command.main(sys.argv[1:]))"
+        for address in (broker.address, broker.address.replace("unix:", "unix://")):
+            words = ["hold", "scope", "--broker", address, "--", "sh", "-c", f"kill -KILL {broker.process.pid}; exit 5"]
+            done = subprocess.run([sys.executable, "-c", script, *words], capture_output=True, text=True, timeout=LIMIT)
+            self.assertEqual((done.returncode, done.stdout), (69, ""), done.stderr)
+            self.assertIn("labrun-broker: the command ran, and ended with status 5, but:\nlabrun-broker: the broker at unix:", done.stderr)
+            self.assertIn("can't be reached", done.stderr)
+            broker.end()
+            broker.begin()
+            self.assertEqual(broker.ran("release", "guest-1").returncode, 0)
+
     def test_one_whose_time_is_over_has_asked_once(self) -> None:
         broker = self.broker(BAY, "--state", "FOLDER/state")
         runs = self.holds(broker, "exit 0")
