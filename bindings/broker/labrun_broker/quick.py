@@ -55,6 +55,10 @@ class Odd(Exception):
     """It is for the whole client."""
 
 
+class Absent(Odd):
+    """Nobody listens there."""
+
+
 @contextlib.contextmanager
 def _oddly() -> Iterator[None]:
     try:
@@ -186,8 +190,13 @@ class Wire:
 
     def connects(self, path: str) -> None:
         self.socket.settimeout(SILENT)
-        with _oddly():
-            self.socket.connect(path)
+        try:
+            with _oddly():
+                self.socket.connect(path)
+        except Odd as fault:
+            if isinstance(fault.__cause__, (FileNotFoundError, ConnectionRefusedError)):
+                raise Absent from fault
+            raise
         self._sends(OPENS)
 
     def _sends(self, frame: bytes) -> None:

@@ -6,13 +6,14 @@ import argparse
 import contextlib
 import fnmatch
 import os
+import re
 import signal
 import subprocess
 import time
-from typing import TYPE_CHECKING, Callable, Iterator, Optional, Union
+from typing import TYPE_CHECKING, Callable, Iterator, Optional, TypeVar, Union
 
 from .family import Family, adopting, ends
-from .quick import DEFAULT, Odd, Quick, Wish, user
+from .quick import DEFAULT, Absent, Odd, Quick, Wish, user
 from .texts import plain, seconds
 from .words import CANT_RUN, NOT_FOUND, PROGRAM, TAKEN, USAGE, add_client, lab_of, say
 
@@ -23,6 +24,8 @@ if TYPE_CHECKING:
 # what the command is to have, whatever is changed here
 ENVIRONMENT = dict(os.environ)
 Waits = Optional[Callable[[str], None]]
+Result = TypeVar("Result")
+STARTING = 5.0  # seconds that a broker may take to begin
 
 
 def add_hold(parser: argparse.ArgumentParser) -> None:
@@ -75,7 +78,8 @@ def choices(args: argparse.Namespace) -> tuple[str, ...]:
     if not any(sign in it for it in args.instruments for sign in "*?["):
         return tuple(args.instruments)
     with lab_of(args) as lab:
-        names = [str(it["name"]) for it in lab.status()["instruments"]]
+        status = Start(args).tries(lab.status)
+    names = [str(it["name"]) for it in status["instruments"]]
     found = []
     for it in args.instruments:
         its = fnmatch.filter(names, it) or [it]
@@ -83,6 +87,33 @@ def choices(args: argparse.Namespace) -> tuple[str, ...]:
             raise ValueError(f"no instrument of this bay is like {it}: there are {', '.join(names)}")
         found += its
     return tuple(dict.fromkeys(found))
+
+
+class Start:
+    """For whom no broker is there yet: it may be just being started."""
+
+    def __init__(self, args: argparse.Namespace) -> None:
+        self._until = time.monotonic() + (STARTING if args.timeout is None else min(STARTING, args.timeout))
+        self._waits = not args.quiet
+        self._address = address_of(args)
+
+    def tries(self, what: Callable[[], Result]) -> Result:
+        while True:
+            try:
+                return what()
+            except Exception as fault:
+                if not is_absent(fault) or time.monotonic() > self._until:
+                    raise
+            if self._waits:
+                self._waits = False
+                say(f"waits for the broker: it doesn't listen yet at {self._address}")
+            time.sleep(0.1)
+
+
+def is_absent(fault: Exception) -> bool:
+    """Whether nobody listens there. (What the whole client raises is known without importing it.)"""
+    is_unreachable = type(fault).__name__ == "Unreachable" and re.search("Connection refused|No such file", str(fault))
+    return isinstance(fault, Absent) or bool(is_unreachable)
 
 
 def address_of(args: argparse.Namespace) -> str:
@@ -116,20 +147,32 @@ def holds(args: argparse.Namespace, wish: Wish, waits: Waits, signals: Signals, 
         lab._was_there = was_there
         return lab
 
-    began, was_there, ticket = time.monotonic(), False, ""
+    began, was_there, ticket, start = time.monotonic(), False, "", Start(args)
     address = address_of(args)
+
+    def left() -> Optional[float]:
+        return wish.timeout and max(0.0, wish.timeout + began - time.monotonic())
+
     if address.startswith("unix:") and not address.startswith("unix://"):
-        quick = Quick(address.removeprefix("unix:"), wish, waits, connects, signals.begins)
+        tried: list[Quick] = []
+
+        def quickly() -> Quick:
+            tried[:] = [Quick(address.removeprefix("unix:"), wish._replace(timeout=left()), waits, connects, signals.begins)]
+            return ends.enter_context(tried[0])
+
         try:
-            return ends.enter_context(quick)
+            return start.tries(quickly)
         except Odd:
-            was_there, ticket = quick.wire.was_there, quick.ticket
+            was_there, ticket = tried[0].wire.was_there, tried[0].ticket
     lab = ends.enter_context(connects(was_there))
-    left = wish.timeout and max(0.0, wish.timeout + began - time.monotonic())
-    held = lab.hold(*wish.instruments, any_of=wish.any_of, timeout=left, waits=waits)
-    # (it may hold by now, and the broker's word be lost)
-    held._ticket = ticket
-    return ends.enter_context(held)
+    held = lab.hold(*wish.instruments, any_of=wish.any_of, waits=waits)
+
+    def wholly() -> Held:
+        # (it may hold by now, and the broker's word be lost)
+        held._ticket, held.timeout = ticket, left()
+        return ends.enter_context(held)
+
+    return start.tries(wholly)
 
 
 def runs(command: list[str], held: Union[Quick, Held], signals: Signals, address: str = "") -> int:

@@ -139,6 +139,27 @@ class Quick(OnBroker):
             broker.begin()
             self.assertEqual(broker.ran("release", "guest-1").returncode, 0)
 
+    def test_a_broker_that_is_being_started(self) -> None:
+        """Who comes a moment too early waits for it; who doesn't want to wait doesn't."""
+        for slashes, is_there, instrument in (("", True, ["scope"]), ("//", False, ["scope"]), ("", False, ["--any", "sc*"])):
+            with self.subTest(slashes, is_there=is_there, instrument=instrument):
+                broker = self.broker()
+                broker.kill()
+                socket, broker.address = broker.address, broker.address.replace("unix:", f"unix:{slashes}")
+                if not is_there:
+                    os.unlink(socket.removeprefix("unix:"))
+                for limit in (["-n"], ["--timeout", "0.5"]):
+                    done = broker.ran("hold", *instrument, *limit, "--", "true")
+                    self.assertEqual((done.returncode, "waits for the broker" in done.stderr), (69, limit != ["-n"]), done.stderr)
+                    self.assertIn("can't be reached", done.stderr)
+                runs = broker.started("hold", *instrument, "--", "echo", "ran")
+                assert runs.stderr is not None
+                told = f"labrun-broker: waits for the broker: it doesn't listen yet at {broker.address}\n"
+                self.assertEqual(runs.stderr.readline(), told)
+                broker.address = socket
+                broker.begin()
+                self.assertEqual((runs.communicate(timeout=LIMIT), runs.returncode), (("ran\n", ""), 0))
+
     def test_one_whose_time_is_over_has_asked_once(self) -> None:
         broker = self.broker(BAY, "--state", "FOLDER/state")
         runs = self.holds(broker, "exit 0")
