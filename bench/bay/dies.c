@@ -6,7 +6,9 @@
                              of the bytes are in the file; of a sync, as a power cut that leaves half of what wasn't synced); or `behind`. Or
                              the call `fails`: of a write half of the bytes go in, and then the disk is full for two more calls. Or a sync
                              `hangs` for ever
-     SYNCED=FILE             what a power cut would leave: how many bytes of the file were synced, and whether its folder was; 8 bytes each
+     SYNCED=FILE             what a power cut would leave: how many bytes of the file were synced, and whether its folder was; and which bytes
+                             a sync that failed has lost (from one more than there, 0 for none; to there): no later sync brings them to the
+                             disk, unless they are written again, by this process or the next; 8 bytes each
      SLOW=N                  a sync takes up to so many microseconds */
 #define _DEFAULT_SOURCE
 #include <errno.h>
@@ -63,12 +65,20 @@ static void is_synced(off_t at, uint64_t what) {
     if (file < 0 || __real_pwrite(file, &what, sizeof what, at) != sizeof what || close(file)) abort();
 }
 
+/* These bytes were written, or cut off. (What is cut off behind the first that are lost is lost no more.) */
+static void are_anew(off_t from, off_t to) {
+    uint64_t first = synced(16);
+    if (first && to == INT64_MAX && (uint64_t)from < synced(24)) is_synced(24, (uint64_t)from);
+    if (first && (uint64_t)from < first && synced(24) <= (uint64_t)to) is_synced(16, 0);
+}
+
 ssize_t __wrap_pwrite(int file, const void *bytes, size_t length, off_t at) {
     const char *how = how_ends("write", ++writes);
     if (is_full > 0) return is_full--, refuses(ENOSPC);
     dies_if(strcmp(how, "before") == 0);
     int by_half = strcmp(how, "middle") == 0, fails = strcmp(how, "fails") == 0;
     ssize_t wrote = __real_pwrite(file, bytes, by_half || fails ? (length + 1) / 2 : length, at);
+    if (wrote > 0) are_anew(at, at + wrote);
     dies_if(by_half || strcmp(how, "behind") == 0);
     if (fails) is_full = 2;
     return wrote;
@@ -81,14 +91,17 @@ int __wrap_fsync(int file) {
     dies_if(strcmp(how, "before") == 0);
     if (slow) usleep((useconds_t)(rand() % (atoi(slow) + 1)));
     while (strcmp(how, "hangs") == 0) pause();
-    if (strcmp(how, "fails") == 0) return refuses(EIO);
+    if (strcmp(how, "fails") == 0) {
+        if (S_ISREG(found.st_mode) && synced(0) < (uint64_t)found.st_size) is_synced(24, (uint64_t)found.st_size), is_synced(16, synced(0) + 1);
+        return refuses(EIO);
+    }
     if (strcmp(how, "middle") == 0) {
         off_t stays = (off_t)synced(0);
         if (S_ISREG(found.st_mode) && stays < found.st_size && __real_ftruncate(file, stays + (found.st_size - stays) / 2)) abort();
         dies_if(1);
     }
     int status = __real_fsync(file);
-    if (S_ISREG(found.st_mode)) is_synced(0, (uint64_t)found.st_size);
+    if (S_ISREG(found.st_mode)) is_synced(0, synced(16) ? synced(16) - 1 : (uint64_t)found.st_size);
     else is_synced(8, 1);
     dies_if(strcmp(how, "behind") == 0);
     return status;
@@ -99,6 +112,7 @@ int __wrap_ftruncate(int file, off_t length) {
     dies_if(strcmp(how, "before") == 0);
     if (strcmp(how, "fails") == 0) return refuses(EIO);
     int status = __real_ftruncate(file, length);
+    are_anew(length, INT64_MAX);
     dies_if(strcmp(how, "behind") == 0 || strcmp(how, "middle") == 0);
     return status;
 }

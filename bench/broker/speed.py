@@ -6,14 +6,13 @@ usage: bench/broker/speed.py [--best N] [--work MICROSECONDS] [--sessions N] [--
 Stations on 2, 8 and 32 threads do sessions without a pause (or with so many microseconds of work, asleep): each on an instrument of its own
 (`disjoint`); each on its own and the next one's (`ring`); all on the same one (`all one`). They do them by
 
-  labrun       the package: `for session in job.sessions(): with session: ..`
+  labrun       one `labrun.Lab`: `with lab.hold(..): ..`; with LABRUN_FAST=0 without its extension in C, if that is built
   Condition    one `threading.Condition` over a set of the instruments that are taken: who waits is woken by each that lets go
   locks        a `threading.Lock` for each instrument, all taken in one order
 
-Each number is the best of N runs (5), which are taken in turn; a run is so many benches (4), one after another, as a script has a thousand
-sessions of a job at most; what is timed are the sessions alone. Beside them stands labrun beside Condition, and below the geometric mean and
-the worst of these. The last columns are of one bench more, which isn't timed: how long a session waits from asking to holding, in
-milliseconds, 99 of 100 and the longest. The package is found by PYTHONPATH, the library by LABRUN_LIBRARY. Nothing else should run on the machine: a session
+Each number is the best of N runs (5), which are taken in turn; a run is so many labs (4), one after another; what is timed are the sessions
+alone. Beside them stands labrun beside Condition, and below the geometric mean and the worst of these. The last columns are of one lab more,
+which isn't timed: how long a session waits from asking to holding, in milliseconds, 99 of 100 and the longest. The package is found by PYTHONPATH, the library by LABRUN_LIBRARY. Nothing else should run on the machine: a session
 that is handed over waits until the next thread gets a processor."""
 
 import argparse
@@ -34,22 +33,19 @@ def needs(shape, threads, at):
 
 
 def by_labrun(shape, threads, sessions, work, waits):
-    text = ["lab 1"]
-    for at in range(threads):
-        text.append(f"job station-{at}")
-        text += ["session", *(f"i-{it} add 1" for it in needs(shape, threads, at)), "end"] * sessions
-    bench = labrun.Bench.from_text("\n".join(text) + "\n")
+    lab = labrun.Lab(f"i-{it}" for it in range(threads))
 
     def station(at):
-        for session in bench.jobs[at].sessions():
+        mine = [f"i-{it}" for it in needs(shape, threads, at)]
+        for _ in range(sessions):
             asked = perf_counter() if waits is not None else 0
-            with session:
+            with lab.hold(*mine):
                 if waits is not None:
                     waits.append(perf_counter() - asked)
                 if work:
                     time.sleep(work)
 
-    return station, bench.close
+    return station, lab.close
 
 
 def by_condition(shape, threads, sessions, work, waits):
