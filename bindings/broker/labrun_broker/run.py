@@ -13,7 +13,7 @@ import time
 from typing import TYPE_CHECKING, Callable, Iterator, Optional, TypeVar, Union
 
 from .family import Family, adopting, ends
-from .quick import DEFAULT, Absent, Odd, Quick, Wish, user
+from .quick import DEFAULT, Absent, Odd, Quick, Silent, Wish, user
 from .texts import plain, seconds
 from .words import CANT_RUN, NOT_FOUND, PROGRAM, TAKEN, USAGE, add_client, lab_of, say
 
@@ -162,6 +162,10 @@ def holds(args: argparse.Namespace, wish: Wish, waits: Waits, signals: Signals, 
 
         try:
             return start.tries(quickly)
+        except Silent:
+            from .errors import Unreachable
+
+            raise Unreachable(f"the broker at {address} doesn't answer") from None
         except Odd:
             was_there, ticket = tried[0].wire.was_there, tried[0].ticket
     lab = ends.enter_context(connects(was_there))

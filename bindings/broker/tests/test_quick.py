@@ -160,6 +160,36 @@ class Quick(OnBroker):
                 broker.begin()
                 self.assertEqual((runs.communicate(timeout=LIMIT), runs.returncode), (("ran\n", ""), 0))
 
+    def test_a_broker_that_is_stopped(self) -> None:
+        """A time limit is kept all the same, and nothing is held once the broker goes on."""
+        for bay in (BAY, RELEASES):
+            for limit, seconds in ((["-n"], 0.0), (["--timeout", "2"], 2.0)):
+                with self.subTest(bay, limit=limit):
+                    broker = self.broker(bay, "--state", "FOLDER/state")
+                    assert broker.process is not None
+                    broker.process.send_signal(signal.SIGSTOP)
+                    try:
+                        begun = time.monotonic()
+                        done = broker.ran("hold", "scope", *limit, "--", "echo", "ran")
+                        took = time.monotonic() - begun
+                    finally:
+                        broker.process.send_signal(signal.SIGCONT)
+                    told = f"labrun-broker: the broker at {broker.address} doesn't answer\n"
+                    self.assertEqual((done.returncode, done.stdout, done.stderr), (69, "", told))
+                    self.assertTrue(seconds <= took < seconds + 4, took)
+                    time.sleep(1)
+                    self.assertEqual(self.state(broker), "idle", self.records(broker))
+
+    def test_a_broker_that_answers_late(self) -> None:
+        """One that is there isn't given up: its own answer is awaited."""
+        broker = self.broker()
+        assert broker.process is not None
+        broker.process.send_signal(signal.SIGSTOP)
+        runs = broker.started("hold", "scope", "-n", "--", "echo", "ran")
+        time.sleep(1.6)
+        broker.process.send_signal(signal.SIGCONT)
+        self.assertEqual((runs.communicate(timeout=LIMIT), runs.returncode), (("ran\n", ""), 0))
+
     def test_one_whose_time_is_over_has_asked_once(self) -> None:
         broker = self.broker(BAY, "--state", "FOLDER/state")
         runs = self.holds(broker, "exit 0")
