@@ -4,6 +4,7 @@ from __future__ import annotations
 
 import asyncio
 import concurrent.futures
+import contextlib
 import os
 import threading
 import time
@@ -48,7 +49,9 @@ class Work(Generic[Result]):
         except BaseException:
             if not self._done.done():
                 self._loop.call_soon_threadsafe(self._give_up)
-                concurrent.futures.wait([self._done], 5)
+                # (concurrent.futures.wait doesn't see that it is cancelled)
+                with contextlib.suppress(Exception):
+                    self._done.exception(5)
             raise
 
     # what follows runs on the loop
