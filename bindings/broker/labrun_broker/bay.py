@@ -30,6 +30,7 @@ from typing import Any, Optional, Union
 
 # what the library can take (the guests are a class, as each station is one, of 32); of guests, as many as a status can show
 MOST_STATIONS, MOST_INSTRUMENTS, MOST_GUESTS, NAME_LENGTH = 31, 64, 1000, 16
+MOST_NUMBER = 1000000
 KEYWORDS = ("lab", "job", "session", "end", "steps", "patience")
 A_NAME = f"up to {NAME_LENGTH} of a to z, digits and `-`, first a letter, and none of {' '.join(KEYWORDS)}"
 
@@ -194,14 +195,15 @@ class _Reader:
     def guests(self, instruments: tuple[str, ...]) -> tuple[int, tuple[str, ...]]:
         table = self.table("guests")
         self.knows("guests.", table, ("count", "may_use"))
-        count = self.number("guests.count", table.get("count", 0), 0)
+        count = self.number("guests.count", table.get("count", 0), 0, MOST_GUESTS)
         uses = self.uses("guests.may_use", table["may_use"], instruments) if "may_use" in table else instruments
         return count, uses
 
-    def number(self, key: str, given: object, least: int) -> int:
-        if isinstance(given, int) and not isinstance(given, bool) and least <= given <= 1000000:
+    def number(self, key: str, given: object, least: int, most: int = MOST_NUMBER) -> int:
+        # (of one that is too large for the library `fits` says more)
+        if isinstance(given, int) and not isinstance(given, bool) and least <= given <= MOST_NUMBER:
             return given
-        self.fault(key, f"a number from {least} to 1000000 is wanted")
+        self.fault(key, f"a number from {least} to {most} is wanted")
         return least
 
     def limits(self) -> Limits:

@@ -41,7 +41,10 @@ class Folder:
 
     def __init__(self, path: str, syncs: bool) -> None:
         self.path, self._syncs = path, syncs
-        os.makedirs(path, 0o750, exist_ok=True)
+        try:
+            os.makedirs(path, 0o750, exist_ok=True)
+        except FileExistsError:
+            raise LabrunError(f"{path}: it isn't a folder, and the broker keeps its state in one") from None
         _looks_at_former(path)
         try:
             self.store: Store = FileStore(f"{path}/{JOURNAL}", syncs, 0o640)

@@ -58,7 +58,7 @@ class Keeping:
         self.grace, self.places, self.complaints = it.grace, it.places, it.complaints
         self._news.file = None if it.state is None else it.state.records
         store = None if it.state is None else it.state.store
-        self._shell = Shell(it.machine, store, it.first, self._is_told, self._news.sync, lambda text: self.says(text))
+        self._shell = Shell(it.machine, store, it.first, self._is_told, self._news.sync, self._says_of_the_disk)
         # (who only waited is in the records alone)
         asked = (record["session"] for record in it.recent if record.get("session"))
         self._next, self.opened_at = max(1, it.machine.next_number(), 1 + max(asked, default=0)), self._shell.now()
@@ -112,6 +112,11 @@ class Keeping:
 
     def now(self) -> int:
         return self._shell.now()
+
+    def _says_of_the_disk(self, text: str) -> None:
+        # (whoever reads that all is written may look at the records at once)
+        self._news.write()
+        self.says(text)
 
     def recent(self) -> list[Record]:
         """The last records that are kept, those of brokers before this one, too."""
@@ -387,9 +392,9 @@ class Keeping:
     def status(self) -> dict[str, Any]:
         return Standings(self).status()
 
-    def disk_fault(self) -> str:
-        """What is wrong with the disk; mostly nothing."""
-        return self._shell.is_wrong()
+    def disk_fault(self) -> tuple[str, Optional[int]]:
+        """What is wrong with the disk, mostly nothing, and since when."""
+        return self._shell.is_wrong(), self._shell.wrong_since
 
     @property
     def write_failures(self) -> int:

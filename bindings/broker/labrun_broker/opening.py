@@ -12,10 +12,13 @@ from labrun.machine import ANOTHER, MAY_NOT, NEVER, UNSOUND, Machine, Refusal, T
 from . import shell
 from .bay import Bay
 from .folder import State
-from .journals import sessions_of
+from .journals import Left, sessions_of
 from .places import Places, longest, mark_of
 from .records import Record
+from .texts import counted
 from .wishes import MOST_CHOICES, milliseconds
+
+SHOWN = 8  # guests in a text
 
 
 class Opened:
@@ -59,9 +62,9 @@ class Opened:
     def _keeps_longer(self, grace: Optional[int], before: Optional[int]) -> Optional[int]:
         kept = longest((grace, before))
         if kept != grace:
-            told = "until somebody releases them" if kept is None else f"for {kept / 1000:g} s"
-            why = f"sessions hold whose clients were told that they are kept {told}"
-            self.complaints.append(f"{why}: so are all, until the broker begins when none of these holds")
+            told = "until somebody releases it" if kept is None else f"for {kept / 1000:g} s"
+            why = f"who holds now was told that a session whose client is gone is kept {told}"
+            self.complaints.append(f"{why}. That goes for all sessions until those have ended and the broker is started again")
         return kept
 
     def _machine(self, text: bytes, grace: Optional[int]) -> Machine:
@@ -80,8 +83,15 @@ class Opened:
         if it.status == ANOTHER:
             return "it is of another bay: give this one a folder of its own"
         if it.status == MAY_NOT and (of := self.left.get(it.fault)):
-            station = self.places.station(of.kind) or of.station or "a guest"
-            held = " ".join(self.places.names(of.needs))
-            why = f"{station} holds {held}, which by the bay it may not, or more guests hold than may"
-            return f"{why}: begin with the bay as it was until that is over"
+            return f"{self._may_not(of)}: begin with the bay as it was until that is over"
         return f"the bay doesn't open: {it}"
+
+    def _may_not(self, of: Left) -> str:
+        """Either its instruments aren't for it, or there are more guests than may hold."""
+        station = self.places.station(of.kind)
+        allowed = self.bay.stations.get(station, ()) if station else self.bay.guests_use
+        if lacks := [name for name in self.places.names(of.needs) if name not in allowed]:
+            return f"{station or of.station or 'a guest'} holds {' '.join(lacks)}, which by the bay it may not use"
+        guests = [it.station or "a guest" for it in self.left.values() if not it.how and not self.places.station(it.kind)]
+        more = f" and {len(guests) - SHOWN} more" if len(guests) > SHOWN else ""
+        return f"{', '.join(guests[:SHOWN])}{more} hold, and by the bay only {counted(self.bay.guests, 'guest')} may"

@@ -75,10 +75,12 @@ function drawStuck() {
   if (long) stuck.push(long);
   const most = WALL ? WALL_ALARMS : stuck.length, boxes = stuck.slice(0, most).map(alarmOf);
   if (stuck.length > most) boxes.push(make("div", "alarm gone", `and ${stuck.length - most} more`));
-  $("stuck").replaceChildren(...(boxes.length ? boxes : [make("div", "alarm fine", "Nothing is stuck.")]));
+  // (what is wrong with the disk stands above, and keeps everybody)
+  const fine = status.disk ? "" : "Nothing is stuck.";
+  $("stuck").replaceChildren(...(boxes.length || !fine ? boxes : [make("div", "alarm fine", fine)]));
   // (who listens to the page hears it when it changes, and not each second)
   const texts = stuck.map(it => `${it.name} ${it.state === "gone" ? "is gone, and still holds" : "holds for long, and is waited for:"} ${it.instruments.join(", ")}`);
-  say("told", texts.join(". ") || "Nothing is stuck.");
+  say("told", texts.join(". ") || fine);
 }
 function say(where, text) {
   if ($(where).textContent !== text) $(where).textContent = text;
@@ -106,7 +108,8 @@ function rowOf(it, long) {
 function links(why, seen) {
   // the rest of a chain: who has the instrument, and, if that one only waits, for whom
   const other = station(why.station), state = other && other.state === "gone" ? "gone" : why.holds ? "holding" : "";
-  const told = state === "gone" ? [" has been gone for ", since(other.gone_since)] : why.holds ? [" has held for ", since(why.since)] : [];
+  const holding = other && other.state === "waiting" ? [" waits for the disk"] : [" has held for ", since(why.since)];
+  const told = state === "gone" ? [" has been gone for ", since(other.gone_since)] : why.holds ? holding : [];
   const next = why.holds || !other || seen.has(why.station) ? null : other.waits_for[0];
   seen.add(why.station);
   return [" → ", named(why.instrument), ": ", make("span", `chip ${state}`, named(why.station)), ...told, ...(next ? links(next, seen) : [])];
@@ -115,7 +118,7 @@ function chainOf(it) {
   // (a line is too short for all of it: for what it waits stands beside the instruments, too)
   const box = WALL ? make("div", "chain", bold(it.name), " ", since(it.since)) : make("div", "chain", bold(it.name), " waits for ", ...list(it.instruments), ": ", since(it.since));
   for (const why of it.waits_for.slice(0, WALL ? 1 : MOST_CHAINS)) box.append(make("div", "links", ...(WALL ? [] : [named(it.name)]), ...links(why, new Set([it.name]))));
-  if (!it.waits_for.length) box.append(make("div", "links", "nobody keeps it waiting at this moment"));
+  if (!it.waits_for.length) box.append(make("div", "links", status.disk ? "it waits for the disk" : "nobody keeps it waiting at this moment"));
   return box;
 }
 function inLineOf(it) {
@@ -136,7 +139,7 @@ function drawNow() {
   const all = [...waiting.map(it => () => chainOf(it)), ...(status.in_line || []).map(it => () => inLineOf(it))], most = WALL ? WALL_WAITS : all.length;
   const chains = all.slice(0, most).map(it => it());
   if (all.length > most) chains.push(make("div", "chain soft", `and ${all.length - most} more`));
-  $("waits").replaceChildren(...(chains.length ? chains : [make("div", "soft", "Nobody waits.")]));
+  $("waits").replaceChildren(...(chains.length ? chains : [make("div", "soft", status.disk ? "Nobody waits for another." : "Nobody waits.")]));
 }
 function rowHeight() {
   // on a wall all rows are seen, unless they would be too low to be read: then the page is higher than the screen
@@ -299,6 +302,8 @@ function listen() {
 }
 
 document.body.classList.toggle("wall", WALL);
+// (above the picture there is no room for what the colours mean)
+if (WALL) $("clock").before(document.querySelector(".keys"));
 drawSpans();
 listen();
 setInterval(tick, 1000);

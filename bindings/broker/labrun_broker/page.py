@@ -78,7 +78,7 @@ class Watch:
         number, at, status = self._status
         now = time.monotonic()
         if number != self.number or now > at + 1:
-            status = {**self._keeping.status(), "disk": self._keeping.disk_fault(), "notice": self._keeping.notice}
+            status = {**self._keeping.status(), "notice": self._keeping.notice}
             self._status = (self.number, now, status)
         return status
 

@@ -12,6 +12,7 @@ from typing import Any, AsyncIterator, Optional
 Record = dict[str, Any]
 
 KEPT_IN_MEMORY = 1000
+AGAIN = 0.2  # seconds after which what couldn't be written is tried again
 MOST_WAITING = 1 << 24  # bytes that can't be written; what comes then is lost but for what the journal has
 LINE = json.JSONEncoder(separators=(",", ":"))
 
@@ -24,6 +25,7 @@ class Records:
         self.file = os.open(path, os.O_RDWR | os.O_CREAT | os.O_APPEND | os.O_CLOEXEC, 0o640)
         self._waiting = bytearray()
         self._is_synced, self._is_due = True, False
+        self._again: Optional[asyncio.TimerHandle] = None
         size = os.fstat(self.file).st_size
         if size and os.pread(self.file, 1, size - 1) != b"\n":
             # (the broker was killed in the midst of a line)
@@ -38,12 +40,20 @@ class Records:
         self._waiting += LINE.encode(record).encode() + b"\n"
 
     def write(self) -> None:
-        """What can't be written is kept, and tried again with the next."""
+        """What can't be written is kept, and tried again with the next, and soon if none comes."""
         self._is_due = False
-        with contextlib.suppress(OSError):
+        self._stops_trying()
+        try:
             while self._waiting:
                 del self._waiting[: os.write(self.file, self._waiting)]
                 self._is_synced = False
+        except OSError:
+            self._again = asyncio.get_running_loop().call_later(AGAIN, self.write)
+
+    def _stops_trying(self) -> None:
+        if self._again is not None:
+            self._again.cancel()
+            self._again = None
 
     def sync(self) -> None:
         """What was written is on the disk, as far as that can be. Another thread may call it."""
@@ -54,6 +64,7 @@ class Records:
 
     def close(self) -> None:
         self.write()
+        self._stops_trying()
         self.sync()
         os.close(self.file)
 

@@ -10,11 +10,11 @@ import resource
 import signal
 import socket
 import sys
-from typing import TYPE_CHECKING, Any
+from typing import TYPE_CHECKING, Any, Awaitable, Callable
 
-from .bay import read_bay
+from .bay import BadAddress, read_bay
 from .quick import DEFAULT
-from .texts import plain, seconds
+from .texts import counted, plain, seconds
 from .words import USAGE, say
 
 if TYPE_CHECKING:
@@ -70,7 +70,7 @@ async def serve(args: argparse.Namespace) -> int:
         ends.push_async_callback(server.stop, 0.5)
         for runner in await web(args, keeping):
             ends.push_async_callback(runner.cleanup)
-        say(f"bay {bay.name}: {len(bay.instruments)} instruments, at {' '.join(its_door.addresses)}")
+        say(f"bay {bay.name}: {counted(len(bay.instruments), 'instrument')}, at {' '.join(its_door.addresses)}")
         for it in (*keeping.complaints, *begins):
             say(plain(it))
         keeping.says = lambda text: say(plain(text)[:MOST_TOLD]) if door.is_read() else None
@@ -87,12 +87,20 @@ async def web(args: argparse.Namespace, keeping: Keeping) -> list[Any]:
     if args.page is not None:
         from .page import serve_page
 
-        runners.append(await serve_page(keeping, args.page, args.group))
+        runners.append(await shown("--page", serve_page, keeping, args.page, args.group))
     if args.metrics is not None:
         from .metrics import serve_metrics
 
-        runners.append(await serve_metrics(keeping, args.metrics, args.group))
+        runners.append(await shown("--metrics", serve_metrics, keeping, args.metrics, args.group))
     return runners
+
+
+async def shown(option: str, serves: Callable[..., Awaitable[Any]], *given: Any) -> Any:
+    """A fault of its address says which of the broker's it is."""
+    try:
+        return await serves(*given)
+    except BadAddress as fault:
+        raise BadAddress(f"{option} {fault}") from None
 
 
 async def until_the_end() -> None:

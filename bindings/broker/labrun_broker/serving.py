@@ -4,6 +4,7 @@ from __future__ import annotations
 
 import asyncio
 import logging
+import os
 import re
 from typing import Any, AsyncIterator, Awaitable, Callable, Coroutine, Optional, Union
 
@@ -127,4 +128,9 @@ async def listener_at(at: Union[str, tuple[str, int]], group: Optional[str], new
     loop = asyncio.get_running_loop()
     if isinstance(at, str):
         return await loop.create_unix_server(new, sock=bound(at, group))
-    return await loop.create_server(new, *at, family=family_of(at[0]))
+    try:
+        return await loop.create_server(new, *at, family=family_of(at[0]))
+    except OSError as fault:
+        # (the loop's own text has the address once more)
+        why = os.strerror(fault.errno) if fault.errno and fault.errno > 0 else fault.strerror or fault
+        raise BadAddress(f"{at[0]}:{at[1]}: it can't listen there: {why}") from None

@@ -52,6 +52,8 @@ class Shell:
         self.failures = 0
         self._slow_timer: Optional[asyncio.TimerHandle] = None
         self._is_slow = False
+        # since when something is wrong with the disk, if it is
+        self.wrong_since: Optional[int] = None
         self._pause = AGAIN
         self._mending: Optional[asyncio.Task[None]] = None
 
@@ -141,6 +143,7 @@ class Shell:
     def _takes_long(self) -> None:
         if not self._is_slow:
             self._is_slow = True
+            self._is_wrong_since(self.now() - int(SLOW * 1000))
             self._says(f"{self._path}: {self._because()}: nobody is told that it holds until it does")
 
     def _is_synced(self, position: int, took_all: bool = False) -> None:
@@ -150,7 +153,7 @@ class Shell:
             return
         self._durable, self._pause = position, AGAIN
         if (self._last_fault is not None or self._is_slow) and self.fault is None:
-            self._last_fault, self._is_slow = None, False
+            self._last_fault, self._is_slow, self.wrong_since = None, False, None
             self._says(f"{self._path}: all is written")
         self.machine.durable(position)
         for upto, wants_all, one in self._waiting:
@@ -174,6 +177,7 @@ class Shell:
         self._sync_timer = None
         if self.fault is None:
             is_new, self.fault, self._last_fault = self._last_fault is None, fault, fault
+            self._is_wrong_since(self.now())
             if is_new:
                 self._says(f"{self._path}: {self._because()}, and is tried again: nobody is told that it holds until then")
             self._mending = self._loop.create_task(self._mends())
@@ -225,6 +229,10 @@ class Shell:
     def _because(self) -> str:
         it = self._last_fault
         return "the disk doesn't answer" if it is None else f"a write failed ({getattr(it, 'strerror', None) or it})"
+
+    def _is_wrong_since(self, moment: int) -> None:
+        if self.wrong_since is None:
+            self.wrong_since = moment
 
     def is_wrong(self) -> str:
         """What is wrong with the disk; mostly nothing."""

@@ -24,7 +24,7 @@ if TYPE_CHECKING:
     from .keeping import Keeping
 
 
-GONE = "gone for"
+GONE, ON_DISK = "gone for", "once that is on the disk"
 SHOWN = 8  # guests in a text
 
 
@@ -87,6 +87,7 @@ class Standings:
 
     def __init__(self, keeping: Keeping) -> None:
         self._keeping, self._now, self._at = keeping, keeping.now(), time.time()
+        self._wrong, self._wrong_since = keeping.disk_fault()
         self.holders, self.waiters = list[tuple[Session, int, int]](), list[tuple[Session, int]]()
         for it in keeping.machine.standings():
             if (session := keeping.by_number.get(it.number)) is None:
@@ -134,8 +135,7 @@ class Standings:
     def why(self, session: Session) -> str:
         """The same as a text; also if there is no place, or the disk keeps it waiting."""
         if self._holds(session):
-            wrong = self._keeping.disk_fault()
-            return "it is its turn, and it holds once that is on the disk" + (f" ({wrong})" if wrong else "")
+            return f"it is its turn, and it holds {self._once_written()}"
         if self.is_full(session.kind):
             return self._is_taken(session)
         return ", ".join(it["text"] for it in self.keepers(session)) or "nobody keeps it any more"
@@ -144,13 +144,18 @@ class Standings:
         """Whom a session waits for, as a text, too; and what of that has to change before it is told again."""
         keepers, why = self.keepers(session), self.why(session)
         who = tuple((it["instrument"], it["station"], it["holds"]) for it in keepers)
-        return keepers, why, (who, self.is_full(session.kind), self._holds(session) and why, why.count(GONE))
+        return keepers, why, (who, self.is_full(session.kind), self._holds(session) and why, why.count(GONE), why.count(ON_DISK))
 
     def _name(self, bit: int) -> str:
         return self._keeping.places.instruments[bit]
 
     def _is_held(self, bit: int, holder: Session, since: int) -> str:
+        if self._wrong and self._is_untold(holder):
+            return f"{self._name(bit)} is {holder.name}'s {self._once_written()}"
         return f"{self._name(bit)} is held by {holder.name} for {self._for(since)}{self._about(holder)}"
+
+    def _once_written(self) -> str:
+        return ON_DISK + (f" ({self._wrong})" if self._wrong else "")
 
     def _is_kept(self, bit: int, other: Session) -> str:
         ends = [(it, *self._held[it]) for it in bits_of(other.wanted) if it in self._held]
@@ -196,6 +201,8 @@ class Standings:
             "sessions": keeping.sessions,
             "refusals": keeping.refusals,
             "version": 2,
+            "disk": self._wrong,
+            "disk_since": self.when(self._wrong_since),
         }
 
     def _instrument(self, name: str, waiting: dict[int, list[str]]) -> dict[str, Any]:
@@ -221,14 +228,20 @@ class Standings:
         row = {"name": name, "state": "idle", "instruments": [], "since": self.when(since), "by": None, "note": None, "gone_since": None}
         if session is None:
             return {**row, "session": None, "waits_for": []}
-        # (one that holds, and wasn't told so yet, is at its instruments as good as ever)
-        state = "holding" if session.state == "waiting" and self._holds(session) else session.state
+        state = session.state
+        if self._is_untold(session):
+            # (it is at its instruments as good as ever, unless the disk keeps it from them)
+            state = "waiting" if self._wrong else "holding"
         row |= {"state": state, "instruments": list(session.chosen(self._holding.get(session.number, 0))), "by": session.by, "note": session.note}
         row |= {"gone_since": self.when(session.gone_at), "session": session.number}
         return {**row, "waits_for": self.keepers(session) if state == "waiting" else []}
 
     def _holds(self, session: Session) -> bool:
         return session.number in self._holding
+
+    def _is_untold(self, session: Session) -> bool:
+        """It holds, and its client isn't told so before that is on the disk."""
+        return session.state == "waiting" and self._holds(session)
 
 
 def _number_last(name: str) -> tuple[str, int]:

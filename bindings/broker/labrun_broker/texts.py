@@ -22,6 +22,10 @@ def span(seconds: float, places: int = 0) -> str:
     return f"{whole} s"
 
 
+def counted(number: int, what: str) -> str:
+    return f"{number} {what}" if number == 1 else f"{number} {what}s"
+
+
 def aligned(rows: list[list[str]]) -> list[str]:
     """The lines of a table. (A row with fewer columns has a text as its last one, as wide as it is.)"""
     most = max(map(len, rows))

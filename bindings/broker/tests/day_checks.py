@@ -69,7 +69,12 @@ def same(day: Day) -> None:
         if stream.rules.is_open:
             same_words(day, stream)
     same_releases(day, durable)
-    same_status(day.rules, day.life.keeping.status())
+    status = day.life.keeping.status()
+    if day.has_failed and not status["disk"]:
+        raise Wrong(8, "the disk is at fault, and that isn't shown")
+    if bool(status["disk"]) != (status["disk_since"] is not None):
+        raise Wrong(8, f"the disk is {status['disk'] or 'sound'} since {status['disk_since']}")
+    same_status(day.rules, status)
     same_records(day.rules, day.life.keeping.history)
     same_lines(day)
     for it in day.life.loop.faults:
@@ -121,7 +126,7 @@ def same_releases(day: Day, durable: set[tuple[bytes, int]]) -> None:
 
 
 def same_status(it: rules.Rules, status: dict[str, Any]) -> None:
-    wanted = it.status()
+    wanted = it.status(bool(status["disk"]))
     differ(6, "instruments", wanted["instruments"], {one["name"]: (one["holder"], one["waiting"]) for one in status["instruments"]})
     stations = {one["name"]: one for one in status["stations"]}
     differ(8, "who isn't idle", set(wanted["stations"]), {name for name, one in stations.items() if one["state"] != "idle"})

@@ -344,8 +344,9 @@ class Rules:
     def _stands(self, session: Session) -> Any:
         return self.line._find(session.number)
 
-    def status(self) -> dict[str, Any]:
-        """The instruments with their holders and who waits for them, the stations, and who waits for a place."""
+    def status(self, is_wrong: bool) -> dict[str, Any]:
+        """The instruments with their holders and who waits for them, the stations, and who waits for a place. `is_wrong`: the disk, so that who
+        holds, and can't be told so, is one that waits."""
         at = {it.number: self._stands(it) for it in self.sessions.values()}
         holders = [it for it in self.sessions.values() if at[it.number].stage == model.HOLDS]
         waiters = [it for it in self.sessions.values() if at[it.number].stage == model.WAITS]
@@ -355,17 +356,17 @@ class Rules:
             name: (next((it.name for it in holders if has(it, name)), None), [it.name for it in waiters if wants(it, name)])
             for name in INSTRUMENTS if self.file.may(name)
         }  # fmt: skip
-        free, rows, in_line = self.line._free(), {it.name: self._row(it, at[it.number]) for it in holders}, []
+        free, rows, in_line = self.line._free(), {it.name: self._row(it, at[it.number], is_wrong) for it in holders}, []
         for it in waiters:
             if it.name in rows or it.kind not in free:
                 in_line.append((KINDS[it.kind], list(it.instruments), it.by))
             else:
-                rows[it.name] = self._row(it, at[it.number])
+                rows[it.name] = self._row(it, at[it.number], is_wrong)
         return {"instruments": instruments, "stations": rows, "in_line": in_line}
 
-    def _row(self, it: Session, at: Any) -> dict[str, Any]:
+    def _row(self, it: Session, at: Any, is_wrong: bool) -> dict[str, Any]:
         is_waiting = at.stage == model.WAITS
-        state = "waiting" if is_waiting else "holding" if it.state == "waiting" else it.state
+        state = "waiting" if is_waiting else "holding" if it.state == "waiting" and not is_wrong else it.state
         its = it.instruments if is_waiting or it.holds else tuple(next(one for one in it.choices if bits(one) == at.needs))
         keepers = {(name, *self._keeper(it, name)) for name in it.instruments if self._keeper(it, name)} if is_waiting else set()
         return {"state": state, "instruments": list(its), "by": it.by, "note": it.note, "session": it.number, "since": at.since, "gone_since": it.gone_at, "waits_for": keepers}

@@ -55,6 +55,10 @@ class Keeping:
         it.update(state="holding", since=self._t(), waits_for=[])
         self.tell("held", station, it["instruments"])
 
+    def untold(self, station: str) -> None:
+        """It has its instruments, and the disk keeps it from them."""
+        self.stations[station].update(state="waiting", untold=True)
+
     def note(self, station: str, text: str) -> None:
         self.stations[station]["note"] = text
         self.tell("note", station, text=text)
@@ -73,10 +77,10 @@ class Keeping:
 
     def _waits_for(self, it: Record) -> list[Record]:
         found = []
-        for instrument in it["instruments"] if it["state"] == "waiting" else []:
+        for instrument in it["instruments"] if it["state"] == "waiting" and "untold" not in it else []:
             for other in self.stations.values():
                 if other is not it and instrument in other["instruments"] and (other["state"] != "waiting" or other["since"] < it["since"]):
-                    holds = other["state"] != "waiting"
+                    holds = other["state"] != "waiting" or "untold" in other
                     text = f"{instrument} is {'held by' if holds else 'kept for'} {other['name']}"
                     found.append({"instrument": instrument, "station": other["name"], "holds": holds, "since": other["since"], "text": text})
                     break
@@ -85,18 +89,15 @@ class Keeping:
     def recent(self) -> list[Record]:
         return recent_records(self.state) if self.state else []
 
-    def disk_fault(self) -> str:
-        return self.disk
-
     def status(self) -> Record:
         stations = [{**it, "waits_for": self._waits_for(it)} for it in self.stations.values()]
         rows = []
         for name in self.instruments:
-            holder = next((it for it in stations if name in it["instruments"] and it["state"] in ("holding", "gone")), None)
-            waiting = [it["name"] for it in stations if name in it["instruments"] and it["state"] == "waiting"]
+            holder = next((it for it in stations if name in it["instruments"] and (it["state"] in ("holding", "gone") or "untold" in it)), None)
+            waiting = [it["name"] for it in stations if name in it["instruments"] and it["state"] == "waiting" and "untold" not in it]
             rows.append({"name": name, "holder": holder and holder["name"], "since": holder and holder["since"], "waiting": waiting})
         about: Record = {"bay": self.name, "at": self._t(), "since": self.since}
-        return {**about, "instruments": rows, "stations": stations}
+        return {**about, "instruments": rows, "stations": stations, "disk": self.disk}
 
     async def changes(self) -> AsyncIterator[None]:
         wake = asyncio.Event()

@@ -172,6 +172,25 @@ class Browser(unittest.TestCase):
         self.seen("body", lambda _: "tall" in self.browser.execute_script("return document.body.className"))
         self.assertGreater(self.browser.execute_script("return document.documentElement.scrollHeight"), 800)
 
+    def test_a_wall_shows_what_its_colours_mean(self) -> None:
+        """All of it, and where the picture and the rows beside it go on."""
+        keys = ["done", "holds now", "failed", "taken away", "client gone", "somebody waits", "gave up"]
+        for width, height in ((1920, 1080), (1280, 800), (900, 700)):
+            self.width_at(width, height)
+            self.browser.get(f"http://127.0.0.1:{self.web.port}/?wall")
+            self.seen("#gantt", lambda text: ":" in text)
+            found, over, rows = self.browser.execute_script(
+                "const box = document.querySelector('#over').getBoundingClientRect(), root = document.documentElement;"
+                "const inside = it => [it, ...(function* () { for (let on = it.parentElement; on; on = on.parentElement) yield on; })()].every(on => {"
+                "  const is = it.getBoundingClientRect(), of = on.getBoundingClientRect();"
+                "  return is.left >= of.left - .5 && is.right <= of.right + .5 && is.top >= of.top - .5 && is.bottom <= of.bottom + .5; });"
+                "const top = it => document.querySelector(it).getBoundingClientRect().top;"
+                "return [[...document.querySelectorAll('.keys span')].filter(inside).map(it => it.innerText), root.scrollWidth,"
+                " top('#gantt svg') + 18 - top('.row')]"
+            )
+            self.assertEqual((found, over), (keys, width))
+            self.assertLess(abs(rows), 1)
+
     def test_the_focus_stays(self) -> None:
         self.browser.execute_script("document.querySelector('#spans button:nth-of-type(3)').focus()")
         ActionChains(self.browser).send_keys(Keys.ENTER).perform()
@@ -212,8 +231,23 @@ class Browser(unittest.TestCase):
         self.web.keeping.disk = "a write failed (No space left on device)"
         self.do("hold", "board", "scope")
         self.seen("#disk", lambda text: text == "The broker can't write: a write failed (No space left on device). Nobody comes to hold until it can.")
+        self.do("ask", "drive", "supply")
+        self.do("untold", "drive")
+        self.do("ask", "night", "supply")
+        self.seen("#waits", lambda text: "drive waits for supply" in text and "it waits for the disk" in text)
+        self.seen("#waits", lambda text: "night → supply: drive waits for the disk" in text)
+        for name in ("night", "drive"):
+            self.do("end", name, "gave_up")
+        self.seen("#waits", lambda text: "drive" not in text)
+        # and nothing beside it says that all is well
+        self.assertEqual((self.text("#stuck"), self.text("#told"), self.text("#waits")), ("", "", "Nobody waits for another."))
+        self.do("gone", "board")
+        self.seen("#stuck", lambda text: "board has been gone for" in text)
+        self.do("back", "board")
+        self.seen("#stuck", lambda text: text == "")
         self.web.keeping.disk = ""
         self.seen("#disk", lambda text: text == "", 8.0)
+        self.assertEqual((self.text("#stuck"), self.text("#told"), self.text("#waits")), ("Nothing is stuck.", "Nothing is stuck.", "Nobody waits."))
         self.assertFalse(self.browser.execute_script("return document.querySelector('#disk').checkVisibility()"))
 
     def test_what_is_simulated_says_so(self) -> None:

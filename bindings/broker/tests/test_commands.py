@@ -14,6 +14,7 @@ import sys
 import tempfile
 import time
 import unittest
+from importlib.util import find_spec
 from typing import Any
 from unittest import mock
 
@@ -42,6 +43,17 @@ class WithoutBroker(unittest.TestCase):
         self.addCleanup(one.close)
         return int(one.getsockname()[1])
 
+    def test_where_the_page_and_the_numbers_are(self) -> None:
+        """If nobody can listen there, it says whose address that is."""
+        for option, package in (("--page", "aiohttp"), ("--metrics", "prometheus_client")):
+            if not find_spec("aiohttp") or not find_spec(package):
+                continue
+            port, said = self.taken(), io.StringIO()
+            with self.subTest(option), contextlib.redirect_stderr(said):
+                status = main(["serve", f"{self.folder}/bay.toml", "--listen", f"unix:{self.folder}/b.sock", option, f"127.0.0.1:{port}"])
+                told = f"labrun-broker: {option} 127.0.0.1:{port}: it can't listen there: Address already in use\n"
+                self.assertEqual((status, said.getvalue()), (78, told))
+
     def test_words_and_statuses(self) -> None:
         bay, nowhere = f"{self.folder}/bay.toml", f"unix:{self.folder}/no.sock"
         outside = ["serve", bay, "--listen", "0.0.0.0:0"]
@@ -63,6 +75,7 @@ class WithoutBroker(unittest.TestCase):
             (["serve", bay, "--listen", "scope"], 78, "", "scope: unix:PATH or HOST:PORT is wanted"),
             (["serve", bay, "--listen", "127.0.0.1:99999"], 78, "", "127.0.0.1:99999: it can't listen there"),
             (["serve", bay, "--listen", f"127.0.0.1:{self.taken()}"], 78, "", "it can't listen there: Address already in use"),
+            (["serve", bay, "--listen", "unix:" + bay + ".sock", "--state", bay], 1, "", f"labrun-broker: {bay}: it isn't a folder, and the broker keeps its state in one\n"),
             (["serve", bay, "--listen", "unix:/no/where"], 78, "", "unix:/no/where: no socket can be made in /no"),
             (["serve", bay, "--listen", f"unix:{bay}"], 78, "", "bay.toml: that is there, and is no socket"),
             (["serve", bay, "--listen", nowhere, "--group", "no-such-group"], 78, "", "--group no-such-group: there is no such group"),

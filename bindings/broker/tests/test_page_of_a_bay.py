@@ -105,7 +105,7 @@ class OfAFullDisk(test_written.FullDisk):
         self.assertEqual(disk(), "")
 
     # (those of the disk are run where they stand)
-    test_who_asks = test_who_asks_without_a_time = test_who_lets_go = test_who_notes = test_a_broker_begins = test_grace_that_ends_meanwhile = None
+    test_who_asks = test_who_asks_without_a_time = test_how_the_bay_stands = test_records = test_who_waits_for_the_disk = test_who_lets_go = test_who_notes = test_a_broker_begins = test_grace_that_ends_meanwhile = None
 
 
 class WhatWas(unittest.IsolatedAsyncioTestCase):

@@ -161,7 +161,7 @@ class State(OnBroker):
             self.assertEqual(holders, {"meter": "drive", "load-2": other.station, "supply": "board", "lamp": "drive"})
         self.assertEqual((held.instruments, other.instruments), (("supply",), ("load-2",)))
         broker.end()
-        for bay, text in ((changed.replace('board = ["supply"]', 'board = ["lamp"]'), "board holds supply, which by the bay it may not"),):
+        for bay, text in ((changed.replace('board = ["supply"]', 'board = ["lamp"]'), "board holds supply, which by the bay it may not use"),):
             done = self.served(broker, bay)
             self.assertEqual(done.returncode, 74)
             self.assertIn(text, done.stderr)
@@ -297,9 +297,10 @@ class TakenUp(OnFolder):
             await keeping.hold(wish, owner)
         await keeping.close()
         for before, after, why in (
-            ("count = 4", "count = 1", "a guest|guest-. holds load-., .* or more guests hold than may"),
-            ('radio = ["scope"]', "", "radio holds scope, which by the bay it may not"),
-            (', "load-2"', "", "guest-2 holds load-2, which by the bay it may not"),
+            ("count = 4", "count = 1", "guest-1, guest-2 hold, and by the bay only 1 guest may: begin with the bay as it was until that is over$"),
+            ('radio = ["scope"]', "", "bay.journal: radio holds scope, which by the bay it may not use: begin"),
+            (', "load-2"', "", "bay.journal: guest-2 holds load-2, which by the bay it may not use: begin"),
+            ('radio = ["scope"]', 'radio = ["supply"]\nbench = ["load-1"]', "radio holds scope, which by the bay it may not use: begin"),
         ):
             with self.assertRaisesRegex(labrun.JournalError, why):
                 await self.keeping(folder, BAY.replace(before, after))
@@ -406,7 +407,10 @@ class Terms(OnFolder):
                 keeping = await self.begun(folder, now, 0.02)
                 await asyncio.sleep(0.1)
                 self.assertEqual(how(keeping, "radio")["state"], "gone", "it isn't released after 0.02 s")
-                self.assertEqual((keeping.grace, len(keeping.complaints)), (kept, int(now == "release")))
+                span = "for 60 s" if told == "release" else "until somebody releases it"
+                why = f"who holds now was told that a session whose client is gone is kept {span}. That goes for all sessions until those have ended and"
+                complaints = [f"{why} the broker is started again"] if now == "release" else []
+                self.assertEqual((keeping.grace, keeping.complaints), (kept, complaints))
                 await keeping.close()
             keeping = await self.begun(folder, now, 0.02)
             await keeping.let_go(await keeping.hold(Wish(ticket=TICKET, comes_back=True), owner), owner)

@@ -15,8 +15,9 @@ from unittest import mock
 
 import labrun
 import labrun_broker
-from labrun_broker import shell
+from labrun_broker import records, shell
 from labrun_broker.keeping import Keeping
+from labrun_broker.past import read_past
 from labrun_broker.standing import Session, Standings
 from labrun_broker.wishes import Wish
 from tests.brokers import BAY, COMMAND, LIMIT, Broker, OnBroker
@@ -267,6 +268,19 @@ class Soon(OnFolder):
         await asyncio.sleep(0.01)
         self.assertEqual(self.whats(folder), ["opened", "asked", "held", "gone"])
 
+    async def test_as_soon_as_there_is_room(self) -> None:
+        """Nothing more happens, and they are written all the same."""
+        folder = self.folder()
+        self.enterContext(mock.patch.object(records, "AGAIN", 0.05))
+        keeping = await self.keeping(folder)
+        with mock.patch("os.write", side_effect=OSError(28, "No space left on device")) as write:
+            await keeping.hold(Wish(("scope",), station="radio"), Owner())
+            await asyncio.sleep(0.2)
+        self.assertGreaterEqual(write.call_count, 3)
+        self.assertEqual(self.whats(folder), [])
+        await asyncio.sleep(0.1)
+        self.assertEqual(self.whats(folder), ["opened", "asked", "held"])
+
 
 class Hanging(OnFolder):
     async def test_who_asks(self) -> None:
@@ -285,11 +299,14 @@ class Hanging(OnFolder):
         with mock.patch("os.fdatasync", fdatasync):
             asks = list[Session]()
             waits = asyncio.create_task(keeping.hold(Wish(("scope",), station="board"), owner, asks.append))
-            begun = time.monotonic()
+            begun, began = time.monotonic(), time.time()
             with self.assertRaisesRegex(labrun.JournalError, "it isn't on the disk after 0.5 s: the disk doesn't answer"):
                 await keeping.hold(Wish(("supply",), timeout=0), owner)
             self.assertLess(time.monotonic() - begun, 5)
             self.assertEqual(Standings(keeping).why(asks[0]), "it is its turn, and it holds once that is on the disk (the disk doesn't answer)")
+            status = keeping.status()
+            self.assertEqual(status["disk"], "the disk doesn't answer")
+            self.assertLess(abs(status["disk_since"] - began), 1)
             self.assertRegex(said[0], "bay.journal: the disk doesn't answer: nobody is told that it holds until it does$")
             may.set()
             self.assertEqual((await asyncio.wait_for(waits, LIMIT)).name, "board")
@@ -411,6 +428,62 @@ class FullDisk(OnFolder):
         self.assertEqual(Standings(keeping).for_whom(asks[0])[:2], ([], why))
         self.breaks("")
         self.assertEqual((await waits).name, "board")
+
+    async def test_who_waits_for_the_disk(self) -> None:
+        """It waits, for whoever looks, and doesn't hold; the others are told so, and again when it holds."""
+        keeping = await self.on_disk()
+        self.breaks("full")
+        asks, began = list[Session](), time.time()
+        first = asyncio.create_task(keeping.hold(Wish(("scope",), station="board"), self.owner, asks.append))
+        second = asyncio.create_task(keeping.hold(Wish(("scope",), station="radio"), self.owner, asks.append))
+        self.addCleanup(second.cancel)
+        await asyncio.sleep(0.5)
+        row = how(keeping, "board")
+        self.assertEqual((row["state"], row["instruments"], row["waits_for"], how(keeping, "radio")["state"]), ("waiting", ["scope"], [], "waiting"))
+        self.assertLess(abs(row["since"] - began), 0.3)
+        _, why, told = Standings(keeping).for_whom(asks[1])
+        self.assertEqual(why, "scope is board's once that is on the disk (a write failed (No space left on device))")
+        self.breaks("")
+        await keeping.note(await first, self.owner, "5 V")
+        self.assertEqual(how(keeping, "board")["state"], "holding")
+        _, why, again = Standings(keeping).for_whom(asks[1])
+        self.assertRegex(why, "^scope is held by board for ")
+        self.assertNotEqual(told, again)
+
+    async def test_records(self) -> None:
+        """Once it is said that all is written, they are, too: whoever looks then sees that nobody holds."""
+        keeping, seen = await self.on_disk(), list[Any]()
+        self.enterContext(mock.patch.object(records, "AGAIN", 60))
+        session = await keeping.hold(Wish(("scope",), station="board"), self.owner)
+        await asyncio.sleep(0.1)
+        keeping.says = lambda text: seen.append((text, read_past(self.its_folder)[0].sessions()))
+        self.breaks("full")
+        with mock.patch("os.write", side_effect=OSError(28, "No space left on device")):
+            await keeping.let_go(session, self.owner)
+            await asyncio.sleep(0.1)
+        self.assertEqual([it.how for it in seen[-1][1]], ["holds"])
+        self.breaks("")
+        await asyncio.sleep(0.2)
+        self.assertRegex(seen[-1][0], "bay.journal: all is written$")
+        self.assertEqual([it.how for it in seen[-1][1]], ["done"])
+
+    async def test_how_the_bay_stands(self) -> None:
+        """It says what is wrong with the disk, and since when, until that is mended."""
+        keeping = await self.on_disk()
+        told = lambda: (keeping.status()["disk"], keeping.status()["disk_since"])
+        self.assertEqual(told(), ("", None))
+        for how_it_breaks, why in (("full", "No space left on device"), ("fails", "Input/output error")):
+            self.breaks(how_it_breaks)
+            begun = time.time()
+            waits = asyncio.create_task(keeping.hold(Wish(("scope",), station="board"), self.owner))
+            await asyncio.sleep(0.5)
+            wrong, since = told()
+            self.assertEqual(wrong, f"a write failed ({why})")
+            self.assertLess(abs(since - begun), 0.3)
+            self.breaks("")
+            session = await waits
+            await keeping.let_go(session, self.owner)
+            self.assertEqual(told(), ("", None))
 
     async def test_who_lets_go(self) -> None:
         """It is answered at once, and who waits comes to hold once there is room."""

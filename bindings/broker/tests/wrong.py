@@ -66,7 +66,10 @@ WRONG = {
         "test_keeping.Gone.test_released_by_an_operator", "keeping.py", (("if number and session.number != number:", "if number and session.number < number:"),)
     ),
     "one that waits is told once": Wrong("test_service.Clients.test_for_whom_one_waits", "service.py", ((" or now > said_at + AGAIN", ""),)),
-    "one that waits isn't told that the client is gone": Wrong("test_service.Clients.test_whose_client_is_gone", "standing.py", ((", why.count(GONE))", ")"),)),
+    "one that waits isn't told that the client is gone": Wrong("test_service.Clients.test_whose_client_is_gone", "standing.py", ((", why.count(GONE),", ","),)),
+    "one that waits isn't told that the disk doesn't keep it any more": Wrong(
+        "test_written.FullDisk.test_who_waits_for_the_disk", "standing.py", ((", why.count(ON_DISK))", ")"),)
+    ),
 }
 
 
