@@ -163,8 +163,10 @@ static char *open_bay(const char *path, const struct lab_class *classes, size_t 
     durable_to = used;
     /* The bay takes it that what was read is durable. But what a process wrote just before it was killed may be in memory alone: a power cut
        would take it, after somebody was told. So it is on the disk first; and what hangs over isn't left in front of the next line. (It is
-       written again, because a sync that failed before that process died may have left bytes that the system takes for written.) */
-    if (!file_cut(&file, used) || !file_put(&file, (const uint8_t *)text, used, 0) || !file_sync(&file) || (!used && !file_sync_name(path)))
+       written again, because a sync that failed before that process died may have left bytes that the system takes for written; where a full
+       disk doesn't take even the same bytes, there is the sync alone.) */
+    if (!file_cut(&file, used) || (!file_put(&file, (const uint8_t *)text, used, 0) && errno != ENOSPC) || !file_sync(&file) ||
+        (!used && !file_sync_name(path)))
         fails(path, strerror(errno));
     return text;
 }

@@ -10,7 +10,7 @@ from typing import TYPE_CHECKING
 
 if TYPE_CHECKING:
     from .client import Lab, connect
-    from .errors import BadWish, BrokerError, JournalError, MayNotUse, NotHeld, Stopped, TakenAway, TimeoutError, Unreachable
+    from .errors import BadWish, BrokerError, JournalError, MayNotUse, NoInstrument, NotHeld, Stopped, TakenAway, TimeoutError, Unreachable
     from .held import Held
 
 __all__ = [
@@ -20,6 +20,7 @@ __all__ = [
     "JournalError",
     "Lab",
     "MayNotUse",
+    "NoInstrument",
     "NotHeld",
     "Stopped",
     "TakenAway",

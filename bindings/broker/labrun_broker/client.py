@@ -22,7 +22,7 @@ import grpc
 import labrun
 
 from . import broker_pb2 as pb
-from .errors import BadWish, Unreachable, why_lost
+from .errors import BadWish, why_lost
 from .held import Held
 from .quick import DEFAULT, Quick, user
 from .stream import Stream
@@ -53,6 +53,7 @@ class Lab:
         self._metadata = (("authorization", f"Bearer {token}"),) if token else ()
         self._idle: list[Stream] = []
         self._held: set[Held] = set()
+        self._waiting: set[asyncio.Task[Any]] = set()
         self._loop = loop_of_this_process()
         self._process = os.getpid()
         self._was_there = self._is_closed = self._has_left = False
@@ -79,6 +80,11 @@ class Lab:
             raise labrun.OtherProcess(self._process)
         return Work(work, self._loop).result()
 
+    def _may_go_on(self) -> None:
+        """Before anything is asked."""
+        if self._is_closed:
+            raise labrun.Closed("the lab is closed")
+
     async def _run_async(self, work: Coroutine[Any, Any, Result]) -> Result:
         return await asyncio.wrap_future(asyncio.run_coroutine_threadsafe(work, self._loop))
 
@@ -90,6 +96,8 @@ class Lab:
         seconds TimeoutError says who keeps it waiting, and it is given up. `waits` is called with a line whenever it is known for whom it waits."""
         if timeout is not None and not timeout >= 0:
             raise BadWish(f"a timeout of {timeout:g} s; it is 0 or more")
+        if any_of and isinstance(any_of, str):
+            raise BadWish(f"any_of: a list of instruments, or of sets of them, is wanted, and not the text {any_of!r}")
         choices = [pb.Instruments(names=(it,) if isinstance(it, str) else tuple(it)) for it in any_of]
         wish = pb.Wish(instruments=instruments, any_of=choices, station=self.station if station is None else station, by=self.by)
         wish.wants_waits, wish.pings = waits is not None, True
@@ -110,13 +118,27 @@ class Lab:
         """The status now, and whenever it has changed."""
         call = self._run(self._watch())
         try:
-            while (bay := self._run(_read(call))) is not None:
+            while (bay := self._run(self._reads(call))) is not None:
                 yield _as_dict(bay)
         finally:
             self._loop.call_soon_threadsafe(call.cancel)
 
     async def _watch(self) -> Any:
+        self._may_go_on()
         return self._methods["Watch"](pb.StatusWish(), metadata=self._metadata)
+
+    async def _reads(self, call: Any) -> Any:
+        try:
+            bay = await call.read()
+        except grpc.aio.AioRpcError as fault:
+            self._may_go_on()
+            raise self._why_lost(fault.code(), str(fault.details())) from None
+        except asyncio.CancelledError:
+            # (it may be the lab's end that ended it)
+            self._may_go_on()
+            raise
+        self._was_there = True
+        return None if bay is grpc.aio.EOF else bay
 
     def release(self, station: str, session: int = 0) -> tuple[str, ...]:
         """Ends the session that a station holds, for its owner; with a number, no other one. First see that nobody is at the instruments."""
@@ -124,15 +146,20 @@ class Lab:
         return tuple(self._run(self._unary("Release", wish)).instruments)
 
     async def _unary(self, name: str, wish: Any, within: Optional[float] = ANSWER) -> Any:
+        self._may_go_on()
         try:
             answer = await self._methods[name](wish, metadata=self._metadata, timeout=within)
             self._was_there = True
             return answer
         except grpc.aio.AioRpcError as fault:
-            raise why_lost(self.address, fault.code(), str(fault.details())) from None
+            raise self._why_lost(fault.code(), str(fault.details())) from None
+
+    def _why_lost(self, code: Any, text: str) -> Exception:
+        return why_lost(self.address, code, text, self._certificate is None and not self._was_there)
 
     def close(self, lets_go: bool = True) -> None:
-        """What is still held is let go, unless the program just ends: then it is kept for whoever has its ticket."""
+        """What is still held is let go, unless the program just ends: then it is kept for whoever has its ticket. Who waits, and each further call,
+        gets Closed."""
         if not self._is_closed and self._process == os.getpid():
             self._is_closed = True
             self._run(self._close(lets_go))
@@ -140,6 +167,10 @@ class Lab:
 
     async def _close(self, lets_go: bool) -> None:
         fault: Optional[labrun.LabrunError] = None
+        for waits in self._waiting:
+            waits.cancel()
+        if self._waiting:
+            await asyncio.wait(set(self._waiting))
         # (a broker that doesn't answer keeps what was held for whoever has its ticket)
         with contextlib.suppress(builtins.TimeoutError):
             async with asyncio.timeout(ANSWER):
@@ -153,6 +184,8 @@ class Lab:
                         if task is not None:
                             task.cancel()
         self._has_left = True
+        for stream in list(self._idle):
+            stream.cancel()
         with contextlib.suppress(builtins.TimeoutError):
             async with asyncio.timeout(CLOSING):
                 await self._channel.close()
@@ -167,14 +200,6 @@ class Lab:
 
     def __exit__(self, kind: Optional[type[BaseException]], fault: Optional[BaseException], at: Optional[TracebackType]) -> None:
         self.close()
-
-
-async def _read(call: Any) -> Any:
-    try:
-        bay = await call.read()
-    except grpc.aio.AioRpcError as fault:
-        raise Unreachable(str(fault.details())) from None
-    return None if bay is grpc.aio.EOF else bay
 
 
 def _as_dict(message: Any) -> dict[str, Any]:
@@ -204,7 +229,19 @@ def connect(
     if certificate_file is not None:
         with open(certificate_file, "rb") as given:
             certificate = given.read()
+        if not _is_certificate(certificate):
+            raise BadWish(f"{certificate_file}: there is no certificate in it (as PEM)")
     return Lab(address or os.environ.get("LABRUN_BROKER") or DEFAULT, station, token, certificate, by or _who())
+
+
+def _is_certificate(pem: bytes) -> bool:
+    import ssl
+
+    try:
+        ssl.SSLContext(ssl.PROTOCOL_TLS_CLIENT).load_verify_locations(cadata=pem.decode("ascii", "ignore"))
+    except (ssl.SSLError, ValueError):
+        return False
+    return True
 
 
 def _who() -> str:

@@ -21,7 +21,7 @@ from .words import ABOUT, INTERRUPTED, MAY_NOT, NO_BAY, NOT_WRITTEN, PROGRAM, ST
 
 # the status of each error, by its name, or by that of the first of its kinds: it is looked up without importing what has it
 ENDS = {"TimeoutError": TIMED_OUT, "TakenAway": TAKEN, "MayNotUse": MAY_NOT, "Unreachable": UNREACHABLE, "JournalError": NOT_WRITTEN}
-ENDS |= {"BayFault": NO_BAY, "BadAddress": NO_BAY, "LabrunError": 1, "OSError": 1, "ValueError": 1}
+ENDS |= {"NoInstrument": USAGE, "BayFault": NO_BAY, "BadAddress": NO_BAY, "LabrunError": 1, "OSError": 1, "ValueError": 1}
 
 # ---- how it stands
 
@@ -40,7 +40,7 @@ def run_status(args: argparse.Namespace) -> int:
 
 def run_top(args: argparse.Namespace) -> int:
     clears = "\x1b[H\x1b[2J" if sys.stdout.isatty() and not args.json else ""
-    with contextlib.suppress(KeyboardInterrupt, BrokenPipeError), lab_of(args) as lab:
+    with contextlib.suppress(BrokenPipeError), lab_of(args) as lab:
         for status in lab.watch():
             text = json.dumps(status) if args.json else "\n".join([*lines_of(status), ""])
             print(f"{clears}{text}", flush=True)

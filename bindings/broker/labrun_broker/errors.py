@@ -57,6 +57,10 @@ class BadWish(_Told, labrun.LabrunError, ValueError):
     """What was asked for can't be."""
 
 
+class NoInstrument(BadWish):
+    """The bay has no instrument of this name."""
+
+
 KINDS: dict[str, Callable[[str], Exception]] = {
     "TimeoutError": TimeoutError,
     "TakenAway": TakenAway,
@@ -66,6 +70,7 @@ KINDS: dict[str, Callable[[str], Exception]] = {
     "JournalError": JournalError,
     "Stopped": Stopped,
     "BadWish": BadWish,
+    "NoInstrument": NoInstrument,
 }
 
 
@@ -73,9 +78,12 @@ def raised(fault: Any) -> Exception:
     return KINDS.get(fault.kind, BrokerError)(fault.text)
 
 
+CLOSED = "it closed the connection"
 # what gRPC says where it can't connect, and what that means
 HINTS = {
-    "Socket closed": "it closed the connection (a broker with TLS wants --certificate FILE)",
+    "Socket closed": CLOSED,
+    "Connection reset by peer": CLOSED,
+    "Broken pipe": CLOSED,
     "wrong version number": "it has no TLS: come without --certificate",
     "not in peer certificate": "its certificate is for another name: call it by that",
     "certificate verify failed": "it has another certificate than --certificate says",
@@ -83,10 +91,14 @@ HINTS = {
 }
 
 
-def plainly(address: str, text: str) -> str:
+def plainly(address: str, text: str, may_want_tls: bool) -> str:
     """Why nobody can connect there."""
+    if ":" not in address or address.startswith(("/", ".")):
+        return f"a socket's path is written unix:{address}" if "/" in address else "unix:PATH or HOST:PORT is wanted"
     text = re.sub(r"^failed to connect to all addresses; last error: \w+: (?:ipv[46]|unix):\S+: ", "", text)
     text = next((hint for told, hint in HINTS.items() if told in text), text)
+    if text == CLOSED and may_want_tls and not address.startswith("unix:"):
+        return f"{text} (a broker with TLS wants --certificate FILE)"
     if text == "permission denied" and address.startswith("unix:"):
         try:
             group = grp.getgrgid(os.stat(address.removeprefix("unix:")).st_gid).gr_name
@@ -96,11 +108,12 @@ def plainly(address: str, text: str) -> str:
     return text
 
 
-def why_lost(address: str, code: Any, text: str) -> Exception:
+def why_lost(address: str, code: Any, text: str, may_want_tls: bool = False) -> Exception:
+    """`may_want_tls`: it was never reached, and without a certificate."""
     if code is grpc.StatusCode.DEADLINE_EXCEEDED:
         return Unreachable(f"the broker at {address} doesn't answer")
     if code in (grpc.StatusCode.UNAVAILABLE, grpc.StatusCode.UNKNOWN, grpc.StatusCode.CANCELLED):
-        return Unreachable(f"the broker at {address} can't be reached: {plainly(address, text)}")
+        return Unreachable(f"the broker at {address} can't be reached: {plainly(address, text, may_want_tls)}")
     if code in (grpc.StatusCode.UNAUTHENTICATED, grpc.StatusCode.RESOURCE_EXHAUSTED):
         return Unreachable(f"the broker at {address} doesn't let this client in: {text}")
     return NotHeld(text) if code is grpc.StatusCode.FAILED_PRECONDITION else BrokerError(text)

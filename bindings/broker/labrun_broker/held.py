@@ -12,7 +12,7 @@ import grpc
 import labrun
 
 from . import broker_pb2 as pb
-from .errors import BadWish, NotHeld, TakenAway, Unreachable, raised, why_lost
+from .errors import BadWish, NotHeld, TakenAway, Unreachable, raised
 from .stream import AGAIN, Lost, Stream
 from .work import clock
 
@@ -124,6 +124,7 @@ class Held:
     # what follows runs on the lab's loop
 
     async def _acquire(self) -> None:
+        self.lab._may_go_on()
         if self.state in ("waiting", "held"):
             raise labrun.LabrunError(f"the session is {self.state} already")
         loop = asyncio.get_running_loop()
@@ -131,12 +132,7 @@ class Held:
         self._taken, self.state = None, "waiting"
         until = None if self.timeout is None else loop.time() + self.timeout
         self._lost_at = None
-        try:
-            while not await self._comes_to_hold(loop, until):
-                self._lost_at = self._lost_at or loop.time()
-        except BaseException:
-            self.state = "withdrawn"
-            raise
+        await self._waits_until(until, loop)
         # (it may have been taken away, or the stream have ended, just now)
         self._raises_taken()
         self.state = "held"
@@ -145,6 +141,23 @@ class Held:
             self._beats = asyncio.create_task(self._stays_sure(self._lease))
         if self._stream is not None and self._stream.is_lost:
             self._is_cut()
+
+    async def _waits_until(self, until: Optional[float], loop: asyncio.AbstractEventLoop) -> None:
+        """Returns once it holds."""
+        task = asyncio.current_task()
+        assert task is not None
+        self.lab._waiting.add(task)
+        try:
+            while not await self._comes_to_hold(loop, until):
+                self._lost_at = self._lost_at or loop.time()
+        except BaseException as fault:
+            self.state = "withdrawn"
+            if isinstance(fault, asyncio.CancelledError):
+                # (it may be the lab's end that ended it)
+                self.lab._may_go_on()
+            raise
+        finally:
+            self.lab._waiting.discard(task)
 
     async def _comes_to_hold(self, loop: asyncio.AbstractEventLoop, until: Optional[float]) -> bool:
         """Whether it holds; if not, the stream ended, and it is worth another try."""
@@ -168,7 +181,7 @@ class Held:
             # (one that was idle may be of a broker that is gone)
             is_over = self._lost_at is not None and loop.time() > self._lost_at + GRACE or until is not None and loop.time() > until
             if is_new and (lost.code not in AGAIN or not lab._was_there or is_over):
-                raise why_lost(lab.address, lost.code, str(lost)) from None
+                raise lab._why_lost(lost.code, str(lost)) from None
             if is_new:
                 await asyncio.sleep(PAUSE)
             return False
@@ -270,7 +283,7 @@ class Held:
                 is_late = bool(self._asked) and now > self._asked_at + GRACE
                 # (where too many clients are, there may be room later)
                 if lost.code not in (*AGAIN, grpc.StatusCode.RESOURCE_EXHAUSTED) or is_late:
-                    return self._is_over("lost", why_lost(self.lab.address, lost.code, str(lost)))
+                    return self._is_over("lost", self.lab._why_lost(lost.code, str(lost)))
             except asyncio.CancelledError:
                 stream.cancel()
                 raise
@@ -290,6 +303,7 @@ class Held:
         self._looks_at_the_time()
         self._raises_taken()
         if self.state != "held":
+            self.lab._may_go_on()
             raise NotHeld(f"the session is {self.state}: it doesn't hold its instruments")
         if self._asked:
             raise labrun.LabrunError("another thread asks something of this session")
@@ -307,7 +321,7 @@ class Held:
                 if self._returns is returns and not returns.cancelled():
                     returns.result()
                 if self._returns is returns:
-                    raise NotHeld("the lab is closed")
+                    raise labrun.Closed("the lab is closed")
                 continue
             stream, sent = self._stream, clock()
             assert stream is not None
@@ -318,11 +332,11 @@ class Held:
                 self._raises_taken()
                 self._is_cut()
                 if self._returns is None:
-                    raise NotHeld("the lab is closed") from None
+                    raise labrun.Closed("the lab is closed") from None
                 if lost.code is grpc.StatusCode.RESOURCE_EXHAUSTED and "note" in what:
                     raise BadWish(f"the broker doesn't take this note: {lost}") from None
                 if asyncio.get_running_loop().time() > self._asked_at + GRACE:
-                    raise why_lost(self.lab.address, lost.code, str(lost)) from None
+                    raise self.lab._why_lost(lost.code, str(lost)) from None
                 # (it comes back meanwhile)
                 await asyncio.sleep(pause)
                 pause = min(2 * pause, 1.0)

@@ -7,10 +7,12 @@ from __future__ import annotations
 
 import binascii
 import contextlib
+import math
 import os
 import socket
 import struct
 import threading
+import time
 from queue import SimpleQueue
 from typing import TYPE_CHECKING, Any, Callable, Iterator, NamedTuple, Optional
 
@@ -20,6 +22,7 @@ if TYPE_CHECKING:
 
 DEFAULT = "unix:/run/labrun/bay.sock"
 SILENT = 10.0  # seconds without a word, after which the broker is asked whether it is there, and then as many for its answer
+LATE, LATER = 1.0, 6.0  # or a second once the time limit is over, and then longer: a broker takes it ill to be asked twice in five seconds
 GIVING_UP = 0.5
 MOST_BYTES = 16000  # of a wish: it is one frame
 DATA, HEADERS, RESET, SETTINGS, PING, WINDOW = 0, 1, 3, 4, 6, 8
@@ -55,6 +58,14 @@ class Odd(Exception):
     """It is for the whole client."""
 
 
+class Silent(Odd):
+    """The broker doesn't answer, and the time is over for which it may be waited."""
+
+
+class Absent(Odd):
+    """Nobody listens there."""
+
+
 @contextlib.contextmanager
 def _oddly() -> Iterator[None]:
     try:
@@ -88,6 +99,8 @@ class Quick:
 
     def __enter__(self) -> Quick:
         try:
+            if self._wish.timeout is not None:
+                self.wire.limit = time.monotonic() + self._wish.timeout
             self.wire.connects(self._path)
             self._holds()
         except BaseException:
@@ -117,10 +130,16 @@ class Quick:
                     # (its client has to say again and again that it is there)
                     self._comes_back(True)
                 self._begins()
+        except Silent:
+            # (should it go on later, nothing is held)
+            with contextlib.suppress(Odd):
+                self.wire.asks(LET_GO, b"")
+            raise
         except BaseException as fault:
             if not isinstance(fault, Odd):
                 self._gives_up()
             raise
+        self.wire.is_unlimited()
         if what != HELD:
             raise _fault(of) if what == FAULT else Odd()
         if self._whole is not None:
@@ -130,6 +149,7 @@ class Quick:
 
     def _gives_up(self) -> None:
         """It leaves the line. If it came to hold just now, it lets go."""
+        self.wire.is_unlimited()
         self.wire.socket.settimeout(GIVING_UP)
         with contextlib.suppress(Odd):
             self.wire.asks(LET_GO, b"")
@@ -181,14 +201,34 @@ class Wire:
     def __init__(self) -> None:
         self.socket, self._writing = socket.socket(socket.AF_UNIX), threading.Lock()
         self.was_there = False  # the broker
+        # until when it may take to hold; and for how long it is waited for after that
+        self.limit, self._late = math.inf, LATE
         # bytes that came: of frames, and of messages
         self._came = self._messages = b""
 
     def connects(self, path: str) -> None:
-        self.socket.settimeout(SILENT)
-        with _oddly():
-            self.socket.connect(path)
+        self._is_patient()
+        try:
+            with _oddly():
+                self.socket.connect(path)
+        except Odd as fault:
+            if isinstance(fault.__cause__, TimeoutError) and self._is_over():
+                raise Silent from fault
+            if isinstance(fault.__cause__, (FileNotFoundError, ConnectionRefusedError)):
+                raise Absent from fault
+            raise
         self._sends(OPENS)
+
+    def is_unlimited(self) -> None:
+        self.limit = math.inf
+        self.socket.settimeout(SILENT)
+
+    def _is_patient(self) -> None:
+        """For how long it waits for the next word."""
+        self.socket.settimeout(min(SILENT, max(self._late, self.limit - time.monotonic())))
+
+    def _is_over(self) -> bool:
+        return time.monotonic() > self.limit
 
     def _sends(self, frame: bytes) -> None:
         with _oddly(), self._writing:
@@ -222,15 +262,29 @@ class Wire:
 
     def _more(self) -> bytes:
         with _oddly():
+            if self.limit < math.inf:
+                self._is_patient()
             try:
                 came = self.socket.recv(1 << 16)
             except TimeoutError:
-                self.socket.sendall(_frame(PING, 0, 0, bytes(8)))
-                came = self.socket.recv(1 << 16)
+                came = self._asks_whether_it_is_there()
         if not came:
             raise Odd
         self.was_there = True
         return came
+
+
+    def _asks_whether_it_is_there(self) -> bytes:
+        self.socket.sendall(_frame(PING, 0, 0, bytes(8)))
+        if self.limit < math.inf:
+            self._is_patient()
+            self._late = LATER
+        try:
+            return self.socket.recv(1 << 16)
+        except TimeoutError:
+            if self._is_over():
+                raise Silent from None
+            raise
 
 
 def _fault(of: Fields) -> Exception:

@@ -6,12 +6,14 @@ import argparse
 import contextlib
 import fnmatch
 import os
+import re
 import signal
 import subprocess
 import time
-from typing import TYPE_CHECKING, Callable, Iterator, Optional, Union
+from typing import TYPE_CHECKING, Callable, Iterator, Optional, TypeVar, Union
 
-from .quick import DEFAULT, Odd, Quick, Wish, user
+from .family import Family, adopting, ends
+from .quick import DEFAULT, Absent, Odd, Quick, Silent, Wish, user
 from .texts import plain, seconds
 from .words import CANT_RUN, NOT_FOUND, PROGRAM, TAKEN, USAGE, add_client, lab_of, say
 
@@ -22,6 +24,8 @@ if TYPE_CHECKING:
 # what the command is to have, whatever is changed here
 ENVIRONMENT = dict(os.environ)
 Waits = Optional[Callable[[str], None]]
+Result = TypeVar("Result")
+STARTING = 5.0  # seconds that a broker may take to begin
 
 
 def add_hold(parser: argparse.ArgumentParser) -> None:
@@ -48,12 +52,25 @@ def run_hold(args: argparse.Namespace) -> int:
         return USAGE
     wish = Wish(() if any_of else its, any_of, args.station, args.by or f"{user()} {os.getpid()} {what}"[:64], args.timeout)
     waits: Waits = None if args.quiet else lambda text: say(f"waits: {plain(text)}")
-    with passing_on() as signals, contextlib.ExitStack() as ends:
+    with passing_on() as signals, adopting(), contextlib.ExitStack() as ends:
         held = holds(args, wish, waits, signals, ends)
         status = runs(args.command, held, signals, address_of(args))
         if held.held:
-            held.release(f"status {status}" if status else None)
+            lets_go(held, status, signals, ends)
     return status
+
+
+def lets_go(held: Union[Quick, Held], status: int, signals: Signals, ends: contextlib.ExitStack) -> None:
+    try:
+        with signals.giving_up(status):
+            held.release(f"status {status}" if status else None)
+    except BaseException as fault:
+        # (whatever is closed now might try to tell the broker once more)
+        ends.pop_all()
+        if not isinstance(fault, GivenUp):
+            say(f"the command ran, and ended with status {status}, but:")
+            raise
+        say("the broker wasn't told, as far as is known here: the session may go on holding, as `labrun-broker status` says")
 
 
 def choices(args: argparse.Namespace) -> tuple[str, ...]:
@@ -61,7 +78,8 @@ def choices(args: argparse.Namespace) -> tuple[str, ...]:
     if not any(sign in it for it in args.instruments for sign in "*?["):
         return tuple(args.instruments)
     with lab_of(args) as lab:
-        names = [str(it["name"]) for it in lab.status()["instruments"]]
+        status = Start(args).tries(lab.status)
+    names = [str(it["name"]) for it in status["instruments"]]
     found = []
     for it in args.instruments:
         its = fnmatch.filter(names, it) or [it]
@@ -69,6 +87,33 @@ def choices(args: argparse.Namespace) -> tuple[str, ...]:
             raise ValueError(f"no instrument of this bay is like {it}: there are {', '.join(names)}")
         found += its
     return tuple(dict.fromkeys(found))
+
+
+class Start:
+    """For whom no broker is there yet: it may be just being started."""
+
+    def __init__(self, args: argparse.Namespace) -> None:
+        self._until = time.monotonic() + (STARTING if args.timeout is None else min(STARTING, args.timeout))
+        self._waits = not args.quiet
+        self._address = address_of(args)
+
+    def tries(self, what: Callable[[], Result]) -> Result:
+        while True:
+            try:
+                return what()
+            except Exception as fault:
+                if not is_absent(fault) or time.monotonic() > self._until:
+                    raise
+            if self._waits:
+                self._waits = False
+                say(f"waits for the broker: it doesn't listen yet at {self._address}")
+            time.sleep(0.1)
+
+
+def is_absent(fault: Exception) -> bool:
+    """Whether nobody listens there. (What the whole client raises is known without importing it.)"""
+    is_unreachable = type(fault).__name__ == "Unreachable" and re.search("Connection refused|No such file", str(fault))
+    return isinstance(fault, Absent) or bool(is_unreachable)
 
 
 def address_of(args: argparse.Namespace) -> str:
@@ -102,20 +147,36 @@ def holds(args: argparse.Namespace, wish: Wish, waits: Waits, signals: Signals, 
         lab._was_there = was_there
         return lab
 
-    began, was_there, ticket = time.monotonic(), False, ""
+    began, was_there, ticket, start = time.monotonic(), False, "", Start(args)
     address = address_of(args)
+
+    def left() -> Optional[float]:
+        return wish.timeout and max(0.0, wish.timeout + began - time.monotonic())
+
     if address.startswith("unix:") and not address.startswith("unix://"):
-        quick = Quick(address.removeprefix("unix:"), wish, waits, connects, signals.begins)
+        tried: list[Quick] = []
+
+        def quickly() -> Quick:
+            tried[:] = [Quick(address.removeprefix("unix:"), wish._replace(timeout=left()), waits, connects, signals.begins)]
+            return ends.enter_context(tried[0])
+
         try:
-            return ends.enter_context(quick)
+            return start.tries(quickly)
+        except Silent:
+            from .errors import Unreachable
+
+            raise Unreachable(f"the broker at {address} doesn't answer") from None
         except Odd:
-            was_there, ticket = quick.wire.was_there, quick.ticket
+            was_there, ticket = tried[0].wire.was_there, tried[0].ticket
     lab = ends.enter_context(connects(was_there))
-    left = wish.timeout and max(0.0, wish.timeout + began - time.monotonic())
-    held = lab.hold(*wish.instruments, any_of=wish.any_of, timeout=left, waits=waits)
-    # (it may hold by now, and the broker's word be lost)
-    held._ticket = ticket
-    return ends.enter_context(held)
+    held = lab.hold(*wish.instruments, any_of=wish.any_of, waits=waits)
+
+    def wholly() -> Held:
+        # (it may hold by now, and the broker's word be lost)
+        held._ticket, held.timeout = ticket, left()
+        return ends.enter_context(held)
+
+    return start.tries(wholly)
 
 
 def runs(command: list[str], held: Union[Quick, Held], signals: Signals, address: str = "") -> int:
@@ -124,20 +185,20 @@ def runs(command: list[str], held: Union[Quick, Held], signals: Signals, address
     environment = {**ENVIRONMENT, **its, "LABRUN_AROUND": around(address, held)}
     taken: list[object] = []
     try:
-        process = signals.starts(command, environment, held.is_released_if_gone)
+        signals.starts(command, environment, held.is_released_if_gone)
     except OSError as fault:
         say(f"{command[0]}: {fault.strerror}")
         return NOT_FOUND if isinstance(fault, FileNotFoundError) else CANT_RUN
 
-    def ends(fault: object) -> None:
+    def is_taken(fault: object) -> None:
         taken.append(fault)
         say(f"{plain(fault)}; the command is ended")
-        process.terminate()
+        signals.send(signal.SIGTERM)
 
-    held.on_taken = ends
+    held.on_taken = is_taken
     if not held.held and not taken:
-        ends("the session is over")
-    status = process.wait()
+        is_taken("the session is over")
+    status = signals.wait()
     return TAKEN if taken else status if status >= 0 else 128 - status
 
 
@@ -158,12 +219,20 @@ def ends_with(parent: int) -> Callable[[], None]:
     return asks
 
 
+LATE = 1.5  # seconds, after which it is said that the broker doesn't answer
+
+
+class GivenUp(Exception):
+    """Whoever waits doesn't want to wait until the broker answers."""
+
+
 class Signals:
-    """What comes before there is a command ends this process; from there on it is sent on. (A terminal sends Ctrl-C to all of its foreground.)"""
+    """What comes before there is a command ends this process; from there on it is sent on, to the command and to all its descendants. (A
+    terminal sends Ctrl-C to all of its foreground.)"""
 
     def __init__(self) -> None:
-        self.process: Optional[subprocess.Popen[bytes]] = None
-        self.is_starting = False
+        self.family: Optional[Family] = None
+        self.is_starting = self.were_sent = self.is_telling = self.is_late = False
         self.came: list[int] = []
 
     def begins(self) -> None:
@@ -172,14 +241,18 @@ class Signals:
 
     def starts(self, command: list[str], environment: dict[str, str], ends_with_this: bool = False) -> subprocess.Popen[bytes]:
         self.is_starting = True
-        self.process = subprocess.Popen(command, env=environment, preexec_fn=ends_with(os.getpid()) if ends_with_this else None)
+        process = subprocess.Popen(command, env=environment, preexec_fn=ends_with(os.getpid()) if ends_with_this else None)
+        self.family = Family(process)
         for number in self.came:
-            self.process.send_signal(number)
-        return self.process
+            self.send(number)
+        return process
 
     def comes(self, number: int, _: object) -> None:
-        if self.process is not None:
-            self.sends_on(number, self.process)
+        if self.is_telling:
+            self.came.append(number)
+            self.gives_up()
+        elif self.family is not None:
+            self.sends_on(number, self.family)
         elif self.is_starting:
             self.came.append(number)
         elif number == signal.SIGINT:
@@ -187,11 +260,49 @@ class Signals:
         else:
             raise SystemExit(128 + number)
 
-    def sends_on(self, number: int, process: subprocess.Popen[bytes]) -> None:
+    def sends_on(self, number: int, family: Family) -> None:
+        has_ended = family.command.returncode is not None
         with contextlib.suppress(OSError):
-            if number == signal.SIGINT and os.isatty(0) and os.tcgetpgrp(0) == os.getpgrp():
+            if not has_ended and number == signal.SIGINT and os.isatty(0) and os.tcgetpgrp(0) == os.getpgrp():
+                self.were_sent = True
                 return
-        process.send_signal(number)
+        self.send(ends(number) if has_ended else number)
+
+    def send(self, number: int) -> None:
+        self.were_sent = True
+        if self.family is not None:
+            self.family.send(number)
+
+    def wait(self) -> int:
+        """The status of the command. After a signal nothing of it goes on any more: who holds next would meet it at the instruments."""
+        assert self.family is not None
+        status = self.family.wait()
+        if self.were_sent:
+            self.family.wait_for_all(lambda names: say(f"waits until what the command started has ended: {plain(names)}"))
+        return status
+
+
+    @contextlib.contextmanager
+    def giving_up(self, status: int) -> Iterator[None]:
+        """While the broker is told that the command has ended. Mostly it answers at once, and then no signal keeps it from being told."""
+
+        def is_late(*_: object) -> None:
+            self.is_late = True
+            say(f"the command has ended with status {status}; the broker doesn't answer, and is told again for a minute, unless Ctrl-C gives that up")
+            self.gives_up()
+
+        before, self.came, self.is_telling = signal.signal(signal.SIGALRM, is_late), [], True
+        signal.setitimer(signal.ITIMER_REAL, LATE)
+        try:
+            yield
+        finally:
+            self.is_telling = False
+            signal.setitimer(signal.ITIMER_REAL, 0)
+            signal.signal(signal.SIGALRM, before)
+
+    def gives_up(self) -> None:
+        if self.is_late and self.came:
+            raise GivenUp
 
 
 @contextlib.contextmanager

@@ -2,6 +2,7 @@
 
 from __future__ import annotations
 
+import difflib
 import hashlib
 import math
 import secrets
@@ -11,7 +12,7 @@ from typing import Any, Optional
 from labrun import MayNotUse, NotHeld
 
 from .bay import Bay
-from .errors import BadWish
+from .errors import BadWish, NoInstrument
 
 MOST_CHOICES, LEAST_TICKET = 100, 16
 MOST_SECONDS = 1e9
@@ -90,7 +91,7 @@ def check_form(wish: Wish, bay: Bay) -> None:
 
 
 def check(wish: Wish, bay: Bay) -> None:
-    """Whether the bay has it for this client. BadWish or MayNotUse says what is wrong."""
+    """Whether the bay has it for this client. BadWish, NoInstrument or MayNotUse says what is wrong."""
     if wish.station and wish.station not in bay.stations:
         raise BadWish(f"{wish.station} is no station of this bay: there are {', '.join(bay.stations) or 'none'}")
     if not wish.station and not bay.guests:
@@ -99,8 +100,15 @@ def check(wish: Wish, bay: Bay) -> None:
         raise BadWish("say which instruments, or which sets of them to choose from (any_of)")
     may = bay.stations[wish.station] if wish.station else bay.guests_use
     for name in wish.names:
+        if name not in bay.instruments:
+            raise _no_such(name, bay)
         if name not in may:
             raise MayNotUse(wish.station or "a guest", name, may)
+
+
+def _no_such(name: str, bay: Bay) -> NoInstrument:
+    near = difflib.get_close_matches(name, bay.instruments, 1)
+    return NoInstrument(f"{name} is no instrument of this bay: there are {', '.join(bay.instruments)}" + (f" (did you mean {near[0]}?)" if near else ""))
 
 
 def check_note(text: str, bay: Bay) -> None:

@@ -4,6 +4,7 @@ from __future__ import annotations
 
 import asyncio
 import concurrent.futures
+import contextlib
 import os
 import threading
 import time
@@ -48,7 +49,9 @@ class Work(Generic[Result]):
         except BaseException:
             if not self._done.done():
                 self._loop.call_soon_threadsafe(self._give_up)
-                concurrent.futures.wait([self._done], 5)
+                # (concurrent.futures.wait doesn't see that it is cancelled)
+                with contextlib.suppress(Exception):
+                    self._done.exception(5)
             raise
 
     # what follows runs on the loop
@@ -63,14 +66,19 @@ class Work(Generic[Result]):
     def _give_up(self) -> None:
         self._is_given_up = True
         if self._task is None:
-            self._done.cancel()
+            self._is_cancelled()
         else:
             self._task.cancel()
 
     def _ends(self, task: asyncio.Task[Result]) -> None:
         if task.cancelled():
-            self._done.cancel()
+            self._is_cancelled()
         elif (fault := task.exception()) is not None:
             self._done.set_exception(fault)
         else:
             self._done.set_result(task.result())
+
+    def _is_cancelled(self) -> None:
+        self._done.cancel()
+        # (else whoever waits for it goes on to wait)
+        self._done.set_running_or_notify_cancel()

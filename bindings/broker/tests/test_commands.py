@@ -6,11 +6,13 @@ import io
 import json
 import os
 import re
+import shlex
 import signal
 import socket
 import subprocess
 import sys
 import tempfile
+import time
 import unittest
 from importlib.util import find_spec
 from typing import Any
@@ -20,7 +22,7 @@ import labrun
 from labrun_broker.client import _who
 from labrun_broker.command import main
 from labrun_broker.run import Signals
-from tests.brokers import BAY, COMMAND, LIMIT, OnBroker, station, until
+from tests.brokers import BAY, COMMAND, LIMIT, Broker, OnBroker, station, until
 
 
 def ran(*words: str, **more: str) -> "subprocess.CompletedProcess[str]":
@@ -119,7 +121,10 @@ class WithBroker(OnBroker):
                 (["hold", "scope", "--", "./nothing"], 127, "", "./nothing: No such file or directory"),
                 (["hold", "scope", "--", "/"], 126, "", "/: Permission denied"),
                 (["hold", "supply", "--timeout", "0.1", "--", "echo", "ran"], 75, "", "supply is held by board for"),
-                (["hold", "lamp", "--", "echo", "ran"], 77, "", "a guest may not use lamp: it may use scope, supply, load-1, load-2"),
+                (["hold", "lamp", "--", "echo", "ran"], 2, "", "lamp is no instrument of this bay: there are scope, supply, load-1, load-2\n"),
+                (["hold", "scop", "--station", "radio", "--", "echo", "ran"], 2, "", "there are scope, supply, load-1, load-2 (did you mean scope?)\n"),
+                (["hold", "--any", "scope", "lod-1", "--", "echo", "ran"], 2, "", "lod-1 is no instrument of this bay"),
+                (["hold", "supply", "--station", "radio", "--", "echo", "ran"], 77, "", "radio may not use supply: it may use scope"),
                 (["hold", "scope", "--station", "moon", "--", "echo", "ran"], 1, "", "moon is no station of this bay: there are board, radio"),
             )
             for words, status, out, fault in rows:
@@ -198,6 +203,73 @@ class WithBroker(OnBroker):
         self.assertEqual((runs.communicate(timeout=LIMIT)[0], runs.returncode), ("", 143))
         until(lambda: all(it["state"] == "idle" for it in lab.status()["stations"]))
 
+    def goes_on(self, broker: Broker, what: str) -> str:
+        """What the next one that holds sees of a program that the one before it ran."""
+        return broker.ran("hold", "scope", "--timeout", "10", "--", "pgrep", "-af", f"^{what}").stdout
+
+    def test_nothing_goes_on_after_a_signal(self) -> None:
+        """What a command has started ends with it, also what was left by whoever started it: the next one doesn't meet it."""
+        rows = (
+            ("sleep 61.01; true", signal.SIGTERM, 143),
+            ("(sleep 61.01 & sleep 61.02 & wait); true", signal.SIGHUP, 129),
+            ("(setsid sleep 61.01 &); sleep 61.03; true", signal.SIGTERM, 143),
+            ("sleep 61.01 & wait", signal.SIGTERM, 143),
+        )
+        broker = self.broker()
+        for script, number, status in rows:
+            with self.subTest(script):
+                runs = broker.started("hold", "scope", "--", "sh", "-c", script)
+                until(lambda: subprocess.run(["pgrep", "-f", "^sleep 61.01"], stdout=subprocess.DEVNULL).returncode == 0)
+                runs.send_signal(number)
+                self.assertEqual(self.goes_on(broker, "sleep 61"), "")
+                self.assertEqual((runs.communicate(timeout=LIMIT), runs.returncode), (("", ""), status))
+
+    def test_nothing_goes_on_after_a_release(self) -> None:
+        broker = self.broker()
+        runs = broker.started("hold", "scope", "--station", "board", "--", "sh", "-c", "sleep 62.01; true")
+        until(lambda: subprocess.run(["pgrep", "-f", "^sleep 62.01"], stdout=subprocess.DEVNULL).returncode == 0)
+        self.assertEqual(broker.ran("release", "board").returncode, 0)
+        self.assertEqual(runs.wait(LIMIT), 76)
+        runs.communicate()
+        self.assertEqual(self.goes_on(broker, "sleep 62"), "")
+
+    def test_it_waits_for_what_goes_on_after_a_signal(self) -> None:
+        """It says for whom, and what has a signal to leave its instruments by has the time for that."""
+        broker = self.broker()
+        leaves = "trap 'sleep 2; echo left; exit 3' TERM; echo runs; while :; do sleep 0.1; done"
+        runs = broker.started("hold", "scope", "--", "sh", "-c", f"sh -c {shlex.quote(leaves)} & wait")
+        assert runs.stdout is not None
+        self.assertEqual(runs.stdout.readline(), "runs\n")
+        runs.terminate()
+        self.assertEqual(broker.ran("hold", "scope", "-n", "--", "true").returncode, 75)
+        out, said = runs.communicate(timeout=LIMIT)
+        self.assertEqual((out, runs.returncode), ("left\n", 143))
+        self.assertRegex(said, r"(?m)^labrun-broker: waits until what the command started has ended: \d+ sh, \d+ sleep$")
+
+    def test_what_is_left_in_the_background_on_purpose(self) -> None:
+        """A command that ends by itself may leave something: that goes on, and keeps nobody waiting."""
+        broker = self.broker()
+        left = f"(sleep 1; echo > {broker.folder}/left) > /dev/null 2>&1 &"
+        begun = time.monotonic()
+        self.assertEqual(broker.ran("hold", "scope", "--", "sh", "-c", left).returncode, 0)
+        self.assertFalse(os.path.exists(f"{broker.folder}/left"), f"after {time.monotonic() - begun} s")
+        until(lambda: os.path.exists(f"{broker.folder}/left"))
+
+    def test_children_from_before(self) -> None:
+        """Who becomes a hold may have children: they aren't its command's, and get no signal of it."""
+        broker = self.broker()
+        script = f"(trap 'echo hit' TERM; while ! [ -e {broker.folder}/go ]; do sleep 0.05; done; echo safe) & exec {shlex.join(COMMAND)} hold scope -- sleep 60"
+        environment = {**os.environ, "LABRUN_BROKER": broker.address}
+        runs = subprocess.Popen(["sh", "-c", script], env=environment, stdout=subprocess.PIPE, stderr=subprocess.PIPE, text=True)
+        with broker.lab() as lab:
+            until(lambda: station(lab, "guest-1")["state"] == "holding")
+        time.sleep(0.3)
+        runs.terminate()
+        self.assertEqual(runs.wait(LIMIT), 143)
+        with open(f"{broker.folder}/go", "w", encoding="utf-8"):
+            pass
+        self.assertEqual(runs.communicate(timeout=LIMIT)[0], "safe\n")
+
     def test_a_signal_while_the_command_starts(self) -> None:
         """It is sent on once that is there: no command goes on whose session is over."""
         signals = Signals()
@@ -238,9 +310,20 @@ class WithBroker(OnBroker):
         with self.lab(broker, "board").hold("scope"):
             until(lambda: json.loads(top.stdout.readline())["instruments"][0]["holder"] == "board")
         self.assertEqual(first["instruments"][0]["holder"], None)
+        begun = time.monotonic()
         top.send_signal(signal.SIGINT)
-        top.communicate(timeout=LIMIT)
-        self.assertEqual(top.returncode, 0)
+        _, said = top.communicate(timeout=LIMIT)
+        self.assertEqual((top.returncode, said), (130, ""))
+        self.assertLess(time.monotonic() - begun, 3)
+
+    def test_top_of_a_broker_that_dies(self) -> None:
+        broker = self.broker()
+        top = broker.started("top", "--json")
+        assert top.stdout is not None
+        top.stdout.readline()
+        broker.kill()
+        _, said = top.communicate(timeout=LIMIT)
+        self.assertEqual((top.returncode, said), (69, f"labrun-broker: the broker at {broker.address} can't be reached: it closed the connection\n"))
 
     def test_release(self) -> None:
         broker = self.broker()

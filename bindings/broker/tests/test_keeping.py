@@ -15,7 +15,7 @@ import labrun
 from labrun_broker import broker_pb2 as pb
 from labrun_broker import leases, wishes
 from labrun_broker.bay import bay_of
-from labrun_broker.errors import BadWish
+from labrun_broker.errors import BadWish, NoInstrument
 from labrun_broker.errors import TimeoutError as TimedOut
 from labrun_broker.keeping import Keeping
 from labrun_broker.places import Places
@@ -212,7 +212,8 @@ class Sessions(OnKeeping):
     async def test_refused(self) -> None:
         keeping = await self.keeping()
         rows: tuple[tuple[dict[str, Any], type[Exception], str], ...] = (
-            ({"instruments": ("lamp",)}, labrun.MayNotUse, "a guest may not use lamp"),
+            ({"instruments": ("lamp",)}, NoInstrument, "lamp is no instrument of this bay: there are scope, supply"),
+            ({"any_of": (("scope",), ("suply",)), "station": "radio"}, NoInstrument, r"suply is no instrument of this bay: .* \(did you mean supply\?\)"),
             ({"instruments": ("supply",), "station": "radio"}, labrun.MayNotUse, "radio may not use supply: it may use scope"),
             ({"instruments": ("scope",), "station": "lamp"}, BadWish, "lamp is no station of this bay: there are board, radio"),
             ({"instruments": ("scope",), "station": "guest-1"}, BadWish, "guest-1 is no station"),

@@ -89,6 +89,107 @@ class Quick(OnBroker):
         finally:
             broker.process.send_signal(signal.SIGCONT)
 
+    def test_a_broker_that_is_away_as_the_command_ends(self) -> None:
+        """It is said soon, and Ctrl-C ends the hold then, with the command's status."""
+        for slashes, number in (("", signal.SIGINT), ("//", signal.SIGTERM)):
+            with self.subTest(slashes, number=number):
+                broker = self.broker(BAY, "--state", "FOLDER/state")
+                socket, broker.address = broker.address, broker.address.replace("unix:", f"unix:{slashes}")
+                runs = self.holds(broker, "exit 5")
+                broker.kill()
+                with open(f"{broker.folder}/go", "w", encoding="utf-8"):
+                    pass
+                assert runs.stderr is not None
+                self.assertIn("the command has ended with status 5; the broker doesn't answer", runs.stderr.readline())
+                begun = time.monotonic()
+                runs.send_signal(number)
+                said = runs.communicate(timeout=LIMIT)[1]
+                self.assertLess(time.monotonic() - begun, 5)
+                self.assertEqual((runs.returncode, said.count("\n")), (5, 1), said)
+                self.assertIn("the session may go on holding", said)
+                broker.address = socket
+                broker.begin()
+                self.assertEqual(self.state(broker), "gone")
+
+    def test_a_signal_as_it_lets_go(self) -> None:
+        """It keeps no broker from being told that answers soon."""
+        broker = self.broker()
+        with broker.lab() as lab:
+            for number in range(12):
+                runs = broker.started("hold", "scope", "--", "sh", "-c", "echo runs; sleep 0.05; exit 5")
+                assert runs.stdout is not None
+                runs.stdout.readline()
+                time.sleep(0.04 + number * 0.004)
+                runs.terminate()
+                runs.communicate(timeout=LIMIT)
+                self.assertIn(runs.returncode, (5, 143, -15))
+                until(lambda: all(it["state"] == "idle" for it in lab.status()["stations"]), "that all are idle")
+
+    def test_a_broker_that_is_never_told(self) -> None:
+        broker = self.broker(BAY, "--state", "FOLDER/state")
+        assert broker.process is not None
+        script = "import sys; from labrun_broker import command, held; held.GRACE = 1.0; sys.exit(command.main(sys.argv[1:]))"
+        for address in (broker.address, broker.address.replace("unix:", "unix://")):
+            words = ["hold", "scope", "--broker", address, "--", "sh", "-c", f"kill -KILL {broker.process.pid}; exit 5"]
+            done = subprocess.run([sys.executable, "-c", script, *words], capture_output=True, text=True, timeout=LIMIT)
+            self.assertEqual((done.returncode, done.stdout), (69, ""), done.stderr)
+            self.assertIn("labrun-broker: the command ran, and ended with status 5, but:\nlabrun-broker: the broker at unix:", done.stderr)
+            self.assertIn("can't be reached", done.stderr)
+            broker.end()
+            broker.begin()
+            self.assertEqual(broker.ran("release", "guest-1").returncode, 0)
+
+    def test_a_broker_that_is_being_started(self) -> None:
+        """Who comes a moment too early waits for it; who doesn't want to wait doesn't."""
+        for slashes, is_there, instrument in (("", True, ["scope"]), ("//", False, ["scope"]), ("", False, ["--any", "sc*"])):
+            with self.subTest(slashes, is_there=is_there, instrument=instrument):
+                broker = self.broker()
+                broker.kill()
+                socket, broker.address = broker.address, broker.address.replace("unix:", f"unix:{slashes}")
+                if not is_there:
+                    os.unlink(socket.removeprefix("unix:"))
+                for limit in (["-n"], ["--timeout", "0.5"]):
+                    done = broker.ran("hold", *instrument, *limit, "--", "true")
+                    self.assertEqual((done.returncode, "waits for the broker" in done.stderr), (69, limit != ["-n"]), done.stderr)
+                    self.assertIn("can't be reached", done.stderr)
+                runs = broker.started("hold", *instrument, "--", "echo", "ran")
+                assert runs.stderr is not None
+                told = f"labrun-broker: waits for the broker: it doesn't listen yet at {broker.address}\n"
+                self.assertEqual(runs.stderr.readline(), told)
+                broker.address = socket
+                broker.begin()
+                self.assertEqual((runs.communicate(timeout=LIMIT), runs.returncode), (("ran\n", ""), 0))
+
+    def test_a_broker_that_is_stopped(self) -> None:
+        """A time limit is kept all the same, and nothing is held once the broker goes on."""
+        for bay in (BAY, RELEASES):
+            for limit, seconds in ((["-n"], 0.0), (["--timeout", "2"], 2.0)):
+                with self.subTest(bay, limit=limit):
+                    broker = self.broker(bay, "--state", "FOLDER/state")
+                    assert broker.process is not None
+                    broker.process.send_signal(signal.SIGSTOP)
+                    try:
+                        begun = time.monotonic()
+                        done = broker.ran("hold", "scope", *limit, "--", "echo", "ran")
+                        took = time.monotonic() - begun
+                    finally:
+                        broker.process.send_signal(signal.SIGCONT)
+                    told = f"labrun-broker: the broker at {broker.address} doesn't answer\n"
+                    self.assertEqual((done.returncode, done.stdout, done.stderr), (69, "", told))
+                    self.assertTrue(seconds <= took < seconds + 4, took)
+                    time.sleep(1)
+                    self.assertEqual(self.state(broker), "idle", self.records(broker))
+
+    def test_a_broker_that_answers_late(self) -> None:
+        """One that is there isn't given up: its own answer is awaited."""
+        broker = self.broker()
+        assert broker.process is not None
+        broker.process.send_signal(signal.SIGSTOP)
+        runs = broker.started("hold", "scope", "-n", "--", "echo", "ran")
+        time.sleep(1.6)
+        broker.process.send_signal(signal.SIGCONT)
+        self.assertEqual((runs.communicate(timeout=LIMIT), runs.returncode), (("ran\n", ""), 0))
+
     def test_one_whose_time_is_over_has_asked_once(self) -> None:
         broker = self.broker(BAY, "--state", "FOLDER/state")
         runs = self.holds(broker, "exit 0")

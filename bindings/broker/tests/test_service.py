@@ -2,6 +2,7 @@
 
 import asyncio
 import concurrent.futures
+import contextlib
 import os
 import signal
 import socket
@@ -67,10 +68,15 @@ class Clients(OnBroker):
             for kind in (labrun_broker.TimeoutError, labrun.TimeoutError, TimeoutError):
                 with self.assertRaisesRegex(kind, "scope is held by board for"):
                     lab.hold("scope", timeout=0.05).acquire()
-        with self.assertRaisesRegex(labrun.MayNotUse, "a guest may not use lamp"):
-            lab.hold("lamp").acquire()
+        with self.assertRaisesRegex(labrun.MayNotUse, "radio may not use supply"):
+            lab.hold("supply", station="radio").acquire()
+        for kind in (labrun_broker.NoInstrument, ValueError, labrun.LabrunError):  # (of labrun.Lab it is a ValueError)
+            with self.assertRaisesRegex(kind, r"scop is no instrument of this bay: .* \(did you mean scope\?\)"):
+                lab.hold("scop").acquire()
         with self.assertRaisesRegex(ValueError, "say which instruments"):
             lab.hold().acquire()
+        with self.assertRaisesRegex(labrun_broker.BadWish, r"any_of: a list of instruments, .* and not the text 'load-\*'"):
+            lab.hold(any_of="load-*")
         with self.assertRaisesRegex(labrun.NotHeld, "radio holds nothing"):
             lab.release("radio")
 
@@ -248,6 +254,31 @@ class Clients(OnBroker):
                 waits.hold("scope", timeout=LIMIT).acquire()
             until(lambda: station(lab, "guest-1")["state"] == "idle")
 
+    def test_a_closed_lab(self) -> None:
+        """It asks for nothing any more, also where a stream of it was idle, and nothing of it is left at the broker."""
+        broker = self.broker()
+        other, lab = self.lab(broker), broker.lab()
+        with lab.hold("supply"):
+            pass
+        late, ended = lab.hold("supply"), lab.hold("load-1")
+        ended.acquire()
+        with concurrent.futures.ThreadPoolExecutor(1) as pool, other.hold("scope"):
+            waits = pool.submit(lab.hold("scope").acquire)
+            until(lambda: other.status()["instruments"][0]["waiting"])
+            lab.close()
+            with self.assertRaises(labrun.Closed):
+                waits.result(LIMIT)
+        calls = (late.acquire, lab.hold("supply").acquire, lab.status, lambda: lab.release("board"), lambda: next(lab.watch()),
+                 ended.release, lambda: ended.note("x"), lambda: asyncio.run(lab.hold("supply").acquire_async()))
+        for call in calls:
+            with self.assertRaisesRegex(labrun.Closed, "the lab is closed"):
+                call()
+        status = other.status()
+        self.assertEqual([it["holder"] for it in status["instruments"]], [None] * 4)
+        self.assertEqual({it["state"] for it in status["stations"]}, {"idle"})
+        self.assertEqual(status["in_line"], [])
+        lab.close()
+
     def test_a_fork(self) -> None:
         lab = self.lab(self.broker())
         child = os.fork()
@@ -293,6 +324,29 @@ class WhoIsLetIn(OnBroker):
         Door(("0.0.0.0:1",), "c", "k", "t").check()
         Door(("unix:x", "127.0.0.1:1")).check()
 
+    def test_why_it_cant_be_reached(self) -> None:
+        folder = self.enterContext(tempfile.TemporaryDirectory())
+        closes = socket.socket(socket.AF_UNIX)
+        closes.bind(f"{folder}/closes")
+        closes.listen()
+        self.addCleanup(closes.close)
+
+        def close() -> None:
+            with contextlib.suppress(OSError):
+                while True:
+                    closes.accept()[0].close()
+
+        threading.Thread(target=close, daemon=True).start()
+        path = f"{folder}/a:b.sock"
+        rows = [(path, f"a socket's path is written unix:{path}"), ("./no.sock", "a socket's path is written unix:./no.sock")]
+        rows += [("no.sock", "unix:PATH or HOST:PORT is wanted"), (f"unix:{folder}/closes", "it closed the connection")]
+        for address, why in rows:
+            with self.subTest(address), labrun_broker.connect(address) as lab:
+                for act in (lab.status, lab.hold("scope").acquire, lambda: next(lab.watch())):
+                    with self.assertRaises(labrun_broker.Unreachable) as fault:
+                        act()
+                    self.assertEqual(str(fault.exception), f"the broker at {address} can't be reached: {why}")
+
     def certificate(self, folder: str) -> tuple[str, str, str]:
         names = (f"{folder}/certificate", f"{folder}/key", f"{folder}/token")
         words = ["openssl", "req", "-x509", "-newkey", "ec", "-pkeyopt", "ec_paramgen_curve:prime256v1", "-nodes", "-days", "2", "-subj", "/CN=localhost",
@@ -320,10 +374,18 @@ class WhoIsLetIn(OnBroker):
         for more, why in (({}, "asks for its token"), ({"token_file": f"{folder}/wrong"}, "this isn't its token")):
             with labrun_broker.connect(at, certificate_file=certificate, **more) as lab:
                 for act in (lab.hold("scope").acquire, lab.status, lambda: lab.release("board"), lambda: next(lab.watch())):
-                    with self.assertRaisesRegex(labrun_broker.Unreachable, why):
+                    with self.assertRaisesRegex(labrun_broker.Unreachable, f"^the broker at {at} doesn't let this client in: .*{why}"):
                         act()
-        with labrun_broker.connect(at, token_file=token) as lab, self.assertRaises(labrun_broker.Unreachable):
-            lab.status()
+        with labrun_broker.connect(at, token_file=token) as lab:
+            with self.assertRaisesRegex(labrun_broker.Unreachable, r"it closed the connection \(a broker with TLS wants --certificate FILE\)$"):
+                lab.status()
+        with open(certificate, encoding="ascii") as file:
+            damaged = file.read().replace("M", "*")
+        with open(f"{folder}/damaged", "w", encoding="ascii") as file:
+            file.write(damaged)
+        for wrong in (token, key, f"{folder}/damaged"):
+            with self.assertRaisesRegex(labrun_broker.BadWish, f"^{wrong}: there is no certificate in it"):
+                labrun_broker.connect(at, certificate_file=wrong)
         for wrong in (f"{folder}/another", token):
             words = ["--listen", f"127.0.0.1:{free_port()}", "--tls-certificate", certificate, "--tls-key", wrong]
             done = broker.ran("serve", f"{broker.folder}/bay.toml", *words)

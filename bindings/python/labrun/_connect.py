@@ -5,18 +5,21 @@ from __future__ import annotations
 import importlib
 import os
 import re
-from typing import Any, Union
+from typing import Any, Optional, Union
 
 from ._lab import OVERTAKES, Lab
 
 
-def connect(where: Union[str, os.PathLike[str]], station: str = "") -> Any:
+def connect(where: Union[str, os.PathLike[str]], station: str = "", **of_broker: Optional[str]) -> Any:
     """The lab of a bay's file (`bay.toml`, as labrun-broker reads it), in this process; or the one that a broker keeps at an address,
-    `unix:PATH` or `HOST:PORT`. Both have `hold(.., any_of=, timeout=, note=)` and `close()`, and raise the same errors. `station` is whom
-    the program is; without it each session is a guest's. ValueError: the file is no bay; ImportError: there is no package labrun_broker."""
+    `unix:PATH` or `HOST:PORT`, which may have its `token_file=`, `certificate_file=` and `by=`. Both have `hold(.., any_of=, timeout=)` and
+    `close()`, and raise the same errors. `station` is whom the program is; without it each session is a guest's. ValueError: the file is no bay;
+    ImportError: there is no package labrun_broker."""
     given = os.fspath(where)
     if is_address(given):
-        return importlib.import_module("labrun_broker").connect(given, station)
+        return importlib.import_module("labrun_broker").connect(given, station, **of_broker)
+    if of_broker:
+        raise TypeError(f"{given} is a file: only a broker has {', '.join(of_broker)}")
     bay = _bay(given)
     guests = bay.get("guests", {})
     try:

@@ -32,6 +32,8 @@ class Kind:
         return self.name or "a guest"
 
     def sets(self, instruments: tuple[str, ...], any_of: AnyOf) -> tuple[int, ...]:
+        if any_of and isinstance(any_of, str):
+            raise ValueError(f"any_of: a list of instruments, or of sets of them, is wanted, and not the text {any_of!r}")
         choices = [(it,) if isinstance(it, str) else tuple(it) for it in any_of]
         if bool(choices) == bool(instruments) or not all(choices):
             raise ValueError("say which instruments, or of which sets of them it is to be one (any_of)")

@@ -3,6 +3,7 @@ file."""
 
 from __future__ import annotations
 
+import errno
 import fcntl
 import os
 from typing import Protocol
@@ -79,10 +80,15 @@ class FileStore:
 
     def _writes_again(self) -> None:
         """What was found in the file. (If a sync failed before its process was killed, the system may take for written what isn't on the disk:
-        then a sync alone would say that all is well.)"""
+        then a sync alone would say that all is well. Most disks take the same bytes even when they are full; where one doesn't, there is
+        the sync alone.)"""
         at = 0
-        while at < self._length and (part := os.pread(self._file, min(PART, self._length - at), at)):
-            at += os.pwrite(self._file, part, at)
+        try:
+            while at < self._length and (part := os.pread(self._file, min(PART, self._length - at), at)):
+                at += os.pwrite(self._file, part, at)
+        except OSError as fault:
+            if fault.errno != errno.ENOSPC:
+                raise
 
     def append(self, text: bytes) -> None:
         if self._is_torn:

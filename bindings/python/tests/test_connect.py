@@ -94,6 +94,11 @@ class Connect(unittest.TestCase):
         with mock.patch.dict(sys.modules, labrun_broker=broker):
             for where in ("unix:/run/labrun/bay.sock", "bay-3:4711", "[::1]:4711", "127.0.0.1:4711"):
                 self.assertEqual(labrun.connect(where, "board"), (where, "board"))
+        broker.connect = lambda address, station, token_file, certificate_file: (address, station, token_file, certificate_file)
+        with mock.patch.dict(sys.modules, labrun_broker=broker):
+            self.assertEqual(labrun.connect("bay-3:4711", token_file="t", certificate_file="c"), ("bay-3:4711", "", "t", "c"))
+        with self.assertRaisesRegex(TypeError, "bay.toml is a file: only a broker has token_file"):
+            labrun.connect("bay.toml", token_file="t")
         for path in ("bay.toml", "/etc/labrun/bay.toml", "./bay:1", "C:bay.toml"):
             self.assertFalse(is_address(path))
 

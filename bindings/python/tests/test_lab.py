@@ -127,6 +127,15 @@ class Holding(OnLab):
             with self.subTest(at), self.assertRaises(ValueError):
                 call()
 
+    def test_a_text_for_any_of(self) -> None:
+        """(Its letters are no names of instruments.)"""
+        lab = labrun.Lab(["l", "o"])
+        self.addCleanup(lab.close)
+        for text in ("lo", "l-*"):
+            with self.assertRaises(ValueError) as fault:
+                lab.hold(any_of=text)
+            self.assertEqual(str(fault.exception), f"any_of: a list of instruments, or of sets of them, is wanted, and not the text {text!r}")
+
     def test_largest(self) -> None:
         """64 instruments, each held; 31 stations and guests."""
         names = [f"i{at}" for at in range(64)]

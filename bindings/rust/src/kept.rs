@@ -11,6 +11,9 @@ use std::time::Duration;
 const TRIES: u32 = 30;
 const PAUSE: Duration = Duration::from_millis(10);
 
+/// `ENOSPC` on Linux.
+const NO_SPACE: i32 = 28;
+
 /// Where a journal is before a call returns.
 ///
 /// ```no_run
@@ -52,10 +55,13 @@ impl Kept {
         self.cut(length)?;
         if self.syncs {
             // (if a sync failed before its process was killed, the system may take for written what isn't on the disk: then a sync alone
-            // would say that all is well)
+            // would say that all is well; where a full disk doesn't take even the same bytes, there is the sync alone)
             let mut text = vec![0; length as usize];
             self.file.read_exact_at(&mut text, 0)?;
-            self.file.write_all_at(&text, 0)?;
+            match self.file.write_all_at(&text, 0) {
+                Err(why) if why.raw_os_error() != Some(NO_SPACE) => return Err(why),
+                _ => (),
+            }
             self.file.sync_data()?;
             let folder = path.parent().filter(|it| !it.as_os_str().is_empty()).unwrap_or(Path::new("."));
             File::open(folder)?.sync_all()?;

@@ -42,7 +42,7 @@ class file {
 
     // So much of it counts. That is on the disk, and so is its name (whoever began it may have died before that), and the rest is cut off.
     void counts(std::size_t length) {
-        if (syncs_ && !writes_again(length)) throw not_written(errno);
+        if (syncs_ && !writes_again(length) && errno != ENOSPC) throw not_written(errno);
         length_ = length;
         if (!add("") || !syncs_name()) throw not_written(errno);
     }
@@ -79,7 +79,7 @@ class file {
     }
 
     // What was found. (If a sync failed before its process was killed, the system may take for written what isn't on the disk: then a sync
-    // alone would say that all is well.)
+    // alone would say that all is well. Where a full disk doesn't take even the same bytes, there is the sync alone.)
     bool writes_again(std::size_t length) {
         length_ = 0;
         return writes(text().substr(0, length));
