@@ -15,7 +15,7 @@ from typing import Any, Callable, Optional, Sequence
 
 from .quick import user
 from .run import add_hold, run_hold
-from .texts import aligned, last, plain, span
+from .texts import aligned, counted, last, plain, span
 from .words import ABOUT, INTERRUPTED, MAY_NOT, NO_BAY, NOT_WRITTEN, PROGRAM, STATUSES, TAKEN, TIMED_OUT, UNREACHABLE, USAGE, Word, add_client, lab_of, say
 
 
@@ -53,7 +53,7 @@ def lines_of(status: dict[str, Any]) -> list[str]:
     rows = [["INSTRUMENT", "HELD BY", "FOR", "WAITING"]]
     for one in status["instruments"]:
         rows.append([one["name"], one["holder"] or "-", span(at - one["since"]) if one["holder"] else "", " ".join(one["waiting"])])
-    lines = [f"bay {plain(status['bay'])}, {status['sessions']} sessions since {since}", "", *aligned(rows), ""]
+    lines = [f"bay {plain(status['bay'])}, {counted(status['sessions'], 'session')} since {since}", *disk_of(status), "", *aligned(rows), ""]
     rows = [["STATION", "", "FOR", "INSTRUMENTS", "BY"]]
     for one in status["stations"]:
         if one["state"] != "idle":
@@ -63,6 +63,12 @@ def lines_of(status: dict[str, Any]) -> list[str]:
     for one in status["in_line"]:
         rows.append([one["station"] or "a guest", "in line", span(at - one["since"]), " ".join(one["instruments"]), plain(one["by"] or "")])
     return [*lines, *(aligned(rows) if len(rows) > 1 else ["nobody holds or waits"])]
+
+
+def disk_of(status: dict[str, Any]) -> list[str]:
+    if not status["disk"]:
+        return []
+    return [f"the broker can't write for {span(status['at'] - status['disk_since'])}: {plain(status['disk'])}. Nobody comes to hold until it can"]
 
 
 # ---- for who looks after the bay

@@ -20,7 +20,7 @@ from unittest import mock
 
 import labrun
 from labrun_broker.client import _who
-from labrun_broker.command import main
+from labrun_broker.command import lines_of, main
 from labrun_broker.run import Signals
 from tests.brokers import BAY, COMMAND, LIMIT, Broker, OnBroker, station, until
 
@@ -95,6 +95,16 @@ class WithoutBroker(unittest.TestCase):
                         found = end.code
                 self.assertEqual((found, said.getvalue()), (status, out), complained.getvalue())
                 self.assertIn(fault, complained.getvalue())
+
+    def test_how_the_bay_stands(self) -> None:
+        """One session is no `sessions`, and a disk that is at fault is named, with since when."""
+        status = {"bay": "north", "at": 1000.0, "since": 900.0, "instruments": [], "stations": [], "in_line": [], "sessions": 1}
+        first, second, *_ = lines_of({**status, "disk": "a write failed (No space left on device)", "disk_since": 984.0})
+        self.assertRegex(first, "^bay north, 1 session since ")
+        self.assertEqual(second, "the broker can't write for 16 s: a write failed (No space left on device). Nobody comes to hold until it can")
+        first, second, *_ = lines_of({**status, "sessions": 2, "disk": "", "disk_since": None})
+        self.assertRegex(first, "^bay north, 2 sessions since ")
+        self.assertEqual(second, "")
 
     def test_manual(self) -> None:
         """Each word and option of the help is in the man page and in both completions."""
