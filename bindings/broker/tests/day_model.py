@@ -170,7 +170,8 @@ class Rules:
             return {"": "NotHeld", LETS_GO: "LetGo", TAKES: "TakenAway"}[self.ends.get(wish.ticket, "")]
         if uses is None or not all(wish.choices):
             return "BadWish"
-        return None if all(it in uses for choice in wish.choices for it in choice) else "MayNotUse"
+        first = next((it for choice in wish.choices for it in choice if it not in uses), None)
+        return None if first is None else "MayNotUse" if self.file.may(first) else "NoInstrument"
 
     def _is_new(self, stream: Stream, wish: Wish) -> None:
         number, kind = self.next, KINDS.index(wish.station)

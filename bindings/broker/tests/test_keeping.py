@@ -108,7 +108,8 @@ class Sessions(OnKeeping):
         await keeping.let_go(await guest, self.owner)
 
     async def test_a_status_holds_up_nobody(self) -> None:
-        """Of two hundred clients at as many instruments as may be: all of it is done on the loop, in less than 5 ms of its time."""
+        """Of two hundred clients at as many instruments as may be: all of it is done on the loop, in some 4 ms of its time on a machine that
+        does nothing else (where the bound is eight times as much as a plain loop takes, because machines differ)."""
         names, chance = [f"i-{at}" for at in range(64)], random.Random(1)
         keeping = await self.keeping(f"instruments = {json.dumps(names)}\n[guests]\ncount = 200\n")
         asks = [asyncio.create_task(self.holds(keeping, *chance.sample(names, chance.randint(1, 3)), by=f"ann@bench-{at} 471")) for at in range(200)]
@@ -119,8 +120,14 @@ class Sessions(OnKeeping):
             self.assertEqual(len(pb.Bay(**keeping.status()).SerializeToString()) > 40000, True)
             return time.thread_time() - begun
 
-        self.assertLess(min(cost() for _ in range(20)), 0.005)
-        self.assertLess(min(self.cost_of_a_line(keeping) for _ in range(20)), 0.001)
+        def plain() -> float:
+            begun = time.thread_time()
+            self.assertEqual(len(",".join(str(it) for it in range(20000))), 108889)
+            return time.thread_time() - begun
+
+        most = 8 * min(plain() for _ in range(20))
+        self.assertLess(min(cost() for _ in range(20)), most)
+        self.assertLess(min(self.cost_of_a_line(keeping) for _ in range(20)), most / 8)
         for task in asks:
             task.cancel()
         await asyncio.gather(*asks, return_exceptions=True)
