@@ -42,7 +42,7 @@ class Preview(unittest.TestCase):
                 self.assertIn("this broker's machine is a model", said)
                 done = self.ran("hold", "scope", "supply", "--timeout", "5", "--", "sh", "-c", "echo at $LABRUN_HELD")
                 self.assertEqual((done.stdout, done.stderr, done.returncode), ("at scope supply\n", "", 0))
-                self.assertIn("bay north, 1 sessions", self.ran("status").stdout)
+                self.assertIn("bay north, 1 session since", self.ran("status").stdout)
                 self.assertIn("such a broker runs already", self.ran().stderr)
                 if find_spec("aiohttp"):
                     page = re.search(r"http://127\.0\.0\.1:\d+/", said)
