@@ -1,10 +1,8 @@
 -- The lines of a new file, and who may go on by other classes.
-use Rattle.std.proofs.Common.{◌≡◌, ◌≢◌, ◌⊎◌, ℕ, zero, suc, ◌+◌, ◌-◌, ◌<◌, ◌≤◌, Bool, true, false, ◌&&◌, not, nat_eq, nat_lt, nat_le, if◌then◌else◌, List, [], ◌∷◌, ◌++◌, length, drop, map, Option, Some, None, refl, sym, ap, ◌∙◌, subst, inl, inr, arith, rules}
+use Rattle.std.proofs.Common.{◌≡◌, ◌≢◌, ◌⊎◌, ℕ, zero, suc, ◌-◌, ◌<◌, ◌≤◌, Bool, true, false, ◌&&◌, not, nat_eq, nat_lt, nat_le, if◌then◌else◌, List, [], ◌∷◌, ◌++◌, length, drop, map, Some, None, refl, sym, ap, ◌∙◌, subst, inl, inr, arith, rules}
 use Rattle.std.specs.List.{list_any, count_by}
-use Rattle.std.specs.Int.Bits.{bit_and}
 use Rattle.std.proofs.lemmas.Bool.{cases_eq, cases_Bool, false≢true, eq-eqb, ne_eqb}
 use Rattle.std.proofs.lemmas.List.Sums.{sum_by-cons}
-use Rattle.bay_line.specs.declared.wish.Wish.{Wish}
 use Rattle.bay_line.specs.Lines.{LineView}
 use Rattle.bay_line.specs.Wanted.{leaves}
 use Rattle.bay_book.specs.declared.ask.Ask.{Ask}
@@ -16,7 +14,7 @@ use Rattle.bay_book.specs.Books.{BookView, IsSound, turn}
 use Rattle.bay_log.specs.declared.line.Entry.{Entry}
 use Rattle.bay_log.specs.declared.line.Line.{Line}
 use Rattle.bay_log.specs.Lines.{base_of, log_text, is_none}
-use Rattle.bay_log.specs.Logs.{LogView, adding, end_of, unsent_of, turning}
+use Rattle.bay_log.specs.Logs.{LogView, end_of, unsent_of, turning}
 use Rattle.bay_log.specs.Alive.{alive, begins}
 use Rattle.bay.specs.declared.classes.Class.{Class}
 use Rattle.bay.specs.Members.{Has}
@@ -26,7 +24,6 @@ use Rattle.bay.specs.Pages.{entry_of}
 use Rattle.bay.specs.Written.{bound_of}
 use Rattle.bay.specs.Turning.{may_hold_on, may_wait_on, may_be_at, may_be, IsWhoMayNot, hold_line, with_line_at, filled, new_lines}
 use Rattle.bay.proofs.Members.{has_at, place_of, map_cases, map_has, any_none}
-use Rattle.bay.proofs.Tied.{same_ask}
 use Rattle.bay.proofs.Alike.{AsFar, AreAsFar, as_far_tied}
 use Rattle.bay.proofs.Logged.{alive_push, base_push, if_then}
 use Rattle.bay.proofs.LogLines.{below_more}

@@ -1,6 +1,5 @@
 -- A bay that goes on in a new file, and with other classes.
-use Rattle.std.proofs.Common.{◌≡◌, ◌≢◌, ℕ, zero, suc, ◌+◌, ◌<◌, ◌≤◌, Bool, true, false, ◌||◌, List, [], ◌∷◌, ◌++◌, length, get_or, map, Option, Some, None, refl, sym, ap, ◌∙◌, subst, inl, inr, arith}
-use Rattle.std.specs.List.{list_any}
+use Rattle.std.proofs.Common.{◌≡◌, ◌≢◌, ℕ, zero, suc, ◌≤◌, Bool, true, false, ◌||◌, List, [], ◌∷◌, ◌++◌, length, get_or, map, Option, Some, None, refl, sym, ap, ◌∙◌, subst, arith}
 use Rattle.std.proofs.lemmas.Bool.{false≢true}
 use Rattle.bay_line.specs.Lines.{NextIsLetIn}
 use Rattle.bay_book.specs.declared.ask.Ask.{Ask}
@@ -9,7 +8,7 @@ use Rattle.bay_book.specs.declared.ask.Mark.TheVariants.{None as NoLine, Due, At
 use Rattle.bay_book.specs.declared.ask.Stage.{Stage}
 use Rattle.bay_book.specs.declared.ask.Stage.TheVariants.{Waits, Holds, Over}
 use Rattle.bay_book.specs.Asks.{ask_at, no_ask, is_holding, is_owed, turned}
-use Rattle.bay_book.specs.Books.{BookView, turn}
+use Rattle.bay_book.specs.Books.{BookView}
 use Rattle.bay_log.specs.declared.line.Entry.{Entry}
 use Rattle.bay_log.specs.declared.line.Line.{Line}
 use Rattle.bay_log.specs.declared.line.Line.TheVariants.{Head, Hold as HoldLine, Back, End as EndLine, Note}
@@ -18,14 +17,14 @@ use Rattle.bay_log.specs.Logs.{LogView, end_of, turning}
 use Rattle.bay_log.specs.Alive.{alive}
 use Rattle.bay.specs.declared.classes.Class.{Class}
 use Rattle.bay.specs.Members.{Has}
-use Rattle.bay.specs.Cores.{core, HoldsIn}
+use Rattle.bay.specs.Cores.{core}
 use Rattle.bay.specs.Pages.{entry_of}
-use Rattle.bay.specs.Written.{bound_of, IsWritten}
+use Rattle.bay.specs.Written.{bound_of}
 use Rattle.bay.specs.Restoring.{IsOf, after_line}
-use Rattle.bay.specs.Turning.{Turns, IsQuiet, IsQuietIf, owes, hold_line, with_line_at, filled, new_lines, new_log, log_after, book_after, with_classes}
+use Rattle.bay.specs.Turning.{Turns, IsQuiet, IsQuietIf, owes, hold_line, with_line_at, filled, new_log, log_after, book_after, with_classes}
 use Rattle.bay.specs.TurnLaws.{IsAsItWas, TurnsKeep, SaysTheSame, FilesSayTheSame}
 use Rattle.bay.specs.Bays.{BayView, IsKept, IsWhole}
-use Rattle.bay.proofs.Members.{has_at, place_of, map_cases, map_has, any_none}
+use Rattle.bay.proofs.Members.{has_at, map_cases, map_has, any_none}
 use Rattle.bay.proofs.Calls.{goes_on_holds, goes_on_waits}
 use Rattle.bay.proofs.Waited.{same_waits, goes_next}
 use Rattle.bay.proofs.Heard.{AllHeard, all_goes, mid_before}

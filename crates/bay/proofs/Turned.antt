@@ -1,5 +1,5 @@
 -- What the log says of the asks of a bay that goes on in a new file.
-use Rattle.std.proofs.Common.{◌≡◌, ◌≢◌, ℕ, ◌+◌, ◌-◌, ◌<◌, ◌≤◌, max, Bool, true, false, ◌||◌, if◌then◌else◌, List, [], ◌∷◌, ◌++◌, append_assoc, length, Option, Some, None, refl, sym, ap, ◌∙◌, subst, inl, inr, arith}
+use Rattle.std.proofs.Common.{◌≡◌, ◌≢◌, ℕ, ◌<◌, max, Bool, true, false, ◌||◌, if◌then◌else◌, List, [], ◌∷◌, ◌++◌, append_assoc, Some, refl, sym, ap, ◌∙◌, subst, inl, inr, arith}
 use Rattle.std.specs.List.{list_any, count_by}
 use Rattle.std.proofs.lemmas.Bool.{cases_Bool, false≢true}
 use Rattle.std.proofs.lemmas.List.{append-nil, append_cancel_left}
@@ -10,18 +10,17 @@ use Rattle.bay_book.specs.declared.ask.Mark.{Mark}
 use Rattle.bay_book.specs.declared.ask.Mark.TheVariants.{None as NoLine, Due, At}
 use Rattle.bay_book.specs.declared.ask.Stage.{Stage}
 use Rattle.bay_book.specs.declared.ask.Stage.TheVariants.{Waits, Holds, Over}
-use Rattle.bay_book.specs.Asks.{ask_at, no_ask, is_holding, is_over, is_owed, is_written, turned, turned_mark, IsSoundAt, IsSoundAsk}
+use Rattle.bay_book.specs.Asks.{no_ask, is_holding, is_over, is_owed, turned, turned_mark, IsSoundAt, IsSoundAsk}
 use Rattle.bay_book.specs.Books.{BookView, IsSound, turn}
 use Rattle.bay_log.specs.declared.line.Entry.{Entry}
 use Rattle.bay_log.specs.declared.line.Line.{Line}
-use Rattle.bay_log.specs.Lines.{base_of, log_text}
 use Rattle.bay_log.specs.Logs.{LogView, end_of}
 use Rattle.bay_log.specs.Alive.{alive, begins}
 use Rattle.bay_log.specs.Laws.{BeginsWith}
 use Rattle.bay.specs.declared.classes.Class.{Class}
 use Rattle.bay.specs.Members.{Has}
 use Rattle.bay.specs.Cores.{core, IsTied}
-use Rattle.bay.specs.Pages.{entry_of, IsLogged}
+use Rattle.bay.specs.Pages.{entry_of}
 use Rattle.bay.specs.Written.{is_given, IsWritten}
 use Rattle.bay.specs.Ended.{IsOutOfLog, IsEndedAsk, IsEnded, AreInLog, IsPast}
 use Rattle.bay.specs.Safe.{AreSafe, StaySafe}

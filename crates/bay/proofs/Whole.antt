@@ -14,7 +14,6 @@ use Rattle.bay_log.specs.declared.line.Line.TheVariants.{Head, Hold as HoldLine,
 use Rattle.bay_log.specs.Lines.{AreLines}
 use Rattle.bay_log.specs.Logs.{LogView, beginning, end_of}
 use Rattle.bay_log.specs.Alive.{alive}
-use Rattle.bay_log.specs.Laws.{BeginsWith}
 use Rattle.bay.specs.declared.classes.Class.{Class}
 use Rattle.bay.specs.declared.telling.Told.{Told}
 use Rattle.bay.specs.Members.{Has}

@@ -12,7 +12,8 @@ use crate::finding::{
     due, first_gone, first_late, first_over_limit, in_use, limit_due, place_of, taken,
 };
 use crate::making::{
-    asker, back_again, give_all, given, gone_since, hearing, holding, is_done, over, restored, turn_all,
+    asker, back_again, give_all, given, gone_since, hearing, holding, is_done, over, restored,
+    turn_all,
 };
 use crate::telling::next_to_tell;
 use std::alloc::{AllocError, Global};

@@ -31,7 +31,13 @@ fn request(number: u64, owner: u128) -> Request {
 }
 
 /// So many classes, all of them alike.
-fn classes(rt: &impl Abort, alloc: Global, many: usize, uses: u64, places: u32) -> Vec<Class, Global> {
+fn classes(
+    rt: &impl Abort,
+    alloc: Global,
+    many: usize,
+    uses: u64,
+    places: u32,
+) -> Vec<Class, Global> {
     let mut made = Vec::new(alloc);
     for _ in 0..many {
         if made.push(Class { uses, places }).is_err() {
@@ -42,7 +48,14 @@ fn classes(rt: &impl Abort, alloc: Global, many: usize, uses: u64, places: u32) 
 }
 
 fn opened(rt: &impl Abort, alloc: Global, keeps: bool, places: u32) -> Bay {
-    match Bay::open(alloc, classes(rt, alloc, 1, 7, places), terms(keeps), 4, 1, BAY) {
+    match Bay::open(
+        alloc,
+        classes(rt, alloc, 1, 7, places),
+        terms(keeps),
+        4,
+        1,
+        BAY,
+    ) {
         Ok(bay) => bay,
         Err(_) => panic!(rt; "no bay"),
     }
@@ -128,13 +141,27 @@ fn go_on(rt: &impl Abort, alloc: Global, bay: &mut Bay, text: Vec<u8, Global>) {
     if file.extend_from_slice(bay.unsent()).is_err() {
         panic!(rt; "no memory");
     }
-    match Bay::resume(alloc, classes(rt, alloc, 1, 7, 2), terms(true), 4, 1, BAY, &file, 50) {
+    match Bay::resume(
+        alloc,
+        classes(rt, alloc, 1, 7, 2),
+        terms(true),
+        4,
+        1,
+        BAY,
+        &file,
+        50,
+    ) {
         Ok((back, used)) => {
             check(rt, "used", used, 480);
             check(rt, "one", back.len(), 1);
             assert!(rt; 0 < back.len());
             let ask = back.ask_at(0);
-            check(rt, "6", (ask.number, ask.stage, ask.needs), (6, Stage::Holds, 6));
+            check(
+                rt,
+                "6",
+                (ask.number, ask.stage, ask.needs),
+                (6, Stage::Holds, 6),
+            );
             check(rt, "next", back.next_number(), 7);
         }
         Err(_) => panic!(rt; "it doesn't come back"),
