@@ -1,6 +1,6 @@
 use Rattle.std.proofs.Common.{◌≡◌, ℕ, ◌<◌, ◌+◌, length, sym, ◌∙◌, subst, refl, slice_index_or, length-set, inl, inr, List, take, arith}
 use Rattle.std.proofs.lemmas.List.{get_or-replicate}
-use Rattle.bay_book.specs.Asks.{ask_at}
+use Rattle.bay_book.specs.Asks.{is_holding, ask_at}
 use Rattle.bay.specs.Cores.{AreTaken}
 use Rattle.bay.proofs.Taken.{one_taken, none_taken, other_taken}
 use Rattle.bay.proofs.free.taken_of_each.Goals.{then-is_holding+then-ask-lt32, else-is_holding}
