@@ -36,7 +36,7 @@ use Rattle.bay_c.specs.Telling.{refusal_status, not_held_status, not_noted_statu
 -- a bay of these classes and terms, in which nobody has asked, and whose log has its head alone
 abbrev pub IsOpenedFor : List BayClass → BayTerms → BayView → Type 0
 IsOpenedFor classes terms x =
-    IsOpened (map class_of classes) (terms_of terms) terms.line terms.overtakes x.room × (x.log ≡ beginning terms.bay 0 0)
+    IsOpened (map class_of classes) (terms_of terms) terms.line terms.overtakes x.room × (x.log ≡ beginning terms.bay 0 0 0)
 
 abbrev pub IsInsideFor : List BayClass → BayTerms → Inside → Type 0
 IsInsideFor classes terms (Open x) = IsOpenedFor classes terms x

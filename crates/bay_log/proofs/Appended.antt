@@ -31,7 +31,7 @@ lines_split false (x ∷ a) b p = let more = lines_split false a b p.2 in ((p.0,
 
 pub base_both : (a b : List Line) → is_none a ≡ false → base_of (a ++ b) ≡ base_of a
 base_both [] b h = cc h
-base_both (Head bay base next ∷ a) b h = refl
+base_both (Head bay base next granted ∷ a) b h = refl
 base_both (Hold ask entry ∷ a) b h = refl
 base_both (Back from to ∷ a) b h = refl
 base_both (End ask how at ∷ a) b h = refl
