@@ -202,8 +202,8 @@ static void busy(void) {
     IS(met > 0);
     met = 0;
     watched = 1;
-    IS(lab_bay_journal(&bay, text, sizeof text, &written, &position) == LAB_DONE && written == 269 && position == 269);
-    IS(lab_bay_durable(&bay, 269) == LAB_DONE);
+    IS(lab_bay_journal(&bay, text, sizeof text, &written, &position) == LAB_DONE && written == 303 && position == 303);
+    IS(lab_bay_durable(&bay, 303) == LAB_DONE);
     watched = 0;
     TOLD(1, LAB_HOLDS, 1);
     for (int times = 0; times < 60; times++) {
