@@ -16,6 +16,11 @@
      LAB_STOPPED      the bay was stopped while it waited
    (An ask that left is told nothing of it. What comes of one whose client is gone may be told as well: nobody waits for that, so drop it.)
 
+   Whoever comes to hold gets a *token*: a number larger than that of each ask that was let in before it. With a journal it is so over restarts,
+   too: larger than that of each ask that was ever told that it holds. (An ask's number isn't that: who asked later may hold earlier.) So a server
+   before an instrument can refuse whoever comes with a smaller token than it has seen: somebody who was cut off may not know yet that its
+   session is over.
+
    What holds, whatever the calls: no two asks hold one instrument; whoever was told that it holds goes on to hold, until it lets go, leaves,
    is taken away, or its limit or its grace is over; after each call nobody waits whose instruments are free, kept for nobody before it, and
    for whom there is a place, and nobody waits whose deadline is over; while there is a place for it, an ask is passed at a set by at most
@@ -102,6 +107,7 @@ struct lab_outcome {
     uint64_t serial; /* from 1; to be given back */
     uint64_t number; /* of the ask */
     uint64_t needs;  /* of LAB_HOLDS: the instruments that it holds */
+    uint64_t token;  /* of LAB_HOLDS: its token, from 1 */
     uint32_t what;   /* LAB_HOLDS, or how it is over */
     uint32_t unused;
 };
@@ -111,6 +117,7 @@ struct lab_standing {
     uint64_t owner[2];
     uint64_t needs; /* the instruments that it holds; none if it doesn't hold */
     uint64_t since; /* since when it asks, then since when it holds, and then since when it is over */
+    uint64_t token; /* its token, from when it was let in on; 0 if it never was */
     uint32_t kind;  /* its class */
     uint32_t what;  /* LAB_HOLDS, LAB_WAITS, or how it is over */
 };

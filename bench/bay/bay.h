@@ -7,8 +7,8 @@
 #define IS(what) expect((what), "line %d: %s", __LINE__, #what)
 
 #define BAY_HASH "000102030405060708090a0b0c0d0e0f101112131415161718191a1b1c1d1e1f"
-#define BAY_HEAD_SUM "d6e9de791de0e594"
-#define BAY_HEAD BAY_HEAD_SUM " bay " BAY_HASH " 0000000000000000 0000000000000000\n"
+#define BAY_HEAD_SUM "8eb4f416f9f7a970"
+#define BAY_HEAD BAY_HEAD_SUM " bay " BAY_HASH " 0000000000000000 0000000000000000 0000000000000000\n"
 
 static struct lab_bay bay;
 static struct lab_terms terms;

@@ -22,11 +22,13 @@ static void freed(void) {
     IS(lab_bay_free(&bay) == LAB_DONE && bay.live == 0);
 }
 
-#define TOLD(number, what, needs) told((number), (what), (needs), __LINE__)
+#define TOLD(number, what, needs) told((number), (what), (needs), 0, __LINE__)
+/* (and with which token) */
+#define TOLD_WITH(number, what, needs, token) told((number), (what), (needs), (token), __LINE__)
 #define QUIET() quiet(__LINE__)
 
 /* What is told next; it is told again until it is given back. */
-static void told(uint64_t number, uint32_t what, uint64_t needs, int line) {
+static void told(uint64_t number, uint32_t what, uint64_t needs, uint64_t token, int line) {
     struct lab_outcome one, other;
     memset(&one, POISON, sizeof one);
     memset(&other, POISON, sizeof other);
@@ -35,8 +37,10 @@ static void told(uint64_t number, uint32_t what, uint64_t needs, int line) {
     if (status != LAB_DONE) return;
     expect(one.number == number && one.what == what && (what != LAB_HOLDS || one.needs == needs), "line %d: of %llu is told %u", line,
            (unsigned long long)one.number, one.what);
+    expect((token == 0 || one.token == token) && (what != LAB_HOLDS || one.token > 0), "line %d: the token %llu", line, (unsigned long long)one.token);
     expect(one.serial == done + 1, "line %d: the serial number %llu", line, (unsigned long long)one.serial);
-    expect(again == LAB_DONE && one.serial == other.serial && one.number == other.number && one.what == other.what && one.needs == other.needs,
+    expect(again == LAB_DONE && one.serial == other.serial && one.number == other.number && one.what == other.what && one.needs == other.needs &&
+               one.token == other.token,
            "line %d: it isn't told again", line);
     done = one.serial;
 }
@@ -84,8 +88,8 @@ static void taken(const char *text, size_t length, uint64_t behind, int line) {
 
 /* Each call answers this, and writes nothing. */
 static void each_answers(uint32_t wanted) {
-    static const struct lab_outcome no_outcome = {77, 77, 77, 77, 77};
-    static const struct lab_standing no_standing = {77, {77, 77}, 77, 77, 77, 77};
+    static const struct lab_outcome no_outcome = {77, 77, 77, 77, 77, 77};
+    static const struct lab_standing no_standing = {77, {77, 77}, 77, 77, 77, 77, 77};
     struct lab_outcome outcome = no_outcome;
     struct lab_standing standing = no_standing;
     uint8_t text[8] = "1234567";
@@ -199,8 +203,8 @@ static void busy(void) {
     IS(met > 0);
     met = 0;
     watched = 1;
-    IS(lab_bay_journal(&bay, text, sizeof text, &written, &position) == LAB_DONE && written == 269 && position == 269);
-    IS(lab_bay_durable(&bay, 269) == LAB_DONE);
+    IS(lab_bay_journal(&bay, text, sizeof text, &written, &position) == LAB_DONE && written == 303 && position == 303);
+    IS(lab_bay_durable(&bay, 303) == LAB_DONE);
     watched = 0;
     TOLD(1, LAB_HOLDS, 1);
     for (int times = 0; times < 60; times++) {
@@ -516,40 +520,40 @@ static void disks(void) {
     DUE(15, LAB_NEVER);
     TOLD(1, LAB_NOT_WRITTEN, 0);
     QUIET();
-    TEXT(BAY_HEAD, 120); /* (its line wasn't taken, and so there is none) */
-    TEXT("", 120);
+    TEXT(BAY_HEAD, 137); /* (its line wasn't taken, and so there is none) */
+    TEXT("", 137);
 
     /* the line was taken, and isn't on the disk in time: the end is owed, and told at once */
     IS(ask_as(0, 0, 2, 0, 20, LAB_NEVER, 20, SETS(1)) == LAB_DONE);
-    TEXT("f09be3862813d6cb hold 0000000000000002 00000000 0000000000000001 00000000000000000000000000000000 0000000000000014 ---------------- 0000000000000014\n", 269);
+    TEXT("d79b6ce7e8f8b788 hold 0000000000000002 00000000 0000000000000001 00000000000000000000000000000000 0000000000000014 ---------------- 0000000000000014 0000000000000002\n", 303);
     DUE(24, 25);
-    IS(lab_bay_durable(&bay, 268) == LAB_DONE);
+    IS(lab_bay_durable(&bay, 302) == LAB_DONE);
     QUIET();
     DUE(25, LAB_NEVER);
     TOLD(2, LAB_NOT_WRITTEN, 0);
     QUIET();
-    TEXT("ac4e88d7bbee9fbb end 0000000000000002 not_written 0000000000000019\n", 336);
+    TEXT("5466276896245c65 end 0000000000000002 not_written 0000000000000019\n", 370);
 
     /* another, in time */
     IS(ask_as(0, 0, 3, 0, 30, LAB_NEVER, 30, SETS(1)) == LAB_DONE);
-    TEXT("67dd8a2ca832ef7c hold 0000000000000003 00000000 0000000000000001 00000000000000000000000000000000 000000000000001e ---------------- 000000000000001e\n", 485);
-    IS(lab_bay_durable(&bay, 485) == LAB_DONE);
+    TEXT("022de00d9fe5c8d4 hold 0000000000000003 00000000 0000000000000001 00000000000000000000000000000000 000000000000001e ---------------- 000000000000001e 0000000000000003\n", 536);
+    IS(lab_bay_durable(&bay, 536) == LAB_DONE);
     TOLD(3, LAB_HOLDS, 1);
     DUE(100, LAB_NEVER);
     QUIET();
     freed();
 }
 
-#define HOLD1 "642a955447430682 hold 0000000000000001 00000000 0000000000000001 00000000000000000000000000000000 000000000000000a ---------------- 000000000000000a\n"
-#define HOLD2 "d890ff159fe81aa1 hold 0000000000000002 00000001 0000000000000004 00000000000000000000000000000000 000000000000000a 000000000000000f 000000000000000a\n"
+#define HOLD1 "26d24eb01836f63b hold 0000000000000001 00000000 0000000000000001 00000000000000000000000000000000 000000000000000a ---------------- 000000000000000a 0000000000000001\n"
+#define HOLD2 "595fa759099ac4d8 hold 0000000000000002 00000001 0000000000000004 00000000000000000000000000000000 000000000000000a 000000000000000f 000000000000000a 0000000000000002\n"
 
 /* The disk alone can be late: a hold that is written, or has no line, is told however late the shell asks. */
 static void told_late(void) {
     opened(100, LAB_NEVER, 5, 64, 1);
     IS(ask_as(0, 0, 1, 0, 10, LAB_NEVER, 10, SETS(1)) == LAB_DONE);
-    TEXT(BAY_HEAD HOLD1, 269);
+    TEXT(BAY_HEAD HOLD1, 303);
     DUE(14, 15);
-    IS(lab_bay_durable(&bay, 269) == LAB_DONE);
+    IS(lab_bay_durable(&bay, 303) == LAB_DONE);
     DUE(14, LAB_NEVER);
     DUE(15, LAB_NEVER);
     DUE(1000, LAB_NEVER);
@@ -572,8 +576,8 @@ static void written_and_over(void) {
     opened(100, 10, 5, 64, 1);
     IS(ask_as(0, 0, 1, 0, 10, LAB_NEVER, 10, SETS(1)) == LAB_DONE);
     IS(ask_as(0, 0, 2, 1, 10, 15, 10, SETS(4)) == LAB_DONE);
-    TEXT(BAY_HEAD HOLD1 HOLD2, 418);
-    IS(lab_bay_durable(&bay, 418) == LAB_DONE);
+    TEXT(BAY_HEAD HOLD1 HOLD2, 469);
+    IS(lab_bay_durable(&bay, 469) == LAB_DONE);
     DUE(20, LAB_NEVER);
     IS(lab_bay_gone(&bay, 1, 20) == LAB_DONE);
     DUE(20, 30);
@@ -606,7 +610,7 @@ static void durable_beyond(void) {
     IS(lab_bay_durable(&bay, 1000000) == LAB_DONE);
     IS(ask_one(1, 0, 1, 0) == LAB_DONE);
     QUIET();
-    TEXT(BAY_HEAD "232e3d5879c0681c hold 0000000000000001 00000000 0000000000000001 00000000000000000000000000000000 0000000000000000 ---------------- 0000000000000000\n", 269);
+    TEXT(BAY_HEAD "445e4d4d33c5d302 hold 0000000000000001 00000000 0000000000000001 00000000000000000000000000000000 0000000000000000 ---------------- 0000000000000000 0000000000000001\n", 303);
     QUIET();
     IS(lab_bay_durable(&bay, UINT64_MAX) == LAB_DONE);
     TOLD(1, LAB_HOLDS, 1);
@@ -615,7 +619,7 @@ static void durable_beyond(void) {
 
 /* The ask at this place, and the least number of the next. */
 static void at_place(unsigned line, size_t place, struct lab_standing wanted, uint64_t least) {
-    struct lab_standing it = {77, {77, 77}, 77, 77, 77, 77};
+    struct lab_standing it = {77, {77, 77}, 77, 77, 77, 77, 77};
     uint64_t next = 77;
     uint32_t status = lab_bay_look(&bay, place, &it, &next);
     expect(status == LAB_DONE && memcmp(&it, &wanted, sizeof it) == 0 && next == least,
@@ -625,7 +629,7 @@ static void at_place(unsigned line, size_t place, struct lab_standing wanted, ui
 }
 
 static void no_place(unsigned line, size_t place, uint64_t least) {
-    static const struct lab_standing none = {77, {77, 77}, 77, 77, 77, 77};
+    static const struct lab_standing none = {77, {77, 77}, 77, 77, 77, 77, 77};
     struct lab_standing it = none;
     uint64_t next = 77;
     uint32_t status = lab_bay_look(&bay, place, &it, &next);
@@ -637,19 +641,19 @@ static void looks(void) {
     no_place(__LINE__, 0, 0);
     IS(ask_as(7, UINT64_MAX, 3, 1, LAB_NEVER, LAB_NEVER, 4, SETS(4)) == LAB_DONE);
     IS(ask_as(UINT64_MAX, 9, 5, 0, 20, LAB_NEVER, 6, SETS(4)) == LAB_DONE);
-    at_place(__LINE__, 0, (struct lab_standing){3, {7, UINT64_MAX}, 4, 4, 1, LAB_HOLDS}, 6);
-    at_place(__LINE__, 1, (struct lab_standing){5, {UINT64_MAX, 9}, 0, 6, 0, LAB_WAITS}, 6);
+    at_place(__LINE__, 0, (struct lab_standing){3, {7, UINT64_MAX}, 4, 4, 1, 1, LAB_HOLDS}, 6);
+    at_place(__LINE__, 1, (struct lab_standing){5, {UINT64_MAX, 9}, 0, 6, 0, 0, LAB_WAITS}, 6);
     no_place(__LINE__, 2, 6);
     no_place(__LINE__, SIZE_MAX, 6);
-    TOLD(3, LAB_HOLDS, 4);
+    TOLD_WITH(3, LAB_HOLDS, 4, 1);
     IS(lab_bay_let_go(&bay, 3, 9) == LAB_DONE);
-    at_place(__LINE__, 0, (struct lab_standing){3, {7, UINT64_MAX}, 0, 9, 1, LAB_LET_GO}, 6);
-    at_place(__LINE__, 1, (struct lab_standing){5, {UINT64_MAX, 9}, 4, 9, 0, LAB_HOLDS}, 6);
+    at_place(__LINE__, 0, (struct lab_standing){3, {7, UINT64_MAX}, 0, 9, 1, 1, LAB_LET_GO}, 6);
+    at_place(__LINE__, 1, (struct lab_standing){5, {UINT64_MAX, 9}, 4, 9, 2, 0, LAB_HOLDS}, 6);
     no_place(__LINE__, 2, 6);
-    TOLD(3, LAB_LET_GO, 0);
-    TOLD(5, LAB_HOLDS, 4);
+    TOLD_WITH(3, LAB_LET_GO, 0, 1);
+    TOLD_WITH(5, LAB_HOLDS, 4, 2);
     QUIET();
-    at_place(__LINE__, 0, (struct lab_standing){5, {UINT64_MAX, 9}, 4, 9, 0, LAB_HOLDS}, 6);
+    at_place(__LINE__, 0, (struct lab_standing){5, {UINT64_MAX, 9}, 4, 9, 2, 0, LAB_HOLDS}, 6);
     no_place(__LINE__, 1, 6);
     freed();
 }
@@ -659,14 +663,14 @@ static void looks(void) {
 
 /* Who keeps this instrument from the ask with this number. */
 static void keeps(unsigned line, uint64_t number, uint32_t instrument, struct lab_standing wanted) {
-    struct lab_standing it = {77, {77, 77}, 77, 77, 77, 77};
+    struct lab_standing it = {77, {77, 77}, 77, 77, 77, 77, 77};
     uint32_t status = lab_bay_keeper(&bay, number, instrument, &it);
     expect(status == LAB_DONE && memcmp(&it, &wanted, sizeof it) == 0, "line %u: status %u, ask %llu needs %llx since %llu, class %u, %u", line, status,
            (unsigned long long)it.number, (unsigned long long)it.needs, (unsigned long long)it.since, it.kind, it.what);
 }
 
 static void nobody(unsigned line, uint64_t number, uint32_t instrument) {
-    static const struct lab_standing none = {77, {77, 77}, 77, 77, 77, 77};
+    static const struct lab_standing none = {77, {77, 77}, 77, 77, 77, 77, 77};
     struct lab_standing it = none;
     uint32_t status = lab_bay_keeper(&bay, number, instrument, &it);
     expect(status == LAB_NOT_YET && memcmp(&it, &none, sizeof it) == 0, "line %u: status %u, ask %llu", line, status, (unsigned long long)it.number);
@@ -679,8 +683,8 @@ static void keepers(void) {
     NOBODY(5, 0);
     IS(ask_as(7, 9, 1, 0, LAB_NEVER, LAB_NEVER, 4, SETS(1)) == LAB_DONE);
     IS(ask_as(3, 4, 2, 0, LAB_NEVER, LAB_NEVER, 5, SETS(3)) == LAB_DONE);
-    KEEPS(2, 0, 1, {7, 9}, 1, 4, 0, LAB_HOLDS);
-    KEEPS(1, 0, 1, {7, 9}, 1, 4, 0, LAB_HOLDS); /* (from itself, too) */
+    KEEPS(2, 0, 1, {7, 9}, 1, 4, 1, 0, LAB_HOLDS);
+    KEEPS(1, 0, 1, {7, 9}, 1, 4, 1, 0, LAB_HOLDS); /* (from itself, too) */
     NOBODY(2, 1);
     NOBODY(9, 1); /* (2 wasn't passed yet) */
     NOBODY(2, 63);
@@ -689,36 +693,36 @@ static void keepers(void) {
 
     /* 3 passes 2, so 1 is kept for 2 from then on, as soon as a place is free for it */
     IS(ask_one(3, 0, 2, 6) == LAB_DONE);
-    KEEPS(2, 1, 3, {0, 0}, 2, 6, 0, LAB_HOLDS);
+    KEEPS(2, 1, 3, {0, 0}, 2, 6, 2, 0, LAB_HOLDS);
     IS(lab_bay_let_go(&bay, 3, 7) == LAB_DONE);
     NOBODY(2, 1);
     NOBODY(1, 1); /* (it asked before 2, and isn't in line) */
-    KEEPS(9, 1, 2, {3, 4}, 0, 5, 0, LAB_WAITS);
-    KEEPS(9, 0, 1, {7, 9}, 1, 4, 0, LAB_HOLDS);
+    KEEPS(9, 1, 2, {3, 4}, 0, 5, 0, 0, LAB_WAITS);
+    KEEPS(9, 0, 1, {7, 9}, 1, 4, 1, 0, LAB_HOLDS);
     IS(ask_as(0, 0, 4, 0, 20, LAB_NEVER, 8, SETS(2)) == LAB_DONE);
-    KEEPS(4, 1, 2, {3, 4}, 0, 5, 0, LAB_WAITS);
+    KEEPS(4, 1, 2, {3, 4}, 0, 5, 0, 0, LAB_WAITS);
 
     /* 6 has no place until 5 lets go; by then 7 was passed, and instrument 2 is kept for it, though it asked later */
     IS(ask_one(5, 1, 8, 8) == LAB_DONE && ask_one(6, 1, 4, 8) == LAB_DONE && ask_one(7, 0, 5, 8) == LAB_DONE);
     NOBODY(6, 2);
     IS(ask_one(8, 0, 4, 9) == LAB_DONE);
-    KEEPS(6, 2, 8, {0, 0}, 4, 9, 0, LAB_HOLDS);
+    KEEPS(6, 2, 8, {0, 0}, 4, 9, 4, 0, LAB_HOLDS);
     IS(lab_bay_let_go(&bay, 8, 10) == LAB_DONE && lab_bay_let_go(&bay, 5, 11) == LAB_DONE);
-    KEEPS(6, 2, 7, {0, 0}, 0, 8, 0, LAB_WAITS);
-    KEEPS(6, 1, 2, {3, 4}, 0, 5, 0, LAB_WAITS);
+    KEEPS(6, 2, 7, {0, 0}, 0, 8, 0, 0, LAB_WAITS);
+    KEEPS(6, 1, 2, {3, 4}, 0, 5, 0, 0, LAB_WAITS);
     NOBODY(6, 3);
     NOBODY(7, 2);
-    KEEPS(8, 2, 7, {0, 0}, 0, 8, 0, LAB_WAITS);
+    KEEPS(8, 2, 7, {0, 0}, 0, 8, 0, 0, LAB_WAITS);
     IS(lab_bay_leave(&bay, 6, 12) == LAB_DONE);
     NOBODY(6, 2); /* (what counts of one that isn't in line is who asked before) */
 
     /* whoever lapsed is told the same */
     IS(lab_bay_time(&bay, 20, &next) == LAB_DONE);
-    KEEPS(4, 1, 2, {3, 4}, 0, 5, 0, LAB_WAITS);
+    KEEPS(4, 1, 2, {3, 4}, 0, 5, 0, 0, LAB_WAITS);
     NOBODY(4, 2);
     IS(lab_bay_stop(&bay, 20) == LAB_DONE);
     NOBODY(9, 1);
-    KEEPS(9, 0, 1, {7, 9}, 1, 4, 0, LAB_HOLDS);
+    KEEPS(9, 0, 1, {7, 9}, 1, 4, 1, 0, LAB_HOLDS);
     freed();
 }
 
@@ -727,18 +731,18 @@ static void first_keepers(void) {
     opened(100, LAB_NEVER, LAB_NEVER, 0, 0);
     IS(ask_one(1, 0, 1, 0) == LAB_DONE && ask_one(2, 0, 3, 1) == LAB_DONE && ask_one(3, 0, 6, 2) == LAB_DONE && ask_one(4, 0, 2, 3) == LAB_DONE);
     NOBODY(2, 1);
-    KEEPS(3, 1, 2, {0, 0}, 0, 1, 0, LAB_WAITS);
+    KEEPS(3, 1, 2, {0, 0}, 0, 1, 0, 0, LAB_WAITS);
     NOBODY(3, 2);
-    KEEPS(4, 1, 2, {0, 0}, 0, 1, 0, LAB_WAITS);
-    KEEPS(4, 2, 3, {0, 0}, 0, 2, 0, LAB_WAITS);
+    KEEPS(4, 1, 2, {0, 0}, 0, 1, 0, 0, LAB_WAITS);
+    KEEPS(4, 2, 3, {0, 0}, 0, 2, 0, 0, LAB_WAITS);
     IS(lab_bay_leave(&bay, 2, 4) == LAB_DONE); /* (so 3 is let in) */
-    KEEPS(4, 1, 3, {0, 0}, 6, 4, 0, LAB_HOLDS);
+    KEEPS(4, 1, 3, {0, 0}, 6, 4, 2, 0, LAB_HOLDS);
     freed();
     opened(100, LAB_NEVER, LAB_NEVER, 0, 0);
     IS(ask_one(1, 0, 1, 0) == LAB_DONE && ask_as(0, 0, 2, 0, LAB_NEVER, LAB_NEVER, 1, SETS(3, 5)) == LAB_DONE);
     NOBODY(2, 1);
     NOBODY(2, 2);
-    KEEPS(3, 2, 2, {0, 0}, 0, 1, 0, LAB_WAITS);
+    KEEPS(3, 2, 2, {0, 0}, 0, 1, 0, 0, LAB_WAITS);
     freed();
 }
 
@@ -792,17 +796,17 @@ static void own_sets(void) {
     WAITS(2, 0, 3, 1);
     WAITS(2, 1, 5, 0);
     IS(lab_bay_let_go(&bay, 1, 4) == LAB_DONE);
-    KEEPS(9, 2, 2, {0, 0}, 5, 4, 0, LAB_HOLDS);
+    KEEPS(9, 2, 2, {0, 0}, 5, 4, 3, 0, LAB_HOLDS);
     freed();
     opened(100, LAB_NEVER, LAB_NEVER, 1, 0);
     IS(ask_one(1, 0, 1, 0) == LAB_DONE && ask_one(2, 0, 5, 0) == LAB_DONE);
     IS(ask_as(0, 0, 3, 0, LAB_NEVER, LAB_NEVER, 0, SETS(3, 5)) == LAB_DONE && ask_one(4, 0, 2, 0) == LAB_DONE);
     IS(lab_bay_let_go(&bay, 1, 4) == LAB_DONE);
-    KEEPS(2, 0, 3, {0, 0}, 0, 0, 0, LAB_WAITS);
-    KEEPS(3, 1, 4, {0, 0}, 2, 0, 0, LAB_HOLDS);
+    KEEPS(2, 0, 3, {0, 0}, 0, 0, 0, 0, LAB_WAITS);
+    KEEPS(3, 1, 4, {0, 0}, 2, 0, 2, 0, LAB_HOLDS);
     NOBODY(3, 2);
     IS(lab_bay_let_go(&bay, 4, 5) == LAB_DONE);
-    KEEPS(2, 0, 3, {0, 0}, 3, 5, 0, LAB_HOLDS);
+    KEEPS(2, 0, 3, {0, 0}, 3, 5, 3, 0, LAB_HOLDS);
     WAITS(2, 0, 5, 1);
     freed();
 }
@@ -831,8 +835,8 @@ static void stops(void) {
 #define N50 "nnnnnnnnnnnnnnnnnnnnnnnnnnnnnnnnnnnnnnnnnnnnnnnnnn"
 #define N500 N50 N50 N50 N50 N50 N50 N50 N50 N50 N50
 
-#define HOLD5 "c4e3a9209e385e26 hold 0000000000000005 00000000 0000000000000003 00000000000000070000000000000009 0000000000000004 0000000000000006 0000000000000004\n"
-#define HOLD6 "1646f4d3d93cb594 hold 0000000000000006 00000001 0000000000000004 00000000000000010000000000000002 0000000000000004 ---------------- 0000000000000004\n"
+#define HOLD5 "ee256f33398cf59d hold 0000000000000005 00000000 0000000000000003 00000000000000070000000000000009 0000000000000004 0000000000000006 0000000000000004 0000000000000001\n"
+#define HOLD6 "d61209e10d3c326e hold 0000000000000006 00000001 0000000000000004 00000000000000010000000000000002 0000000000000004 ---------------- 0000000000000004 0000000000000002\n"
 
 static void journals(void) {
     static uint8_t long_text[501];
@@ -843,39 +847,39 @@ static void journals(void) {
     IS(ask_as(1, 2, 6, 1, LAB_NEVER, LAB_NEVER, 4, SETS(4)) == LAB_DONE);
     QUIET();
     IS(lab_bay_note(&bay, 5, long_text, 1, &position) == LAB_NOT_YET); /* (it holds, and wasn't told so) */
-    TEXT(BAY_HEAD HOLD5 HOLD6, 418);
-    TEXT("", 418);
+    TEXT(BAY_HEAD HOLD5 HOLD6, 469);
+    TEXT("", 469);
     QUIET();
-    IS(lab_bay_durable(&bay, 0) == LAB_DONE && lab_bay_durable(&bay, 268) == LAB_DONE);
+    IS(lab_bay_durable(&bay, 0) == LAB_DONE && lab_bay_durable(&bay, 302) == LAB_DONE);
     QUIET();
 
     /* a write fails: the same bytes again, from what is durable on */
-    IS(lab_bay_durable(&bay, 120) == LAB_DONE && lab_bay_failed(&bay) == LAB_DONE);
+    IS(lab_bay_durable(&bay, 137) == LAB_DONE && lab_bay_failed(&bay) == LAB_DONE);
     IS(lab_bay_failed(&bay) == LAB_DONE);
     QUIET();
     freed();
     opened(100, LAB_NEVER, LAB_NEVER, 64, 1);
     IS(ask_as(7, 9, 5, 0, LAB_NEVER, 6, 4, SETS(3)) == LAB_DONE);
     IS(ask_as(1, 2, 6, 1, LAB_NEVER, LAB_NEVER, 4, SETS(4)) == LAB_DONE);
-    TEXT(BAY_HEAD HOLD5 HOLD6, 418);
+    TEXT(BAY_HEAD HOLD5 HOLD6, 469);
     for (int times = 0; times < 3; times++) {
         IS(lab_bay_failed(&bay) == LAB_DONE);
-        TEXT(BAY_HEAD HOLD5 HOLD6, 418);
+        TEXT(BAY_HEAD HOLD5 HOLD6, 469);
     }
-    IS(lab_bay_durable(&bay, 269) == LAB_DONE);
-    TOLD(5, LAB_HOLDS, 3);
+    IS(lab_bay_durable(&bay, 303) == LAB_DONE);
+    TOLD_WITH(5, LAB_HOLDS, 3, 1);
     QUIET();
     IS(lab_bay_failed(&bay) == LAB_DONE);
-    TEXT(HOLD6, 418);
-    IS(lab_bay_durable(&bay, 120) == LAB_DONE); /* (what is durable stays so) */
+    TEXT(HOLD6, 469);
+    IS(lab_bay_durable(&bay, 137) == LAB_DONE); /* (what is durable stays so) */
     IS(lab_bay_failed(&bay) == LAB_DONE);
-    TEXT(HOLD6, 418);
+    TEXT(HOLD6, 469);
     QUIET();
-    IS(lab_bay_durable(&bay, 418) == LAB_DONE);
-    TOLD(6, LAB_HOLDS, 4);
+    IS(lab_bay_durable(&bay, 469) == LAB_DONE);
+    TOLD_WITH(6, LAB_HOLDS, 4, 2);
     QUIET();
     IS(lab_bay_failed(&bay) == LAB_DONE);
-    TEXT("", 418);
+    TEXT("", 469);
 
     /* notes */
     position = 77;
@@ -886,29 +890,29 @@ static void journals(void) {
     IS(ask_one(7, 0, 1, 4) == LAB_DONE);
     IS(lab_bay_note(&bay, 7, long_text, 1, &position) == LAB_NOT_YET);
     IS(position == 77);
-    TEXT("", 418);
-    IS(lab_bay_note(&bay, 5, (const uint8_t *)"volts 3", 7, &position) == LAB_DONE && position == 465);
-    IS(lab_bay_note(&bay, 6, long_text, 500, &position) == LAB_DONE && position == 1005);
-    IS(lab_bay_note(&bay, 6, NULL, 0, &position) == LAB_DONE && position == 1045);
+    TEXT("", 469);
+    IS(lab_bay_note(&bay, 5, (const uint8_t *)"volts 3", 7, &position) == LAB_DONE && position == 516);
+    IS(lab_bay_note(&bay, 6, long_text, 500, &position) == LAB_DONE && position == 1056);
+    IS(lab_bay_note(&bay, 6, NULL, 0, &position) == LAB_DONE && position == 1096);
 
     /* ends come before holds; let go and holds are told once their lines are durable */
     IS(lab_bay_let_go(&bay, 5, 9) == LAB_DONE);
-    IS(lab_bay_note(&bay, 5, long_text, 1, &position) == LAB_NOT_YET && position == 1045);
+    IS(lab_bay_note(&bay, 5, long_text, 1, &position) == LAB_NOT_YET && position == 1096);
     QUIET();
-    TEXT("1a563bc64bd9ebb7 note 0000000000000005 volts 3\n"
-         "4569e26659a71dcf note 0000000000000006 " N500 "\n"
-         "a6dda0061ec50a97 note 0000000000000006 \n"
-         "495efb8c889a2193 end 0000000000000005 let_go 0000000000000009\n"
-         "74ef1233df65db91 hold 0000000000000007 00000000 0000000000000001 00000000000000000000000000000000 0000000000000009 ---------------- 0000000000000004\n",
-         1256);
+    TEXT("c028e6ff5f8636c2 note 0000000000000005 volts 3\n"
+         "f602ec10ee8e3941 note 0000000000000006 " N500 "\n"
+         "00a1de867a8ddf84 note 0000000000000006 \n"
+         "0b5a2e3d35a3bdea end 0000000000000005 let_go 0000000000000009\n"
+         "1b5a8f0785b663c1 hold 0000000000000007 00000000 0000000000000001 00000000000000000000000000000000 0000000000000009 ---------------- 0000000000000004 0000000000000003\n",
+         1324);
     QUIET();
-    IS(lab_bay_durable(&bay, 1106) == LAB_DONE);
+    IS(lab_bay_durable(&bay, 1157) == LAB_DONE);
     QUIET();
-    IS(lab_bay_durable(&bay, 1107) == LAB_DONE);
+    IS(lab_bay_durable(&bay, 1158) == LAB_DONE);
     TOLD(5, LAB_LET_GO, 0);
     QUIET();
-    IS(lab_bay_durable(&bay, 1256) == LAB_DONE);
-    TOLD(7, LAB_HOLDS, 1);
+    IS(lab_bay_durable(&bay, 1324) == LAB_DONE);
+    TOLD_WITH(7, LAB_HOLDS, 1, 3);
     QUIET();
 
     /* what is taken away is told at once, and its line comes; somebody that leaves is told nothing, and its line comes; one that
@@ -919,13 +923,13 @@ static void journals(void) {
     IS(lab_bay_leave(&bay, 8, 9) == LAB_DONE);
     IS(lab_bay_leave(&bay, 7, 9) == LAB_DONE);
     QUIET();
-    TEXT("19edaa5b937311f6 end 0000000000000006 taken_away 0000000000000009\n91ecbfe73c79e83d end 0000000000000007 left 0000000000000009\n", 1382);
+    TEXT("34281c28904c7289 end 0000000000000006 taken_away 0000000000000009\n4d01dff75e663563 end 0000000000000007 left 0000000000000009\n", 1450);
     freed();
 }
 
 /* ---- a bay that comes back */
 
-static const char file[] = BAY_HEAD HOLD5 HOLD6 "b5108be9973f349d end 0000000000000005 let_go 0000000000000009\n";
+static const char file[] = BAY_HEAD HOLD5 HOLD6 "255ccf552b009ffb end 0000000000000005 let_go 0000000000000009\n";
 
 static uint32_t resumed(const void *text, size_t length, uint64_t now, size_t *used, uint64_t *fault) {
     *used = 77;
@@ -946,7 +950,7 @@ static void comes_back(void) {
     /* who doesn't come back */
     IS(resumed("", 0, 0, &used, &fault) == LAB_BAY_ANOTHER);
     IS(resumed(NULL, 0, 0, &used, &fault) == LAB_BAY_ANOTHER);
-    IS(resumed(file, 119, 0, &used, &fault) == LAB_BAY_ANOTHER);
+    IS(resumed(file, 136, 0, &used, &fault) == LAB_BAY_ANOTHER);
     terms.bay[31]++;
     IS(resumed(file, sizeof file - 1, 0, &used, &fault) == LAB_BAY_ANOTHER);
     terms.bay[31]--;
@@ -955,42 +959,42 @@ static void comes_back(void) {
         if (file[at] == '\n') continue;
         memcpy(text, file, sizeof file);
         text[at] ^= 1;
-        unsigned line = 1 + (at >= 120) + (at >= 269) + (at >= 418);
+        unsigned line = 1 + (at >= 137) + (at >= 303) + (at >= 469);
         uint32_t status = resumed(text, sizeof file - 1, 0, &used, &fault);
         expect(status == LAB_BAY_UNSOUND && fault == line, "byte %zu changed: status %u, fault %llu", at, status, (unsigned long long)fault);
     }
-    memcpy(text, file, 120); /* a line that is missing */
-    memcpy(text + 120, file + 269, sizeof file - 269);
-    IS(resumed(text, sizeof file - 1 - 149, 0, &used, &fault) == LAB_BAY_UNSOUND && fault == 2);
-    memcpy(text + 269, file + 120, 149); /* two that changed places */
-    IS(resumed(text, 418, 0, &used, &fault) == LAB_BAY_UNSOUND && fault == 2);
-    IS(resumed(file + 120, 149, 0, &used, &fault) == LAB_BAY_UNSOUND && fault == 1);
-    IS(lab_bay_resume(fewer, 2, &terms, (const uint8_t *)file, 418, 0, &bay, &used, &fault) == LAB_BAY_MAY_NOT && fault == 5);
+    memcpy(text, file, 137); /* a line that is missing */
+    memcpy(text + 137, file + 303, sizeof file - 303);
+    IS(resumed(text, sizeof file - 1 - 166, 0, &used, &fault) == LAB_BAY_UNSOUND && fault == 2);
+    memcpy(text + 303, file + 137, 166); /* two that changed places */
+    IS(resumed(text, 469, 0, &used, &fault) == LAB_BAY_UNSOUND && fault == 2);
+    IS(resumed(file + 137, 166, 0, &used, &fault) == LAB_BAY_UNSOUND && fault == 1);
+    IS(lab_bay_resume(fewer, 2, &terms, (const uint8_t *)file, 469, 0, &bay, &used, &fault) == LAB_BAY_MAY_NOT && fault == 5);
     IS(bay.live == 0 && lab_bay_free(&bay) == LAB_NOT_OPEN);
 
     /* cut at any byte it comes back as far as it has whole lines */
-    for (size_t length = 120; length < sizeof file; length++) {
-        size_t whole = length < 269 ? 120 : length < 418 ? 269 : length < 480 ? 418 : 480;
+    for (size_t length = 137; length < sizeof file; length++) {
+        size_t whole = length < 303 ? 137 : length < 469 ? 303 : length < 531 ? 469 : 531;
         uint32_t status = resumed(file, length, 0, &used, &fault);
         expect(status == LAB_DONE && used == whole, "cut at %zu: status %u, used %zu", length, status, used);
         uint32_t five = lab_bay_back(&bay, 5, 7, 9, 0, &needs), six = lab_bay_back(&bay, 6, 1, 2, 0, &needs);
-        expect(five == (whole == 269 || whole == 418 ? LAB_DONE : LAB_BAY_OVER), "cut at %zu: 5 comes back: %u", length, five);
-        expect(six == (whole >= 418 ? LAB_DONE : LAB_BAY_OVER), "cut at %zu: 6 comes back: %u", length, six);
+        expect(five == (whole == 303 || whole == 469 ? LAB_DONE : LAB_BAY_OVER), "cut at %zu: 5 comes back: %u", length, five);
+        expect(six == (whole >= 469 ? LAB_DONE : LAB_BAY_OVER), "cut at %zu: 6 comes back: %u", length, six);
         QUIET();
         freed();
     }
 
     /* whose end was written and who is let go of by other classes has no part in it */
-    IS(lab_bay_resume(fewer, 2, &terms, (const uint8_t *)file, 480, 0, &bay, &used, &fault) == LAB_DONE && used == 480);
+    IS(lab_bay_resume(fewer, 2, &terms, (const uint8_t *)file, 531, 0, &bay, &used, &fault) == LAB_DONE && used == 531);
     freed();
 
     /* their clients are gone since then; the numbers go on, and so do the lines */
-    IS(resumed(file, 479, 50, &used, &fault) == LAB_DONE && used == 418);
+    IS(resumed(file, 530, 50, &used, &fault) == LAB_DONE && used == 469);
     QUIET();
-    TEXT("", 418);
+    TEXT("", 469);
     DUE(59, 60);
     needs = 77;
-    at_place(__LINE__, 0, (struct lab_standing){5, {7, 9}, 3, 4, 0, LAB_HOLDS}, 7);
+    at_place(__LINE__, 0, (struct lab_standing){5, {7, 9}, 3, 4, 1, 0, LAB_HOLDS}, 7);
     IS(lab_bay_back(&bay, 5, 7, 8, 59, &needs) == LAB_BAY_OVER && needs == 77);
     IS(lab_bay_back(&bay, 5, 7, 9, 59, &needs) == LAB_DONE && needs == 3);
     IS(ask_one(6, 0, 4, 59) == LAB_BAY_NUMBER);
@@ -998,10 +1002,10 @@ static void comes_back(void) {
     QUIET();
     DUE(60, LAB_NEVER); /* (the limit of 5 is over, and nobody wants what it has) */
     IS(lab_bay_back(&bay, 6, 1, 2, 60, &needs) == LAB_BAY_OVER);
-    IS(lab_bay_note(&bay, 5, (const uint8_t *)"n", 1, &fault) == LAB_DONE && fault == 459); /* (it was told) */
-    TEXT("2c7eede75b4b6d15 note 0000000000000005 n\n16faba1b50080979 end 0000000000000006 grace 000000000000003c\n"
-         "0c5f6274ad2418c8 hold 0000000000000007 00000001 0000000000000004 00000000000000000000000000000000 000000000000003c ---------------- 000000000000003b\n", 669);
-    IS(lab_bay_durable(&bay, 669) == LAB_DONE);
+    IS(lab_bay_note(&bay, 5, (const uint8_t *)"n", 1, &fault) == LAB_DONE && fault == 510); /* (it was told) */
+    TEXT("2d4bd7a3592e7f88 note 0000000000000005 n\n1d999343afcdbcee end 0000000000000006 grace 000000000000003c\n"
+         "3c2e752bcd435e4a hold 0000000000000007 00000001 0000000000000004 00000000000000000000000000000000 000000000000003c ---------------- 000000000000003b 0000000000000003\n", 737);
+    IS(lab_bay_durable(&bay, 737) == LAB_DONE);
     IS(lab_bay_note(&bay, 7, (const uint8_t *)"n", 1, &fault) == LAB_NOT_YET);
     freed();
 }

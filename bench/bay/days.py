@@ -44,13 +44,13 @@ class Asked(ctypes.Structure):
 
 
 class Outcome(ctypes.Structure):
-    _fields_ = [("serial", ctypes.c_uint64), ("number", ctypes.c_uint64), ("needs", ctypes.c_uint64), ("what", ctypes.c_uint32)]
-    _fields_ += [("unused", ctypes.c_uint32)]
+    _fields_ = [("serial", ctypes.c_uint64), ("number", ctypes.c_uint64), ("needs", ctypes.c_uint64), ("token", ctypes.c_uint64)]
+    _fields_ += [("what", ctypes.c_uint32), ("unused", ctypes.c_uint32)]
 
 
 class Standing(ctypes.Structure):
     _fields_ = [("number", ctypes.c_uint64), ("owner", ctypes.c_uint64 * 2), ("needs", ctypes.c_uint64), ("since", ctypes.c_uint64)]
-    _fields_ += [("kind", ctypes.c_uint32), ("what", ctypes.c_uint32)]
+    _fields_ += [("token", ctypes.c_uint64), ("kind", ctypes.c_uint32), ("what", ctypes.c_uint32)]
 
 
 def moment(it):
@@ -164,13 +164,13 @@ class Machine:
         """The asks in its book, and the least number of the next."""
         asks, least, it = [], ctypes.c_uint64(), Standing()
         while self.call("look", ctypes.c_size_t(len(asks)), ctypes.byref(it), ctypes.byref(least)) == DONE:
-            asks.append((it.number, it.owner[0] << 64 | it.owner[1], it.needs, it.since, it.kind, WHAT[it.what]))
+            asks.append(stands(it))
         return asks, least.value
 
     def keeper(self, number, instrument):
         it = Standing()
         status = self.call("keeper", ctypes.c_uint64(number), ctypes.c_uint32(instrument), ctypes.byref(it))
-        return status, (it.number, it.owner[0] << 64 | it.owner[1], it.needs, it.since, it.kind, WHAT[it.what]) if status == DONE else None
+        return status, stands(it) if status == DONE else None
 
     def waits(self, number):
         found, needs, passed = [], ctypes.c_uint64(), ctypes.c_uint32()
@@ -195,12 +195,17 @@ class Machine:
     def tell(self, done):
         told = Outcome()
         status = self.call("tell", ctypes.c_uint64(done), ctypes.byref(told))
-        return (told.serial, told.number, WHAT[told.what]) if status == DONE else (status, None, None)
+        return (told.serial, told.number, WHAT[told.what], told.token) if status == DONE else (status, None, None, None)
 
 
 def standing(it):
     """How an ask stands, by the model."""
-    return it.number, it.owner, it.needs, it.since, it.kind, it.stage
+    return it.number, it.owner, it.needs, it.since, it.token, it.kind, it.stage
+
+
+def stands(it):
+    """How an ask stands, by the library."""
+    return it.number, it.owner[0] << 64 | it.owner[1], it.needs, it.since, it.token, it.kind, WHAT[it.what]
 
 
 class Differs(Exception):
@@ -334,7 +339,7 @@ class Day:
         for _ in range(self.dice.randint(1, 4)):
             wanted = self.model.tell(self.done)
             found = self.machine.tell(self.done)
-            same("tell", wanted or (NOT_YET, None, None), found)
+            same("tell", wanted or (NOT_YET, None, None, None), found)
             if wanted is None:
                 return
             if self.dice.random() < 0.8:

@@ -13,6 +13,8 @@ An *ask* wants one of several sets of instruments and a place of a class. It wai
    doesn't go before somebody else that asked before and wants no more.
 5. In order: while a place is free for it, an ask is passed at a set by `most` that came later at the most; of those that want the same, who
    asked first is served first.
+6. Tokens rise: whoever is let in gets a number larger than everybody that was let in before; and after a crash a larger one than everybody whose
+   hold is in the journal.
 """
 
 from __future__ import annotations
@@ -52,6 +54,7 @@ class Ask:
     heard: str = ""  # "", "holds", "end"
     hold_line: object = NONE
     end_line: object = NONE
+    token: int = 0  # from when it was let in on
     back_of: Optional[int] = None  # a line `back` is owed, or was given, for the number that it had
 
 
@@ -86,16 +89,17 @@ class Bay:
         self.asks: list[Ask] = []  # in the order of asking; who is over stays until it was told so and its lines were given
         self.line: list[Wish] = []
         self.next = 0  # every number below was given
+        self.granted = 0  # the largest token so far
         self.now = 0
         self.is_stopped = False
         self.durable_to = 0
-        self.telling: Optional[tuple[int, int, str]] = None
+        self.telling: Optional[tuple[int, int, str, int]] = None
         self.serial = 0
         # the journal: all of its text so far, and how much of it was handed out
         self.text = b""
         self.sum = bytes(8)
         self.sent = 0
-        self._line(f"bay {rules.head.hex()} {0:016x} {0:016x}")
+        self._line(f"bay {rules.head.hex()} {0:016x} {0:016x} {0:016x}")
 
     # ---- owners
 
@@ -198,7 +202,8 @@ class Bay:
             it.end_line = len(self.text)
         for it in [it for it in self.asks if it.hold_line == DUE]:
             limit = "-" * 16 if it.limit is None else f"{it.limit:016x}"
-            self._line(f"hold {it.number:016x} {it.kind:08x} {it.needs:016x} {it.owner:032x} {it.since:016x} {limit} {it.asked:016x}")
+            its = f"{it.owner:032x} {it.since:016x} {limit} {it.asked:016x} {it.token:016x}"
+            self._line(f"hold {it.number:016x} {it.kind:08x} {it.needs:016x} {its}")
             it.hold_line = len(self.text)
         text, self.sent = self.text[self.sent :], len(self.text)
         return text, len(self.text)
@@ -210,8 +215,8 @@ class Bay:
         """What isn't durable is handed out once more: nothing is undone."""
         self.sent = self.durable_to
 
-    def tell(self, done: int = 0) -> Optional[tuple[int, int, str]]:
-        """What is told next, with a serial number: the same again, until that number is given back."""
+    def tell(self, done: int = 0) -> Optional[tuple[int, int, str, int]]:
+        """What is told next, with a serial number and the ask's token: the same again, until that number is given back."""
         if self.telling is not None and self.telling[0] != done:
             return self.telling
         self.telling = None
@@ -221,7 +226,7 @@ class Bay:
         for it in (over + held)[:1]:
             it.heard = "end" if it.stage == OVER else "holds"
             self.serial += 1
-            self.telling = (self.serial, it.number, it.how if it.stage == OVER else HOLDS)
+            self.telling = (self.serial, it.number, it.how if it.stage == OVER else HOLDS, it.token)
         if self.telling is None:
             self._purge()
         return self.telling
@@ -271,7 +276,9 @@ class Bay:
                 it.passed += 1
         self.line = [it for it in self.line if it.ask != first.ask]
         ask = self._find(first.ask)
-        ask.stage, ask.needs, ask.since = HOLDS, first.needs, self.now
+        assert self.granted < self.next, "there is a token for each number"
+        self.granted += 1
+        ask.stage, ask.needs, ask.since, ask.token = HOLDS, first.needs, self.now, self.granted
         ask.hold_line = DUE if self.rules.keeps else NONE
         return True
 
@@ -368,10 +375,14 @@ class Bay:
             if word == b"hold":
                 number, kind, needs, owner, since = (int(one, 16) for one in more[:5])
                 limit = None if more[5] == b"-" * 16 else int(more[5], 16)
-                held[number] = Ask(number, kind, owner, None, limit, int(more[6], 16), since, needs, now, HOLDS, "", "holds", it.durable_to)
+                asked, token = int(more[6], 16), int(more[7], 16)
+                held[number] = Ask(number, kind, owner, None, limit, asked, since, needs, now, HOLDS, "", "holds", it.durable_to, token=token)
+                it.granted = max(it.granted, token)
             elif word == b"end":
                 held.pop(int(more[0], 16), None)
             it.next = max([it.next, *(int(one, 16) + 1 for one in more[:1] if word != b"bay")])
+        # (there are no more tokens than numbers)
+        it.next = max(it.next, it.granted)
         it.asks, it.now = [held[number] for number in sorted(held)], now
         it._follow(now)
         return it
@@ -380,6 +391,9 @@ class Bay:
 
     def check(self) -> None:
         held = [it for it in self.asks if it.stage == HOLDS]
+        tokens = [it.token for it in self.asks if it.token]
+        assert len(set(tokens)) == len(tokens) and max(tokens, default=0) <= self.granted, "tokens differ"
+        assert all(it.token > 0 for it in held), "whoever holds has a token"
         assert sum(bin(it.needs).count("1") for it in held) == bin(self._in_use()).count("1"), "one owner"
         assert all(it.needs & ~self.rules.classes[it.kind][0] == 0 for it in held), "may use"
         assert all([one.kind for one in held].count(kind) <= places for kind, (_, places) in enumerate(self.rules.classes)), "places"

@@ -216,7 +216,7 @@ static void acts(uint64_t number) {
 static void reads(uint64_t number) {
     uint32_t status, passed = 77, instrument = chance(8);
     uint64_t needs = 77;
-    struct lab_standing keeper = {0, {0, 0}, 0, 0, 0, 0};
+    struct lab_standing keeper = {0, {0, 0}, 0, 0, 0, 0, 0};
     CALL(-1, status, lab_bay_keeper(&bay, number, instrument, &keeper));
     says("keeper", keeper.number, keeper.what);
     CALL(-1, status, lab_bay_waits(&bay, number, 0, &needs, &passed));

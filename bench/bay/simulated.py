@@ -54,10 +54,10 @@ class Machine:
     def ask(self, number: int, owner: tuple[int, int], kind: int, sets: Sequence[int], deadline: int, limit: int, now: int) -> None:
         self._calls(self._bay.ask, number, sets, kind, _of_pair(owner), _moment(deadline), _moment(limit), now)
 
-    def holds(self, number: int, kind: int, sets: Sequence[int], deadline: int, now: int, done: int) -> Optional[tuple[int, int]]:
+    def holds(self, number: int, kind: int, sets: Sequence[int], deadline: int, now: int, done: int) -> Optional[tuple[int, int, int]]:
         self.ask(number, (1, number), kind, sets, deadline, NEVER, now)
         it = self.tell(done)
-        return (it.serial, it.needs) if it and it.number == number and it.what == machine.HOLDS else None
+        return (it.serial, it.needs, it.token) if it and it.number == number and it.what == machine.HOLDS else None
 
     def let_go(self, number: int, now: int) -> None:
         self._calls(self._bay.let_go, number, now)
@@ -107,9 +107,9 @@ class Machine:
         it = self._bay.tell(done)
         if it is None:
             return None
-        serial, number, what = it
+        serial, number, what, token = it
         needs = next((one.needs for one in self._bay.asks if one.number == number), 0)
-        return Told(serial, number, needs, WHAT.index(what))
+        return Told(serial, number, needs, token, WHAT.index(what))
 
     # who looks on
 
@@ -129,7 +129,8 @@ class Machine:
 
 def _stands(it: Ask) -> Standing:
     needs = it.needs if it.stage == HOLDS else 0
-    return Standing(it.number, divmod(it.owner, 1 << 64), needs, it.since, it.kind, WHAT.index(it.how if it.stage == OVER else it.stage))
+    what = WHAT.index(it.how if it.stage == OVER else it.stage)
+    return Standing(it.number, divmod(it.owner, 1 << 64), needs, it.since, it.token, it.kind, what)
 
 
 def _of_pair(owner: tuple[int, int]) -> int:

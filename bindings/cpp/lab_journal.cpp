@@ -121,7 +121,9 @@ static void who_held_comes_back() {
                all.size() == 2 && all[0].number == 2 && all[1].number == 3 && all[0].holds && all[1].holds);
         same("they hold", why<labrun::timed_out>([&] { return bay.hold({"scope"}, NOW); }),
              "still waits: scope is held by board (session 2) for _ s");
-        expect("what is over is free", bay.hold({"load-2"}, NOW).number() == 5);
+        const auto next = bay.hold({"load-2"}, NOW);
+        expect("what is over is free", next.number() == 5);
+        expect("a larger token than the three before", next.token() == 4);
     }
     expect("who isn't taken up is there the next time", by_lines(written()).held.size() == 2);
     lab bay = opened();
@@ -130,6 +132,7 @@ static void who_held_comes_back() {
     expect("as it was",
            back[0].number() == 2 && back[0].station() == "board" && text(back[0].instruments()) == "scope" && back[0].is_held());
     expect("as it was", back[1].number() == 3 && back[1].station().empty() && text(back[1].instruments()) == "load-1");
+    expect("with their tokens", back[0].token() == 2 && back[1].token() == 3);
     back[0].note("brought to rest");
     back[0].finish();
     expect("it has let go", bay.hold({"scope"}, NOW).is_held());

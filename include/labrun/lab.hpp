@@ -25,6 +25,9 @@ class [[nodiscard]] held {
 
     // Its number, by which take_away() takes it. No other session of the lab has it, also after a restart.
     std::uint64_t number() const { return mine_ ? mine_->number : 0; }
+    // Its token: larger than that of each session that came to hold before it; with a journal also after a restart. So a server before an
+    // instrument can refuse whoever comes with a smaller one than it has seen: a session that was taken away, and doesn't know it yet.
+    std::uint64_t token() const { return mine_ ? mine_->token : 0; }
     // The instruments that it came to hold, in the order of the lab's; of any_of() the ones of the choice that was free.
     std::vector<std::string> instruments() const { return mine_ ? core().names.names(mine_->needs) : std::vector<std::string>(); }
     // Its station; nothing, of a guest.

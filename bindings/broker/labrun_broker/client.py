@@ -106,7 +106,7 @@ class Lab:
     def _resumed(self, of: Quick, ticket: str, waits: bool) -> Held:
         """A session that holds on a stream which is of another client, or was cut."""
         held = Held(self, pb.Wish(instruments=of.instruments, ticket=ticket, by=self.by), None, None)
-        held.station, held.number = of.station, of.number
+        held.station, held.number, held.token = of.station, of.number, of.token
         self._run(held._resumes(waits))
         return held
 

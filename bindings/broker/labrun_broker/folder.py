@@ -16,6 +16,8 @@ from .sessions import recent_records
 
 JOURNAL, PLACES, RECORDS = "bay.journal", "bay.json", "records.jsonl"
 A_BAYS = re.compile(rb"[0-9a-f]{16} bay ")
+# (its head says which numbers were given, and not which tokens)
+OF_NO_TOKENS = re.compile(rb"[0-9a-f]{16} bay [0-9a-f]{64} [0-9a-f]{16} [0-9a-f]{16}\n")
 
 
 class State(Protocol):
@@ -92,15 +94,15 @@ class Folder:
 
 
 def _looks_at_former(folder: str) -> None:
-    """The journal of a broker from before the bay can't be gone on with."""
+    """The journal of an older broker can't be gone on with: from before the bay, or from before there were tokens."""
     path = f"{folder}/{JOURNAL}"
     with contextlib.suppress(FileNotFoundError), open(path, "rb") as file:
-        first = file.read(22)
-        if first.startswith(b"lab "):
+        first = file.read(200)
+        if first.startswith(b"lab ") or OF_NO_TOKENS.match(first):
             raise JournalError(
                 path,
                 "an older labrun-broker wrote it, and this one can't go on with it. With the older one let all sessions end, and end it; "
                 f"then move {JOURNAL}, its numbered files and lock out of {folder} (the records may stay), and begin again",
             )
-        if len(first) == 22 and not A_BAYS.match(first):
+        if len(first) >= 22 and not A_BAYS.match(first):
             raise JournalError(path, "it is no journal of a bay")

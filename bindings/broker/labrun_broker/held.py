@@ -28,13 +28,14 @@ MOST_FAILED = 10000  # characters that are told of work that failed
 
 
 class Held:
-    """A session, as the broker keeps it. `with` it, or call `acquire` and `release`. `instruments`, `station` and `number` are known once it
-    holds."""
+    """A session, as the broker keeps it. `with` it, or call `acquire` and `release`. `instruments`, `station`, `number` and
+    `token` are known once it holds. Its token is larger than that of each session that came to hold before it: so a server before an
+    instrument can refuse whoever comes with a smaller one than it has seen."""
 
     def __init__(self, lab: Lab, wish: Any, timeout: Optional[float], waits: Optional[Callable[[str], None]]) -> None:
         self.lab, self.timeout = lab, timeout
         self.instruments: tuple[str, ...] = tuple(wish.instruments)
-        self.station, self.number, self.state = "", 0, "new"
+        self.station, self.number, self.token, self.state = "", 0, 0, "new"
         self._wish, self._waits = wish, waits
         # by which another client has asked for it; mostly nothing
         self._ticket = ""
@@ -202,7 +203,8 @@ class Held:
         self._stream = stream
         self._lease = told.lease if told.HasField("lease") else None
         self._until = math.inf if self._lease is None else sent + self._lease
-        self.instruments, self.station, self.number = tuple(told.instruments), told.station, told.session
+        self.instruments, self.station = tuple(told.instruments), told.station
+        self.number, self.token = told.session, told.token
 
     def _waits_for(self, text: str) -> None:
         if self._waits is not None:

@@ -18,7 +18,7 @@ ENDS = {"let_go": "let_go", "left": "gave_up", "lapsed": "gave_up", "stopped": "
 @dataclass
 class Left:
     """A session by its lines: when it asked, since when it held, and until when, in milliseconds; `how` it ended is nothing while it isn't
-    over."""
+    over. Its `token` is larger than that of each that came to hold before it."""
 
     number: int
     kind: int
@@ -26,6 +26,7 @@ class Left:
     owner: tuple[int, int]
     asked: int
     since: int
+    token: int
     station: str = ""
     by: str = ""
     notes: list[str] = field(default_factory=list)
@@ -70,9 +71,9 @@ def sessions_of(journal: bytes) -> dict[int, Left]:
     for line in journal.split(b"\n")[:-1]:
         word, _, rest = line[FIRST_WORD:].partition(b" ")
         if word == b"hold":
-            *its, _, asked = rest.split()
+            *its, _, asked, token = rest.split()
             number, kind, needs, owner, since = (int(it, 16) for it in its)
-            found[number] = Left(number, kind, needs, divmod(owner, 1 << 64), int(asked, 16), since)
+            found[number] = Left(number, kind, needs, divmod(owner, 1 << 64), int(asked, 16), since, int(token, 16))
         elif word == b"end" and (of := found.get(int(rest[:16], 16))):
             how, at = rest[17:].split()
             of.how, of.until = how.decode(), int(at, 16)

@@ -90,7 +90,7 @@ class Keeping:
     def _takes_up_one(self, row: Standing, it: Left, name: str, gone: Optional[float]) -> None:
         told: asyncio.Future[None] = asyncio.get_running_loop().create_future()
         told.set_result(None)
-        session = Session(row.number, name, row.kind, row.owner, told, state="gone", since=row.since, by=it.by or None)
+        session = Session(row.number, name, row.kind, row.owner, told, state="gone", since=row.since, token=row.token, by=it.by or None)
         session.gone_at = self.now() - (0 if gone is None else max(0, wishes.milliseconds(time.time() - gone)))
         session.instruments, session.note = self.places.names(row.needs), it.notes[-1] if it.notes else None
         self.by_number[row.number] = self._by_key[row.owner] = session
@@ -194,7 +194,7 @@ class Keeping:
         if session is None:
             return
         if told.what == HOLDS:
-            self._holds(session, told.needs)
+            self._holds(session, told)
         elif told.what == LAPSED:
             why = f"session {session.number} of {session.name} was given up when its time was over: {Standings(self).why(session)}"
             self._fails(session, "gave_up", TimedOut(why))
@@ -205,8 +205,8 @@ class Keeping:
         else:
             self._is_taken(session, told.what)
 
-    def _holds(self, session: Session, needs: int) -> None:
-        session.instruments = session.chosen(needs)
+    def _holds(self, session: Session, told: Told) -> None:
+        session.instruments, session.token = session.chosen(told.needs), told.token
         session.state = "holding"
         self.sessions += 1
         self._notes(session, "by", f"{session.name} {session.by or ''}")

@@ -30,7 +30,7 @@ ACK, STREAM_ENDS, HEADERS_END, PADDED = 1, 1, 4, 8
 # the fields of Ask and of Told
 WISH, LET_GO = 1, 3
 HELD, WAITS, GONE, FAULT, TAKEN = 1, 2, 4, 5, 6
-LEASE = 6  # a field of Held
+LEASE, TOKEN = 6, 7  # fields of Held
 
 Fields = dict[int, list[Any]]
 
@@ -81,7 +81,7 @@ class Quick:
     def __init__(
         self, path: str, wish: Wish, waits: Optional[Callable[[str], None]], connects: Callable[[bool], Lab], begins: Callable[[], None]
     ) -> None:
-        self.instruments, self.station, self.number = wish.instruments, wish.station, 0
+        self.instruments, self.station, self.number, self.token = wish.instruments, wish.station, 0, 0
         self.on_taken: Optional[Callable[[Any], None]] = None
         self.is_released_if_gone = False
         self.wire = Wire()
@@ -126,6 +126,7 @@ class Quick:
             what, of = told
             if what == HELD:
                 self.station, self.number, self.instruments = _text_of(of, 1), of[2][0], tuple(it.decode() for it in of[3])
+                self.token = of.get(TOKEN, [0])[0]
                 if LEASE in of:
                     # (its client has to say again and again that it is there)
                     self._comes_back(True)

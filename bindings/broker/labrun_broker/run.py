@@ -181,7 +181,7 @@ def holds(args: argparse.Namespace, wish: Wish, waits: Waits, signals: Signals, 
 
 def runs(command: list[str], held: Union[Quick, Held], signals: Signals, address: str = "") -> int:
     """Runs a command, and gives its status. A session that is taken away ends it."""
-    its = {"LABRUN_HELD": " ".join(held.instruments), "LABRUN_STATION": held.station}
+    its = {"LABRUN_HELD": " ".join(held.instruments), "LABRUN_STATION": held.station, "LABRUN_TOKEN": str(held.token)}
     environment = {**ENVIRONMENT, **its, "LABRUN_AROUND": around(address, held)}
     taken: list[object] = []
     try:

@@ -147,7 +147,7 @@ class Client:
         ends."""
         try:
             it = self.session = await self.keeping.hold(wish, self, asks.append)
-            held = pb.Held(station=it.name, session=it.number, instruments=it.instruments, ticket=wish.ticket)
+            held = pb.Held(station=it.name, session=it.number, instruments=it.instruments, ticket=wish.ticket, token=it.token)
             if (lease := self.keeping.lease) is not None:
                 held.grace, held.lease = self.keeping.grace, lease
             told = pb.Told(held=held)

@@ -54,8 +54,9 @@ class Session:
     note: Optional[str] = None
     taken_by: str = ""
     gone_at: Optional[int] = None
-    # since when it waits, or holds
+    # since when it waits, or holds; and its token, once it holds
     since: int = 0
+    token: int = 0
     # when its client was last heard, if it says again and again that it is there; and when it came back
     heard_at: Optional[int] = None
     back_at: float = -math.inf
@@ -227,13 +228,13 @@ class Standings:
         session, since = of or (None, self._keeping.idle_since.get(name, self._keeping.opened_at))
         row = {"name": name, "state": "idle", "instruments": [], "since": self.when(since), "by": None, "note": None, "gone_since": None}
         if session is None:
-            return {**row, "session": None, "waits_for": []}
+            return {**row, "session": None, "token": None, "waits_for": []}
         state = session.state
         if self._is_untold(session):
             # (it is at its instruments as good as ever, unless the disk keeps it from them)
             state = "waiting" if self._wrong else "holding"
         row |= {"state": state, "instruments": list(session.chosen(self._holding.get(session.number, 0))), "by": session.by, "note": session.note}
-        row |= {"gone_since": self.when(session.gone_at), "session": session.number}
+        row |= {"gone_since": self.when(session.gone_at), "session": session.number, "token": session.token or None}
         return {**row, "waits_for": self.keepers(session) if state == "waiting" else []}
 
     def _holds(self, session: Session) -> bool:

@@ -132,7 +132,7 @@ def same_status(it: rules.Rules, status: dict[str, Any]) -> None:
     differ(8, "who isn't idle", set(wanted["stations"]), {name for name, one in stations.items() if one["state"] != "idle"})
     for name, row in wanted["stations"].items():
         found = stations[name]
-        for key in ("state", "instruments", "by", "note", "session"):
+        for key in ("state", "instruments", "by", "note", "session", "token"):
             differ(8, f"{key} of {name}", row[key] or None, found[key] or None)
         for key in ("since", "gone_since"):
             moment = None if found[key] is None else it.now - round(1000 * (status["at"] - found[key]))

@@ -25,6 +25,7 @@ class Left:
     ticket: str
     since: int
     asked: int
+    token: int
     station: str = ""
     by: str = ""
     notes: list[str] = field(default_factory=list)
@@ -57,7 +58,7 @@ def left_in(disk: Disk) -> dict[int, Left]:
             kind = rules.KINDS.index("" if its[1] == "0" * 8 else places["stations"][int(its[1], 16) - 1])
             names = tuple(name for at, name in enumerate(places["instruments"]) if int(its[2], 16) >> at & 1)
             number = int(its[0], 16)
-            found[number] = Left(number, kind, names, TICKET_OF.get(int(its[3], 16), "?"), int(its[4], 16), int(its[6], 16))
+            found[number] = Left(number, kind, names, TICKET_OF.get(int(its[3], 16), "?"), int(its[4], 16), int(its[6], 16), int(its[7], 16))
         elif word == "end":
             found[int(its[0], 16)].how = its[1]
         elif word == "note":

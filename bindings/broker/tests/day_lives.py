@@ -118,8 +118,10 @@ class Day:
                 it.ends[one.ticket] = "let_go" if one.how == "let_go" else "taken"
         for one in sorted(stands, key=lambda one: one.number):
             it.sessions[one.number] = self._taken_up(one, now)
-            it.line.asks.append(model.Ask(one.number, one.kind, rules.owner_of(one.ticket), None, None, one.asked, one.since, one.needs, now, model.HOLDS, "", "holds", "durable"))  # fmt: skip
-        it.line.next = it.next = 1 + max([0, *left, *(one["session"] or 0 for one in self.before)])
+            its = one.number, one.kind, rules.owner_of(one.ticket), None, None, one.asked, one.since, one.needs, now, model.HOLDS, "", "holds", "durable"
+            it.line.asks.append(model.Ask(*its, token=one.token))
+        it.line.granted = max([0, *(one.token for one in left.values())])
+        it.line.next = it.next = max(it.line.granted, 1 + max([0, *left, *(one["session"] or 0 for one in self.before)]))
         it.line.now = now
         checks.takes_up(self)
         it.follows()

@@ -370,7 +370,8 @@ class Rules:
         state = "waiting" if is_waiting else "holding" if it.state == "waiting" and not is_wrong else it.state
         its = it.instruments if is_waiting or it.holds else tuple(next(one for one in it.choices if bits(one) == at.needs))
         keepers = {(name, *self._keeper(it, name)) for name in it.instruments if self._keeper(it, name)} if is_waiting else set()
-        return {"state": state, "instruments": list(its), "by": it.by, "note": it.note, "session": it.number, "since": at.since, "gone_since": it.gone_at, "waits_for": keepers}
+        row = {"state": state, "instruments": list(its), "by": it.by, "note": it.note, "session": it.number, "since": at.since}
+        return {**row, "token": None if it.state == "waiting" else at.token, "gone_since": it.gone_at, "waits_for": keepers}
 
     def _keeper(self, it: Session, name: str) -> tuple[Any, ...]:
         ask = self.line.keeper(it.number, INSTRUMENTS.index(name))

@@ -33,7 +33,7 @@ class Keeping:
 
     def _idle(self, name: str) -> Record:
         state: Record = {"name": name, "state": "idle", "instruments": [], "since": self._t(), "by": None, "note": None}
-        return {**state, "gone_since": None, "waits_for": []}
+        return {**state, "gone_since": None, "token": None, "waits_for": []}
 
     def tell(self, what: str, station: Optional[str], instruments: Any = (), text: str = "") -> None:
         of = self.stations[station] if station else {}

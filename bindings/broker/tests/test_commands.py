@@ -127,6 +127,8 @@ class WithBroker(OnBroker):
                 (["hold", "scope", "load-1", "--", "sh", "-c", "echo $LABRUN_HELD $LABRUN_STATION; exit 7"], 7, "scope load-1 guest-1\n", ""),
                 (["hold", "scope", "--station", "radio", "--", "sh", "-c", "echo $LABRUN_STATION"], 0, "radio\n", ""),
                 (["hold", "--any", "supply", "load-1,load-2", "--", "sh", "-c", "echo $LABRUN_HELD"], 0, "load-1 load-2\n", ""),
+                # (the fifth that is let in)
+                (["hold", "scope", "--", "sh", "-c", "echo $LABRUN_TOKEN"], 0, "5\n", ""),
                 (["hold", "scope", "--", "sh", "-c", "kill -TERM $$"], 143, "", ""),
                 (["hold", "scope", "--", "./nothing"], 127, "", "./nothing: No such file or directory"),
                 (["hold", "scope", "--", "/"], 126, "", "/: Permission denied"),

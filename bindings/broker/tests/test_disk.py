@@ -329,18 +329,18 @@ class Files(unittest.TestCase):
 
 JOURNAL = """\
 0123456789abcdef bay 00
-0123456789abcdef hold 0000000000000007 00000001 0000000000000003 000000000000000100000000000000ff 00000000000003e8 ---------------- 0000000000000320
+0123456789abcdef hold 0000000000000007 00000001 0000000000000003 000000000000000100000000000000ff 00000000000003e8 ---------------- 0000000000000320 0000000000000001
 0123456789abcdef note 0000000000000007 by board ann@bench-3: a: b
 0123456789abcdef note 0000000000000007 note 5 V\\n of 
 0123456789abcdef note 0000000000000007 more \\\\n6
 0123456789abcdef note 0000000000000007 note again
 0123456789abcdef note 0000000000000007 failed smoke
 0123456789abcdef end 0000000000000007 let_go 00000000000005dc
-0123456789abcdef hold 0000000000000005 00000000 0000000000000001 00000000000000020000000000000002 00000000000007d0 ---------------- 00000000000007d0
+0123456789abcdef hold 0000000000000005 00000000 0000000000000001 00000000000000020000000000000002 00000000000007d0 ---------------- 00000000000007d0 0000000000000003
 0123456789abcdef note 0000000000000005 by guest-2 
 0123456789abcdef note 0000000000000005 taken eve
 0123456789abcdef end 0000000000000005 taken_away 00000000000009c4
-0123456789abcdef hold 0000000000000009 00000000 0000000000000001 00000000000000030000000000000003 0000000000000bb8 ---------------- 0000000000000bb8
+0123456789abcdef hold 0000000000000009 00000000 0000000000000001 00000000000000030000000000000003 0000000000000bb8 ---------------- 0000000000000bb8 0000000000000004
 """
 
 
@@ -348,6 +348,7 @@ class Lines(unittest.TestCase):
     def test_sessions(self) -> None:
         first, second, third = sessions_of(JOURNAL.encode()).values()
         self.assertEqual((first.number, first.kind, first.needs, first.owner, first.asked, first.since), (7, 1, 3, (1, 255), 800, 1000))
+        self.assertEqual([it.token for it in (first, second, third)], [1, 3, 4])
         self.assertEqual((first.station, first.by, first.notes, first.failed), ("board", "ann@bench-3: a: b", ["5 V\n of \\n6", "again"], "smoke"))
         self.assertEqual((first.how, first.what, first.until), ("let_go", "failed", 1500))
         self.assertEqual((second.station, second.by, second.taken, second.what, second.until), ("guest-2", "", "eve", "taken", 2500))
@@ -356,7 +357,7 @@ class Lines(unittest.TestCase):
     def test_each_end(self) -> None:
         whats = {"let_go": "let_go", "left": "gave_up", "lapsed": "gave_up", "stopped": "gave_up", "not_written": "failed", "limit": "taken", "grace": "taken"}
         for how, what in {**whats, "taken_away": "taken", "replaced": "taken"}.items():
-            self.assertEqual(Left(1, 0, 1, (0, 1), 0, 0, how=how).what, what, how)
+            self.assertEqual(Left(1, 0, 1, (0, 1), 0, 0, 1, how=how).what, what, how)
 
     def test_texts(self) -> None:
         """Each line fits, has no end of a line within, and all together are the text again."""
@@ -366,7 +367,7 @@ class Lines(unittest.TestCase):
                 self.assertLessEqual(len(it), 500)
                 self.assertNotRegex(it, b"[\r\n]")
             of = "".join(f"{'0' * 16} note {1:016x} {it.decode()}\n" for it in lines)
-            hold = f"{'0' * 16} hold {1:016x} {0:08x} {1:016x} {1:032x} {0:016x} {'-' * 16} {0:016x}\n"
+            hold = f"{'0' * 16} hold {1:016x} {0:08x} {1:016x} {1:032x} {0:016x} {'-' * 16} {0:016x} {1:016x}\n"
             self.assertEqual(sessions_of((hold + of).encode())[1].notes, [text])
 
 

@@ -235,7 +235,7 @@ class Mended(unittest.TestCase):
 
     def left(self, *numbers: int) -> dict[int, Left]:
         """Sessions that came to hold in this order, a second each; the last still holds."""
-        found = {it: Left(it, 0, 1, (0, it), 1000 * at, 1000 * at, "guest-1", "ann", ["5 V"], how="let_go") for at, it in enumerate(numbers)}
+        found = {it: Left(it, 0, 1, (0, it), 1000 * at, 1000 * at, at + 1, "guest-1", "ann", ["5 V"], how="let_go") for at, it in enumerate(numbers)}
         found[numbers[-1]].how = ""
         return found
 
@@ -257,7 +257,7 @@ class Mended(unittest.TestCase):
         self.assertEqual(self.told((7, 8), self.of("note", 7) * 1000), [])
 
     def test_what_it_says(self) -> None:
-        it = Left(3, 1, 2, (0, 3), 5000, 5000, "board", "ann", failed="smoke", how="let_go", until=6000)
+        it = Left(3, 1, 2, (0, 3), 5000, 5000, 3, "board", "ann", failed="smoke", how="let_go", until=6000)
         of = {"station": "board", "session": 3, "instruments": ["supply"], "by": "ann"}
         expected = [{"t": 5.0, "what": "held", **of, "text": "as the journal has it"}, {"t": 6.0, "what": "failed", **of, "text": "smoke, as the journal has it"}]
         self.assertEqual(missing({3: it}, [], Places(("scope", "supply"), ("board",))), expected)

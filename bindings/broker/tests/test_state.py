@@ -1,6 +1,7 @@
 """A broker with a state folder, which is killed or ended, and goes on where it was."""
 
 import asyncio
+import hashlib
 import json
 import math
 import os
@@ -89,6 +90,23 @@ class State(OnBroker):
         held.release()
         with self.lab(broker, "radio").hold("scope", timeout=LIMIT):
             pass
+
+    def test_tokens_rise_over_a_restart(self) -> None:
+        """Whoever comes to hold has a larger token than all before, and who comes back has its own."""
+        broker = self.broker(BAY, "--state", "FOLDER/state")
+        board = self.lab(broker, "board")
+        with self.lab(broker).hold("supply") as first:
+            self.assertEqual(first.token, 1)
+        held = board.hold("scope")
+        held.acquire()
+        self.assertEqual(held.token, 2)
+        self.assertEqual(broker.end(), 0)
+        broker.begin()
+        other = self.lab(broker)
+        with other.hold("supply", "load-1", timeout=LIMIT) as later:
+            until(lambda: station(other, "board")["state"] == "holding", "it has come back")
+            self.assertEqual((later.token, held.token, station(other, "board")["token"]), (3, 2, 2))
+        held.release()
 
     def test_gone_while_the_broker_was(self) -> None:
         """Nobody comes back for it: an operator releases it."""
@@ -189,6 +207,20 @@ class State(OnBroker):
         self.addCleanup(broker.ends)
         with broker.lab() as lab, lab.hold("scope", timeout=LIMIT):
             pass
+
+    def test_a_broker_without_tokens_wrote_it(self) -> None:
+        """So it is of a journal whose first line doesn't say which tokens were given."""
+        folder = self.enterContext(tempfile.TemporaryDirectory())
+        os.mkdir(f"{folder}/state")
+        head = f"bay {'ab' * 32} {0:016x} {1:016x}"
+        with open(f"{folder}/state/bay.journal", "w", encoding="utf-8") as file:
+            file.write(f"{hashlib.sha256(bytes(8) + head.encode()).hexdigest()[:16]} {head}\n")
+        with open(f"{folder}/bay.toml", "w", encoding="utf-8") as file:
+            file.write(BAY)
+        words = [*COMMAND, "serve", f"{folder}/bay.toml", "--listen", f"unix:{folder}/s", "--state", f"{folder}/state"]
+        done = subprocess.run(words, capture_output=True, text=True, timeout=LIMIT)
+        self.assertEqual(done.returncode, 74)
+        self.assertIn("bay.journal: an older labrun-broker wrote it, and this one can't go on with it. With the older one let all sessions end", done.stderr)
 
     def test_tickets_arent_in_the_files(self) -> None:
         broker = self.broker(BAY, "--state", "FOLDER/state")

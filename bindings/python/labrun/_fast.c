@@ -23,7 +23,7 @@ typedef struct {
 } Quick;
 
 /* the names of what is read and written of whoever asks */
-static PyObject *limit_, *timeout_, *kind_, *sets_, *number_, *what_, *needs_;
+static PyObject *limit_, *timeout_, *kind_, *sets_, *number_, *what_, *needs_, *token_;
 
 /* A number, and whether there is one; else an exception is set. */
 static int is_number(PyObject *given, uint64_t *number) {
@@ -97,7 +97,7 @@ static int asks(Quick *self, PyObject *it, const struct lab_asked *asked, const 
         } else {
             if (self->tell(self->bay, self->done, &told) != 0 || told.number != asked->number || told.what != LAB_HOLDS)
                 result = PySet_Add(self->busy, key);
-            else if (writes(it, needs_, told.needs) && writes(it, what_, LAB_HOLDS)) {
+            else if (writes(it, needs_, told.needs) && writes(it, token_, told.token) && writes(it, what_, LAB_HOLDS)) {
                 self->done = told.serial;
                 result = 1;
             }
@@ -219,8 +219,8 @@ static PyType_Spec spec = {"labrun._fast.Quick", sizeof(Quick), 0, Py_TPFLAGS_DE
 static struct PyModuleDef module = {PyModuleDef_HEAD_INIT, "_fast", NULL, -1, NULL, NULL, NULL, NULL, NULL};
 
 PyMODINIT_FUNC PyInit__fast(void) {
-    PyObject **names[] = {&limit_, &timeout_, &kind_, &sets_, &number_, &what_, &needs_};
-    const char *texts[] = {"limit", "timeout", "kind", "sets", "number", "what", "needs"};
+    PyObject **names[] = {&limit_, &timeout_, &kind_, &sets_, &number_, &what_, &needs_, &token_};
+    const char *texts[] = {"limit", "timeout", "kind", "sets", "number", "what", "needs", "token"};
     for (size_t at = 0; at < sizeof texts / sizeof *texts; at++)
         if ((*names[at] = PyUnicode_InternFromString(texts[at])) == NULL) return NULL;
     PyObject *made = PyModule_Create(&module), *type = PyType_FromSpec(&spec);

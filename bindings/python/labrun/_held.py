@@ -26,7 +26,9 @@ class Held(Asker):
     """A session: `with lab.hold("scope", "supply") as held:`, or `async with`. Entered, it holds all its `instruments`, and nobody else has
     one of them until it is left. It is entered once.
 
-    `number` is its own in this lab, also after a restart; 0 before it is entered. `station` is "" for a guest. `state` is new, waiting,
+    `number` is its own in this lab, also after a restart; 0 before it is entered. `token` is larger than that of each session that came to
+    hold before it, with a journal also after a restart: so a server before an instrument can refuse whoever comes with a smaller one than it
+    has seen, and was taken away, and doesn't know it yet; 0 before it holds. `station` is "" for a guest. `state` is new, waiting,
     held, letting go, finished, given up or taken. `resumed`: it held when the process before this one ended, and holds still. `notes` is
     what it noted by now; of one that was resumed, what the journal has of it."""
 

@@ -16,9 +16,9 @@ NEW, LETS_GO = 11, 12
 
 class Asker(Waiter):
     """Whoever asks for one of these sets, and waits for so many milliseconds at most: `number` is that of the ask, 0 before. `what` it was
-    told last, or NEW, WAITS, or LETS_GO until it is told that it let go; `needs` is what it holds, or held."""
+    told last, or NEW, WAITS, or LETS_GO until it is told that it let go; `needs` is what it holds, or held, and `token` its token then."""
 
-    number, what, needs = 0, NEW, 0
+    number, what, needs, token = 0, NEW, 0, 0
     kind: int
     sets: tuple[int, ...]
     timeout: int
@@ -57,7 +57,7 @@ class Quick:
             if told is None:
                 self._busy.add(number)
                 return False
-            it.needs, it.what, self.done = told[1], HOLDS, told[0]
+            it.needs, it.token, it.what, self.done = told[1], told[2], HOLDS, told[0]
             return True
 
     def lets_go(self, it: Asker) -> bool:

@@ -152,7 +152,7 @@ class Shell:
         # (whether it has a limit isn't told)
         it.limit = 0
         self._busy.add(it.number)
-        it.needs = self.machine.back(it.number, standing.owner, self.now())
+        it.needs, it.token = self.machine.back(it.number, standing.owner, self.now()), standing.token
         it.what = HOLDS
 
     def pump(self, now: int) -> None:
@@ -175,7 +175,7 @@ class Shell:
         if told.what != HOLDS:
             self._is_over(it)
         else:
-            it.needs = told.needs
+            it.needs, it.token = told.needs, told.token
             if it.limit == NEVER:
                 self._busy.discard(it.number)
         it.what = told.what

@@ -31,21 +31,24 @@ class Refusal(Exception):
 
 
 class Told(NamedTuple):
-    """What an ask is told. `needs` are the instruments that it holds by now."""
+    """What an ask is told. `needs` are the instruments that it holds by now, and `token` is larger than that of each that was let in before it."""
 
     serial: int
     number: int
     needs: int
+    token: int
     what: int
 
 
 class Standing(NamedTuple):
-    """How an ask stands: `what` is WAITS, HOLDS or how it is over; `since` when it asks, and then since when it holds."""
+    """How an ask stands: `what` is WAITS, HOLDS or how it is over; `since` when it asks, and then since when it holds. Its `token` is 0
+    until it is let in."""
 
     number: int
     owner: tuple[int, int]
     needs: int
     since: int
+    token: int
     kind: int
     what: int
 
@@ -63,7 +66,7 @@ class Terms(NamedTuple):
 
 # the structures, by their fields (structures of ctypes take as long for each of them as these for all)
 _HANDLE, _CLASS, _TERMS = struct.Struct("=QQ"), struct.Struct("=QII"), struct.Struct("=32sQQQII")
-_ASKED, _OUTCOME, _STANDING = struct.Struct("=QQQQQII"), struct.Struct("=QQQI4x"), struct.Struct("=QQQQQII")
+_ASKED, _OUTCOME, _STANDING = struct.Struct("=QQQQQII"), struct.Struct("=QQQQI4x"), struct.Struct("=QQQQQQII")
 
 _packs, _unpacks = _ASKED.pack_into, _OUTCOME.unpack
 
@@ -195,14 +198,14 @@ class Machine:
         if status:
             self._finds("ask", status)
 
-    def holds(self, number: int, kind: int, sets: Sequence[int], deadline: int, now: int, done: int) -> Optional[tuple[int, int]]:
-        """It asks, as an owner of its own, and is told at once that it holds: the serial number of that, and what it holds. None: it is told
+    def holds(self, number: int, kind: int, sets: Sequence[int], deadline: int, now: int, done: int) -> Optional[tuple[int, int, int]]:
+        """It asks, as an owner of its own, and is told at once that it holds: the serial number of that, what it holds, and its token. None: it is told
         nothing, or something else, which `tell` tells again. Refusal: as `ask`."""
         self.ask(number, (1, number), kind, sets, deadline, NEVER, now)
         if self._tell(self._at, done, self._outcome_at):
             return None
-        serial, whose, needs, what = _unpacks(self._outcome)
-        return (serial, needs) if whose == number and what == HOLDS else None
+        serial, whose, needs, token, what = _unpacks(self._outcome)
+        return (serial, needs, token) if whose == number and what == HOLDS else None
 
     def _has_sets(self, sets: Sequence[int]) -> None:
         self._sets: Any = (_LONG * max(1, len(sets)))(*sets)

@@ -272,6 +272,21 @@ class Holding(OnLab):
             back(thread)
         self.assertEqual(order, [0, 1, 2, 3, 4])
 
+    def test_tokens(self) -> None:
+        """They rise as sessions come to hold, whoever asked first, and nobody has one before."""
+        lab = self.lab()
+        first = self.held(lab, "board", "scope")
+        waits = lab.station("radio").hold("scope")
+        thread = self.waits(waits)
+        second = self.held(lab, "", "supply")
+        self.assertEqual((first.token, waits.token, second.token, second.number), (1, 0, 2, 3))
+        first.release()
+        back(thread)
+        self.assertEqual((first.token, waits.token, waits.number), (1, 3, 2))
+        for token in range(4, 40):
+            with lab.hold("load-1") as held:
+                self.assertEqual(held.token, token)
+
     def test_overtakes(self) -> None:
         """So many that came later go before one that needs more; then it keeps what it needs."""
         for overtakes in (0, 3):

@@ -92,6 +92,17 @@ class InTheFile(OnFile):
         self.held(self.opened(), "", "scope")
         self.assertEqual(self.words()[1][4], f"{1:016x}{1:016x}")
 
+    def test_tokens_rise_over_a_restart(self) -> None:
+        """Whoever comes back has its own, and all that come later have larger ones, also than those of sessions that are over."""
+        lab = self.opened()
+        held = self.held(lab, "", "scope")
+        self.held(lab, "", "load-1").release()
+        lab.close()
+        self.assertEqual([it[8] for it in self.words() if it[0] == "hold"], [f"{1:016x}", f"{2:016x}"])
+        lab = self.opened()
+        (it,) = lab.resumed
+        self.assertEqual((held.token, it.token, self.held(lab, "", "load-1").token), (1, 1, 3))
+
     def test_nothing_that_nobody_did(self) -> None:
         """Of one that leaves while it waits, also just as it is let in, no line says that it held."""
         for is_first in (True, False):

@@ -58,12 +58,14 @@ fn who_held_comes_back() {
     let mut back = lab.resumed().unwrap();
     let told: Vec<_> = back.iter().map(|it| (it.number(), it.instruments().join(" "), it.is_held())).collect();
     assert_eq!(told, [(1, "scope supply".to_string(), true), (3, "load".to_string(), true)]);
+    assert_eq!((back[0].token(), back[1].token()), (1, 3));
     assert!(lab.resumed().unwrap().is_empty());
     assert!(lab.hold(&["scope"]).timeout(NOW).begin().is_err());
     back[0].note("at rest").unwrap();
     back[0].finish().unwrap();
     let next = lab.hold(&["scope"]).timeout(NOW).begin().unwrap();
     assert!(next.number() > 3);
+    assert_eq!(next.token(), 4);
     assert!(lab.hold(&["load"]).timeout(NOW).begin().is_err());
     drop((back, next));
     lab.close().unwrap();

@@ -26,7 +26,7 @@ use Rattle.bay.proofs.ToldKept.{below_next}
 
 of_more : (head : List ℕ) (front rest : List line.Line) → IsOf head front → IsOf head (front ++ rest)
 of_more head [] rest h = absurd h
-of_more head (Head bay base next ∷ front) rest h = h
+of_more head (Head bay base next granted ∷ front) rest h = h
 of_more head (HoldLine ask entry ∷ front) rest h = absurd h
 of_more head (Back from to ∷ front) rest h = absurd h
 of_more head (EndLine ask how at ∷ front) rest h = absurd h
@@ -34,7 +34,7 @@ of_more head (Note ask text ∷ front) rest h = absurd h
 
 base_same : (head : List ℕ) (front rest : List line.Line) → IsOf head front → base_of (front ++ rest) ≡ base_of front
 base_same head [] rest h = absurd h
-base_same head (Head bay base next ∷ front) rest h = refl
+base_same head (Head bay base next granted ∷ front) rest h = refl
 base_same head (HoldLine ask entry ∷ front) rest h = absurd h
 base_same head (Back from to ∷ front) rest h = absurd h
 base_same head (EndLine ask how at ∷ front) rest h = absurd h
@@ -68,7 +68,13 @@ may_hold classes lines n safe less h =
           | inl wide ↦ false≢true (sym wide ∙ safe.within n e h.1)
           | inr d ↦ elim d [
             | inl other ↦ false≢true (sym (safe.apart n other.0 e other.1 h.1 other.2 other.3) ∙ other.4)
-            | inr many ↦ (let few = safe.few e.class many.0 many.1 in let more = many.3 in omega (arith, few, more))
+            | inr f ↦ elim f [
+              | inl many ↦ (let few = safe.few e.class many.0 many.1 in let more = many.3 in omega (arith, few, more))
+              | inr g ↦ elim g [
+                | inl none ↦ (let some = safe.some n e h.1 in omega (arith, some, none))
+                | inr other ↦ safe.tokens n other.0 e other.1 h.1 other.2 other.3 other.4
+              ]
+            ]
           ]
         ]
       ]

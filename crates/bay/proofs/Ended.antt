@@ -1,5 +1,5 @@
 -- What the log says of those that are over.
-use Rattle.std.proofs.Common.{◌≡◌, ◌≢◌, ℕ, suc, ◌-◌, ◌<◌, ◌≤◌, max, Bool, true, false, ◌||◌, not, nat_eq, nat_lt, List, [], ◌∷◌, ◌++◌, append_assoc, length, Option, Some, None, Result, Ok, Err, OnOk, OnErr, All, refl, sym, ap, ◌∙◌, subst, inl, inr, arith, rules}
+use Rattle.std.proofs.Common.{◌≡◌, ◌≢◌, ℕ, suc, ◌-◌, ◌+◌, ◌<◌, ◌≤◌, max, Bool, true, false, ◌||◌, not, nat_eq, nat_lt, List, [], ◌∷◌, ◌++◌, append_assoc, length, Option, Some, None, Result, Ok, Err, OnOk, OnErr, All, refl, sym, ap, ◌∙◌, subst, inl, inr, arith, rules}
 use Rattle.std.specs.List.{list_any}
 use Rattle.std.specs.declared.alloc.AllocError.{AllocError}
 use Rattle.std.proofs.lemmas.Bool.{false≢true, eq-eqb, ne_eqb, le-leb, leb-true}
@@ -77,9 +77,9 @@ after_over lines durable a how now goes e = record {
   told = λ s h. absurd ((e.goes_on goes).1 h);
 }
 
-after_holding : (lines : List Line) (durable : ℕ) (a : Ask) (needs now : ℕ) (keeps : Bool) → a.stage ≡ Waits → IsEndedAsk lines durable a
-    → IsEndedAsk lines durable (holding needs now keeps a)
-after_holding lines durable a needs now keeps w e = record {
+after_holding : (lines : List Line) (durable : ℕ) (a : Ask) (needs now : ℕ) (keeps : Bool) (token : ℕ) → a.stage ≡ Waits
+    → IsEndedAsk lines durable a → IsEndedAsk lines durable (holding needs now keeps token a)
+after_holding lines durable a needs now keeps token w e = record {
   unused = λ h. e.unused (e.waits w);
   waits = λ h. let no : ⊥ = cc in absurd no;
   goes_on = λ h. e.goes_on (ap is_over w);
@@ -173,7 +173,10 @@ pub ended_kept : (keeps : Bool) (lines : List Line) → IsKeptByChanges keeps (�
 ended_kept keeps lines = record {
   adds = λ x number class owner deadline limit now fits t. after_add x lines number class owner deadline limit now fits t;
   holds = λ x place needs now inside w t.
-      ended_set x lines place _ (after_holding lines x.durable (ask_at x.asks place) needs now keeps w (its x lines place inside t)) t;
+      let v : Ask = holding needs now keeps (x.granted + 1) (ask_at x.asks place) in
+      let r = ended_set x lines place v
+      (after_holding lines x.durable (ask_at x.asks place) needs now keeps (x.granted + 1) w (its x lines place inside t)) t in
+      record { each = r.each; below = r.below };
   ends = λ x place how now inside goes t.
       ended_set x lines place _ (after_over lines x.durable (ask_at x.asks place) how now goes (its x lines place inside t)) t;
   goes = λ x place moment inside t. ended_set x lines place _ (after_gone lines x.durable (ask_at x.asks place) moment (its x lines place inside t)) t;
@@ -332,7 +335,7 @@ ended_noted (Err e) x log log' number text begun ok err t = subst (λ (l : LogVi
 -- ---- a bay comes back
 
 begins_not : (line : Line) (n next : ℕ) → Fits line → after_line line ≤ next → next ≤ n → n ≢ 18446744073709551615 → begins n line ≡ false
-begins_not (Head bay base after) n next f le above ne = refl
+begins_not (Head bay base after granted) n next f le above ne = refl
 begins_not (HoldLine ask entry) n next f le above ne = ne_eqb n ask (λ same. let less : ask < 18446744073709551616 = f.0 in omega (arith, less, le, above, ne, same))
 begins_not (Back from to) n next f le above ne = ne_eqb n to (λ same. let less : to < 18446744073709551616 = f.1 in omega (arith, less, le, above, ne, same))
 begins_not (EndLine ask how at) n next f le above ne = refl

@@ -1,5 +1,5 @@
 -- What was heard stays heard.
-use Rattle.std.proofs.Common.{◌≡◌, ◌⊎◌, ℕ, zero, suc, ◌<◌, ◌≤◌, max, Bool, true, false, List, [], ◌∷◌, ◌++◌, length, set, Some, refl, sym, ap, ◌∙◌, subst, inl, inr, arith}
+use Rattle.std.proofs.Common.{◌≡◌, ◌⊎◌, ℕ, zero, suc, ◌+◌, ◌<◌, ◌≤◌, max, Bool, true, false, List, [], ◌∷◌, ◌++◌, length, set, Some, refl, sym, ap, ◌∙◌, subst, inl, inr, arith}
 use Rattle.std.proofs.lemmas.Bool.{false≢true}
 use Rattle.bay_book.specs.declared.ask.Ask.{Ask}
 use Rattle.bay_book.specs.declared.ask.End.{End}
@@ -55,7 +55,7 @@ all_ended x place how now inside = all_set x.book.asks place (over how now (ask_
 all_step : (classes : List Class) (terms : Terms) (now : ℕ) (old new : Core) → Step classes terms now old new → AllHeard old.book.asks new.book.asks
 all_step classes terms now old new (inl l) =
     subst (λ (b : BookView). AllHeard old.book.asks b.asks) (sym l.book)
-    (all_set old.book.asks l.place (holding l.it.needs now terms.keeps (ask_at old.book.asks l.place)) l.inside refl refl)
+    (all_set old.book.asks l.place (holding l.it.needs now terms.keeps (old.book.granted + 1) (ask_at old.book.asks l.place)) l.inside refl refl)
 all_step classes terms now old new (inr e) = all_core old.book.asks new (ended old e.place e.how now) e.then (all_ended old e.place e.how now e.inside)
 
 all_steps : (classes : List Class) (terms : Terms) (now n : ℕ) (old new : Core) → Steps classes terms now n old new → AllHeard old.book.asks new.book.asks

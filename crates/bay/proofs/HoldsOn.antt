@@ -1,5 +1,5 @@
 -- Who holds goes on to hold, and who waits to wait.
-use Rattle.std.proofs.Common.{◌≡◌, ℕ, zero, suc, Bool, true, List, set, Some, refl, sym, ap, ◌∙◌, subst, inl, inr}
+use Rattle.std.proofs.Common.{◌≡◌, ℕ, zero, suc, ◌+◌, Bool, true, List, set, Some, refl, sym, ap, ◌∙◌, subst, inl, inr}
 use Rattle.std.proofs.lemmas.Bool.{false≢true}
 use Rattle.bay_book.specs.declared.ask.Ask.{Ask}
 use Rattle.bay_book.specs.declared.ask.End.{End}
@@ -109,14 +109,16 @@ waits_due classes terms now x a Stopped w h = absurd h
 step_waits : (classes : List Class) (terms : Terms) (now : ℕ) (old new : Core) (a : Ask) → Step classes terms now old new → a.stage ≡ Waits
     → Has old.book.asks a → WaitsOn classes terms now new.book a
 step_waits classes terms now old new a (inl l) w h =
-    let v : Ask = holding l.it.needs now terms.keeps (ask_at old.book.asks l.place) in
+    let token = old.book.granted + 1 in
+    let v : Ask = holding l.it.needs now terms.keeps token (ask_at old.book.asks l.place) in
     let same = ap (λ (b : BookView). b.asks) l.book in
     elim (set_other old.book.asks l.place v a no_ask h) [
       | inl is ↦
           inr (inr (
             l.it.needs,
-            inl (in_book _ new (holding l.it.needs now terms.keeps a) same
-                (subst (λ (b : Ask). Has (set old.book.asks l.place v) (holding l.it.needs now terms.keeps b)) is (set_new old.book.asks l.place v l.inside))),
+            token,
+            inl (in_book _ new (holding l.it.needs now terms.keeps token a) same
+                (subst (λ (b : Ask). Has (set old.book.asks l.place v) (holding l.it.needs now terms.keeps token b)) is (set_new old.book.asks l.place v l.inside))),
           ))
       | inr there ↦ inl (in_book _ new a same there)
     ]
@@ -140,7 +142,7 @@ pub step_waits_on : (classes : List Class) (terms : Terms) (now : ℕ) (old new 
 step_waits_on classes terms now old new a s w (inl h) = step_waits classes terms now old new a s w h
 step_waits_on classes terms now old new a s w (inr (inl h)) = inr (inl (h.0, over_keeps classes terms now old new (over Lapsed now a) s refl h.1))
 step_waits_on classes terms now old new a s w (inr (inr h)) =
-    inr (inr (h.0, step_on classes terms now old new (holding h.0 now terms.keeps a) s refl h.1))
+    inr (inr (h.0, h.1, step_on classes terms now old new (holding h.0 now terms.keeps h.1 a) s refl h.2))
 
 pub steps_waits_on : (classes : List Class) (terms : Terms) (now n : ℕ) (old new : Core) (a : Ask) → Steps classes terms now n old new → a.stage ≡ Waits
     → WaitsOn classes terms now old.book a → WaitsOn classes terms now new.book a

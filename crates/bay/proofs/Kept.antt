@@ -26,7 +26,7 @@ le_of : (a b : ℕ) → nat_le a b ≡ true → a ≤ b
 le_of a b h = search (rules, h)
 
 -- the line of one that was told outlives a crash
-told_written : (x : BookView) (a : Ask) (position : ℕ) → IsSoundAsk x.durable a → a.stage ≡ Holds → a.heard ≡ HeardHolds → a.hold_line ≡ At position
+pub told_written : (x : BookView) (a : Ask) (position : ℕ) → IsSoundAsk x.durable a → a.stage ≡ Holds → a.heard ≡ HeardHolds → a.hold_line ≡ At position
     → position ≤ x.durable
 told_written x a position s holds told mark =
     let at = subst (IsSoundAt x.durable a) holds s in

@@ -14,6 +14,7 @@ pub mod Calls
 pub mod Logged
 pub mod LoggedCalls
 pub mod Kept
+pub mod Outlive
 pub mod Next
 pub mod Restored
 pub mod Waited
@@ -28,6 +29,7 @@ pub mod SafeLines
 pub mod ToldKept
 pub mod Given
 pub mod Through
+pub mod Tokens
 pub mod Ended
 pub mod Past
 pub mod Refused

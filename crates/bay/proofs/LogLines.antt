@@ -50,7 +50,7 @@ pub alive_more : (lines : List Line) (line : Line) (n : ℕ) → alive (lines ++
 alive_more lines line n = ap (λ (f : ℕ → Option Entry). f n) (alive_both (λ m. None) lines (line ∷ []))
 
 pub untouched : (held : ℕ → Option Entry) (line : Line) (n : ℕ) → touches n line ≡ false → after held line n ≡ held n
-untouched held (Head bay base next) n h = refl
+untouched held (Head bay base next granted) n h = refl
 untouched held (Hold ask entry) n h = if_no (n == ask) (Some entry) (held n) h
 untouched held (Back from to) n h =
     if_no (n == to) (held from) (if n == from then None else held n) (right_no (n == from) (n == to) h)
@@ -99,7 +99,7 @@ count_yes p lines line h = let e = count_more p lines line in let z = one_yes p 
 
 pub base_more : (a b : List Line) → is_none a ≡ false → base_of (a ++ b) ≡ base_of a
 base_more [] b h = absurd (false≢true (sym h))
-base_more (Head bay base next ∷ a) b h = refl
+base_more (Head bay base next granted ∷ a) b h = refl
 base_more (Hold ask entry ∷ a) b h = refl
 base_more (Back from to ∷ a) b h = refl
 base_more (End ask how at ∷ a) b h = refl
@@ -140,7 +140,7 @@ hold_here held n m e h = if_yes (n == m) (Some e) (held n) (eq-eqb n m h)
 -- ---- numbers that were never given
 
 begun_below : (line : Line) (n next : ℕ) → bound_of line ≤ next → next ≤ n → begins n line ≡ false
-begun_below (Head bay base next') n next le above = refl
+begun_below (Head bay base next' granted) n next le above = refl
 begun_below (Hold ask entry) n next le above = ne_eqb n ask (omega (arith, le, above))
 begun_below (Back from to) n next le above = ne_eqb n to (omega (arith, le, above))
 begun_below (End ask how at) n next le above = refl

@@ -32,7 +32,7 @@ alive_push lines line n = ap (λ (f : ℕ → Option Entry). f n) (alive_push_fr
 
 pub base_push : (lines : List Line) (line : Line) → is_none lines ≡ false → base_of (lines ++ line ∷ []) ≡ base_of lines
 base_push [] line h = absurd (false≢true (sym h))
-base_push (Head bay base next ∷ lines) line h = refl
+base_push (Head bay base next granted ∷ lines) line h = refl
 base_push (HoldLine ask entry ∷ lines) line h = refl
 base_push (Back from to ∷ lines) line h = refl
 base_push (EndLine ask how at ∷ lines) line h = refl

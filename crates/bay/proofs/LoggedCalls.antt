@@ -79,7 +79,7 @@ logged_in : (classes : List Class) (now : ℕ) (keeps : Bool) (old new : Core) (
     → IsLogged new.book log
 logged_in classes now keeps old new log l t =
     subst (λ (b : BookView). IsLogged b log) (sym l.book)
-    (logged_set old.book log l.place (holding l.it.needs now keeps (ask_at old.book.asks l.place)) (λ p h mark. in_mark keeps p mark) t)
+    (logged_set old.book log l.place (holding l.it.needs now keeps (old.book.granted + 1) (ask_at old.book.asks l.place)) (λ p h mark. in_mark keeps p mark) t)
 
 logged_ended : (x : Core) (place : ℕ) (how : End) (now : ℕ) (log : LogView) → IsLogged x.book log → IsLogged (ended x place how now).book log
 logged_ended x place how now log t = logged_set x.book log place (over how now (ask_at x.book.asks place)) (λ p h mark. false≢true h) t

@@ -95,7 +95,9 @@ past_kept keeps lines number = record {
         out = t.out;
       };
   holds = λ x place needs now inside w t.
-      past_set x lines number place (holding needs now keeps (ask_at x.asks place)) inside refl (λ o. absurd (false≢true (ap is_over (sym w) ∙ o.0))) t;
+      let v : Ask = holding needs now keeps (x.granted + 1) (ask_at x.asks place) in
+      let r = past_set x lines number place v inside refl (λ o. absurd (false≢true (ap is_over (sym w) ∙ o.0))) t in
+      record { given = r.given; over = r.over; out = r.out };
   ends = λ x place how now inside goes t.
       past_set x lines number place (over how now (ask_at x.asks place)) inside refl (λ o. absurd (false≢true (sym goes ∙ o.0))) t;
   goes = λ x place moment inside t. past_set x lines number place (gone_since moment (ask_at x.asks place)) inside refl (λ o. o) t;
@@ -251,7 +253,7 @@ past_by x k a h o w =
 
 -- whoever doesn't hold, and doesn't begin to, doesn't hold then
 none_line : (held : ℕ → Option Entry) (line : Line) (n : ℕ) → held n ≡ None → begins n line ≡ false → after held line n ≡ None
-none_line held (Head bay base next) n h g = h
+none_line held (Head bay base next granted) n h g = h
 none_line held (HoldLine ask entry) n h g = if_else (nat_eq n ask) (Some entry) (held n) g ∙ h
 none_line held (Back from to) n h g = if_else (nat_eq n to) (held from) _ g ∙ both (nat_eq n from) (held n) h
 none_line held (EndLine ask how at) n h g = both (nat_eq n ask) (held n) h

@@ -1,5 +1,5 @@
 -- Why no bay comes back.
-use Rattle.std.proofs.Common.{◌≡◌, ℕ, ◌+◌, ◌<◌, ◌≤◌, Bool, true, false, ◌&&◌, nat_eq, if◌then◌else◌, List, [], ◌∷◌, ◌++◌, length, length-append, get_or, Some, Result, Ok, Err, IfErr, refl, sym, ap, ◌∙◌, subst, inl, inr, arith}
+use Rattle.std.proofs.Common.{◌≡◌, ℕ, ◌+◌, ◌<◌, Bool, true, false, ◌&&◌, nat_eq, if◌then◌else◌, List, [], ◌∷◌, ◌++◌, length, length-append, get_or, Some, Result, Ok, Err, IfErr, refl, sym, ap, ◌∙◌, subst, inl, inr, arith}
 use Rattle.std.specs.Prelude.{AllPairs}
 use Rattle.std.specs.Result.{IsErrAnd}
 use Rattle.std.specs.List.{count_by}
@@ -27,15 +27,18 @@ use Rattle.bay.specs.Members.{Has}
 use Rattle.bay.specs.Classes.{class_at}
 use Rattle.bay.specs.Cores.{IsFreeClass}
 use Rattle.bay.specs.Pages.{entry_of}
-use Rattle.bay.specs.Restoring.{holder_at, IsNextTo, AreRestored, IsOf}
+use Rattle.bay.specs.Restoring.{holder_at, AreLow, IsNextTo, AreRestored, IsOf}
 use Rattle.bay.specs.Safe.{HasPlace}
-use Rattle.bay.specs.Refusals.{IsUsed, IsWhyNotOne, AnotherHolds, TooManyHold, HoldsAndMayNot, IsWhyNotRestored, IsWhyNotBack}
-use Rattle.bay.proofs.Members.{has_at, place_of, append_cases, append_second, cases_lt}
+use Rattle.bay.specs.Refusals.{IsUsed, IsOldToken, IsWhyNotOne, AnotherHolds, TooManyHold, HasNoTokenOfItsOwn, HoldsAndMayNot, IsWhyNotRestored, IsWhyNotBack}
+use Rattle.bay.proofs.Members.{has_at, append_cases, append_second, cases_lt}
 use Rattle.bay.proofs.SafeLines.{first_below, rises_tail}
 use Rattle.bay.proofs.Restored.{holder_entry, test_is}
 
 pub used_by : (asks : List Ask) (used needs : ℕ) → IsInUse asks used → common needs used ≡ true → IsUsed asks needs
 used_by asks used needs u h = let j = u.why needs h in (ask_at asks j.0, has_at asks j.0 no_ask j.1.inside, j.1.holds, j.1.has)
+
+pub old_at : (asks : List Ask) (place token : ℕ) → place < length asks → (ask_at asks place).token ≡ token → IsOldToken asks token
+old_at asks place token inside is = inr (ask_at asks place, has_at asks place no_ask inside, is)
 
 -- ---- the numbers of those that hold places of a class
 
@@ -92,15 +95,11 @@ one_of n m (inl is) = is
 one_of n m (inr h) = absurd h
 
 too_many : (classes : List Class) (lines : List line.Line) (moment position : ℕ) (book : BookView) (h : Holder) → IsSound book
-    → AreRestored lines moment position book → book.next ≤ h.ask → alive lines h.ask ≡ Some h.entry → (IsFreeClass classes book.asks h.entry.class → ⊥)
+    → AreRestored lines moment position book → AreLow h.ask book.asks → alive lines h.ask ≡ Some h.entry → (IsFreeClass classes book.asks h.entry.class → ⊥)
     → TooManyHold classes lines h.ask h.entry
-too_many classes lines moment position book h s r above holds full =
+too_many classes lines moment position book h s r below holds full =
     let k = h.entry.class in let n = h.ask in
     let o = of_class k book.asks s.rises in
-    let below : (a : Ask) → Has book.asks a → a.number < n = λ a g.
-    (let p = place_of book.asks a no_ask g in
-    let less : (ask_at book.asks p.0).number < book.next = s.below p.0 no_ask p.1 in
-    subst (λ (c : Ask). c.number < n) p.2 (omega (arith, less, above))) in
     let numbers = o.numbers ++ n ∷ [] in
     let each : (m : ℕ) → Has numbers m → HasPlace lines k m = λ m g. elim (append_cases o.numbers (n ∷ []) m g) [
       | inl was ↦
@@ -121,25 +120,30 @@ too_many classes lines moment position book h s r above holds full =
     ] in
     (numbers, (rises, λ i d inside. each (get_or numbers i d) (has_at numbers i d inside)), append_second o.numbers (n ∷ []) n (inl refl), some)
 
-another : (lines : List line.Line) (moment position : ℕ) (book : BookView) (h : Holder) → IsSound book → AreRestored lines moment position book
-    → book.next ≤ h.ask → IsUsed book.asks h.entry.needs → AnotherHolds lines h.ask h.entry
-another lines moment position book h s r above u =
+another : (lines : List line.Line) (moment position : ℕ) (book : BookView) (h : Holder) → AreRestored lines moment position book
+    → AreLow h.ask book.asks → IsUsed book.asks h.entry.needs → AnotherHolds lines h.ask h.entry
+another lines moment position book h r below u =
     let b = u.0 in
-    let p = place_of book.asks b no_ask u.1 in
-    let less : (ask_at book.asks p.0).number < book.next = s.below p.0 no_ask p.1 in
-    let low : b.number < h.ask = subst (λ (c : Ask). c.number < h.ask) p.2 (omega (arith, less, above)) in
+    let low = below b u.1 in
     (b.number, entry_of b, (r.1 b u.1).by_log, omega (arith, low), u.3)
 
-pub why_lines : (classes : List Class) (lines : List line.Line) (moment position : ℕ) (holders : List Holder) (book : BookView) (place : ℕ) (why : NotBack)
-    → AreHolders holders (alive lines) → IsSound book → AreRestored lines moment position book
-    → IsNextTo book.next holders (length holders) (Some place) → IsWhyNotOne classes book.asks (holder_at holders place) why → IsWhyNotRestored classes lines why
-why_lines classes lines moment position holders book place NoMemory are s r next w = tt
-why_lines classes lines moment position holders book place NoPlace are s r next w = absurd w
-why_lines classes lines moment position holders book place (Line n) are s r next w = absurd w
-why_lines classes lines moment position holders book place Another are s r next w = absurd w
-why_lines classes lines moment position holders book place Classes are s r next w = absurd w
-why_lines classes lines moment position holders book place (MayNot n) are s r next w =
+not_its_own : (lines : List line.Line) (moment position : ℕ) (book : BookView) (h : Holder) → AreRestored lines moment position book
+    → AreLow h.ask book.asks → IsOldToken book.asks h.entry.token → HasNoTokenOfItsOwn lines h.ask h.entry
+not_its_own lines moment position book h r below (inl none) = inl none
+not_its_own lines moment position book h r below (inr u) =
+    let b = u.0 in let low = below b u.1 in inr (b.number, entry_of b, (r.1 b u.1).by_log, omega (arith, low), sym u.2)
+
+pub why_lines : (classes : List Class) (lines : List line.Line) (moment position from : ℕ) (holders : List Holder) (book : BookView) (place : ℕ)
+    (why : NotBack) → AreHolders holders (alive lines) → IsSound book → AreRestored lines moment position book → AreLow from book.asks
+    → IsNextTo from holders (length holders) (Some place) → IsWhyNotOne classes book.asks (holder_at holders place) why → IsWhyNotRestored classes lines why
+why_lines classes lines moment position from holders book place NoMemory are s r low next w = tt
+why_lines classes lines moment position from holders book place NoPlace are s r low next w = absurd w
+why_lines classes lines moment position from holders book place (Line n) are s r low next w = absurd w
+why_lines classes lines moment position from holders book place Another are s r low next w = absurd w
+why_lines classes lines moment position from holders book place Classes are s r low next w = absurd w
+why_lines classes lines moment position from holders book place (MayNot n) are s r low next w =
     let h = holder_at holders place in
+    let below : AreLow h.ask book.asks = λ a g. let less = low a g in let above = next.1 in omega (arith, less, above) in
     let holds : alive lines h.ask ≡ Some h.entry = sym (are.each h.ask) ∙ holder_entry holders place are.apart next.0 in
     subst (HoldsAndMayNot classes lines) (sym w.0) (
       h.entry,
@@ -151,8 +155,11 @@ why_lines classes lines moment position holders book place (MayNot n) are s r ne
           | inr b ↦ elim b [
             | inl wide ↦ inr (inr (inl wide))
             | inr d ↦ elim d [
-              | inl used ↦ inr (inr (inr (inl (another lines moment position book h s r next.1 used))))
-              | inr full ↦ inr (inr (inr (inr (too_many classes lines moment position book h s r next.1 holds full))))
+              | inl used ↦ inr (inr (inr (inl (another lines moment position book h r below used))))
+              | inr f ↦ elim f [
+                | inl full ↦ inr (inr (inr (inr (inl (too_many classes lines moment position book h s r below holds full)))))
+                | inr old ↦ inr (inr (inr (inr (inr (not_its_own lines moment position book h r below old)))))
+              ]
             ]
           ]
         ]

@@ -1,12 +1,14 @@
 -- Those that held by the log hold again.
-use Rattle.std.proofs.Common.{◌≡◌, ◌⊎◌, ℕ, zero, suc, ◌+◌, ◌<◌, ◌≤◌, Bool, true, false, nat_eq, if◌then◌else◌, List, [], ◌∷◌, ◌++◌, length, Option, Some, None, refl, sym, ap, ◌∙◌, subst, inl, inr, arith}
+use Rattle.std.proofs.Common.{◌≡◌, ◌≢◌, ◌⊎◌, ℕ, zero, suc, ◌+◌, ◌<◌, ◌≤◌, Bool, true, false, nat_eq, if◌then◌else◌, List, [], ◌∷◌, ◌++◌, length, get_or, Option, Some, None, refl, sym, ap, ◌∙◌, subst, inl, inr, arith}
+use Rattle.std.specs.Prelude.{All, ◌&&◌, not}
 use Rattle.std.proofs.lemmas.Bool.{cases_eq, eq-eqb, ne_eqb, false≢true}
 use Rattle.std.proofs.lemmas.List.Sums.{sum_by_push}
+use Rattle.bay_line.specs.Lines.{nobody}
 use Rattle.bay_book.specs.declared.ask.Ask.{Ask}
 use Rattle.bay_book.specs.declared.ask.Mark.TheVariants.{At}
 use Rattle.bay_book.specs.declared.ask.Stage.{Stage}
-use Rattle.bay_book.specs.declared.ask.Stage.TheVariants.{Waits, Holds}
-use Rattle.bay_book.specs.Asks.{no_ask, is_holding, restored, holds_class}
+use Rattle.bay_book.specs.declared.ask.Stage.TheVariants.{Waits, Holds, Over}
+use Rattle.bay_book.specs.Asks.{no_ask, ask_at, is_holding, is_over, is_waiting, restored, holds_class}
 use Rattle.bay_book.specs.Moments.{common}
 use Rattle.bay_book.specs.Finding.{IsInUse}
 use Rattle.bay_book.specs.Books.{BookView, restore, skip}
@@ -19,8 +21,8 @@ use Rattle.bay.specs.declared.classes.Class.{Class}
 use Rattle.bay.specs.Members.{Has}
 use Rattle.bay.specs.Classes.{class_at, is_within}
 use Rattle.bay.specs.Cores.{IsFreeClass}
-use Rattle.bay.specs.Restoring.{holder_at, IsUnused, MayHold, IsNextTo, AreAlone, Restores, IsRestored, AreRestored, IsThere, AreDone}
-use Rattle.bay.proofs.Members.{place_of, append_cases, append_first, append_second}
+use Rattle.bay.specs.Restoring.{holder_at, IsUnused, IsNewToken, AreLow, MayHold, IsNextTo, AreAlone, Restores, IsRestored, AreRestored, IsThere, AreDone}
+use Rattle.bay.proofs.Members.{has_at, place_of, append_cases, append_first, append_second}
 use Rattle.bay.proofs.Sets.{common_comm}
 
 -- ---- who may hold
@@ -48,10 +50,10 @@ holds_isnt_waits : (s : Stage) → s ≡ Holds → s ≡ Waits → ⊥
 holds_isnt_waits s a b = cc
 
 pub restored_alone : (classes : List Class) (book : BookView) (h : Holder) (moment : ℕ) → MayHold classes book.asks h → AreAlone classes book
-    → AreAlone classes (restore book h.ask h.entry.class h.entry.owner h.entry.limit h.entry.needs h.entry.asked h.entry.since moment)
+    → AreAlone classes (restore book h.ask h.entry.class h.entry.owner h.entry.limit h.entry.needs h.entry.asked h.entry.since moment h.entry.token)
 restored_alone classes book h moment may alone line none =
     let t = alone line none in let asks = book.asks in
-    let v : Ask = restored h.ask h.entry.class h.entry.owner h.entry.limit h.entry.needs h.entry.asked h.entry.since moment book.durable in
+    let v : Ask = restored h.ask h.entry.class h.entry.owner h.entry.limit h.entry.needs h.entry.asked h.entry.since moment h.entry.token book.durable in
     let cases : (a : Ask) → Has (asks ++ v ∷ []) a → (v ≡ a) ⊎ Has asks a = λ a g. elim (append_cases asks (v ∷ []) a g) [
       | inl was ↦ inr was
       | inr now ↦ inl (one_of v a now)
@@ -83,9 +85,9 @@ restored_alone classes book h moment may alone line none =
 
 -- ---- who holds by the lines
 
--- each that holds by these lines, and whose number is below the next
-abbrev pub AreDoneBelow : List Line → BookView → Type 0
-AreDoneBelow lines book = (n : ℕ) (e : Entry) → n < book.next → alive lines n ≡ Some e → IsThere book n e
+-- each that holds by these lines, and whose number is below this
+abbrev pub AreDoneBelow : List Line → ℕ → BookView → Type 0
+AreDoneBelow lines next book = (n : ℕ) (e : Entry) → n < next → alive lines n ≡ Some e → IsThere book n e
 
 if_cases : {X : Type 0} (b : Bool) (x y : Option X) (e : X) → (if b then x else y) ≡ Some e → ((b ≡ true) × (x ≡ Some e)) ⊎ (y ≡ Some e)
 if_cases true x y e h = inl (refl, h)
@@ -122,10 +124,11 @@ holder_entry (x ∷ holders) (suc place) apart inside =
     ]
 
 -- what stays true as one after another holds again
-pub record SoFar (classes : List Class) (lines : List Line) (moment position : ℕ) (book : BookView) : Type 0 where
+pub record SoFar (classes : List Class) (lines : List Line) (moment position next : ℕ) (book : BookView) : Type 0 where
   pub alone : AreAlone classes book
   pub each : AreRestored lines moment position book
-  pub done : AreDoneBelow lines book
+  pub done : AreDoneBelow lines next book
+  pub low : AreLow next book.asks
 
 cases_lt : (j i : ℕ) → (j < i) ⊎ (i ≤ j)
 cases_lt zero zero = inr (omega arith)
@@ -136,13 +139,14 @@ cases_lt (suc j) (suc i) = elim (cases_lt j i) [ inl h ↦ inl (omega (arith, h)
 some_same : (o : Option Entry) (a b : Entry) → o ≡ Some a → o ≡ Some b → a ≡ b
 some_same o a b x y = cc
 
-pub so_far_more : (classes : List Class) (lines : List Line) (moment position : ℕ) (holders : List Holder) (book book' : BookView) (place : ℕ)
-    → AreHolders holders (alive lines) → IsNextTo book.next holders (length holders) (Some place) → Restores (holder_at holders place) moment book book'
-    → AreAlone classes book' → AreRestored lines moment position book → AreDoneBelow lines book → SoFar classes lines moment position book'
-so_far_more classes lines moment position holders book book' place are next r alone each done =
+pub so_far_more : (classes : List Class) (lines : List Line) (moment position from : ℕ) (holders : List Holder) (book book' : BookView) (place : ℕ)
+    → AreHolders holders (alive lines) → IsNextTo from holders (length holders) (Some place) → Restores (holder_at holders place) moment book book'
+    → AreAlone classes book' → AreRestored lines moment position book → AreDoneBelow lines from book → AreLow from book.asks
+    → SoFar classes lines moment position ((holder_at holders place).ask + 1) book'
+so_far_more classes lines moment position from holders book book' place are next r alone each done low =
     let h = holder_at holders place in let asks = book.asks in
-    let v : Ask = restored h.ask h.entry.class h.entry.owner h.entry.limit h.entry.needs h.entry.asked h.entry.since moment book.durable in
-    let new : BookView = restore book h.ask h.entry.class h.entry.owner h.entry.limit h.entry.needs h.entry.asked h.entry.since moment in
+    let v : Ask = restored h.ask h.entry.class h.entry.owner h.entry.limit h.entry.needs h.entry.asked h.entry.since moment h.entry.token book.durable in
+    let new : BookView = restore book h.ask h.entry.class h.entry.owner h.entry.limit h.entry.needs h.entry.asked h.entry.since moment h.entry.token in
     let by_log : alive lines h.ask ≡ Some h.entry = sym (are.each h.ask) ∙ holder_entry holders place are.apart next.0 in
     let each' : AreRestored lines moment position new = (
       each.0,
@@ -152,27 +156,56 @@ so_far_more classes lines moment position holders book book' place are next r al
             (record { holds = refl; told = refl; gone = refl; line = ap (λ n. At n) each.0; by_log = by_log })
       ],
     ) in
-    let done' : AreDoneBelow lines new = λ n e below is. elim (cases_lt n book.next) [
+    let done' : AreDoneBelow lines (h.ask + 1) new = λ n e below is. elim (cases_lt n from) [
       | inl less ↦ let d = done n e less is in (d.0, append_first asks (v ∷ []) d.0 d.1, d.2, d.3)
       | inr more ↦
           let k = find_holder holders n e (are.each n ∙ is) in
           let its = k.2 in
-          let least = next.2 k.0 k.1 (subst (λ m. book.next ≤ m) (sym its) more) in
+          let least = next.2 k.0 k.1 (subst (λ m. from ≤ m) (sym its) more) in
           let same : h.ask ≡ n = omega (arith, least, its, below) in
           (v, append_second asks (v ∷ []) v (inl refl), same, some_same (alive lines n) h.entry e (ap (alive lines) (sym same) ∙ by_log) is)
+    ] in
+    let low' : AreLow (h.ask + 1) new.asks = λ a g. elim (append_cases asks (v ∷ []) a g) [
+      | inl was ↦ let below = low a was in let above = next.1 in omega (arith, below, above)
+      | inr now ↦ subst (λ (c : Ask). c.number < h.ask + 1) (one_of v a now) (omega arith)
     ] in
     record {
       alone = alone;
       each = subst (AreRestored lines moment position) (sym r.1) each';
-      done = subst (AreDoneBelow lines) (sym r.1) done';
+      done = subst (AreDoneBelow lines (h.ask + 1)) (sym r.1) done';
+      low = subst (λ (x : BookView). AreLow (h.ask + 1) x.asks) (sym r.1) low';
     }
 
-pub all_done : (lines : List Line) (holders : List Holder) (book : BookView) → AreHolders holders (alive lines)
-    → IsNextTo book.next holders (length holders) None → AreDoneBelow lines book → AreDone lines book
-all_done lines holders book are none done n e is =
+pub all_done : (lines : List Line) (from : ℕ) (holders : List Holder) (book : BookView) → AreHolders holders (alive lines)
+    → IsNextTo from holders (length holders) None → AreDoneBelow lines from book → AreDone lines book
+all_done lines from holders book are none done n e is =
     let k = find_holder holders n e (are.each n ∙ is) in let its = k.2 in let below = none k.0 k.1 in
     done n e (omega (arith, its, below)) is
 
-pub skipped_alone : (classes : List Class) (book : BookView) (next : ℕ) → AreAlone classes book → AreAlone classes (skip book next)
-skipped_alone classes book next alone line none =
+-- nobody waits
+stage_waits : (s : Stage) → (s ≡ Waits → ⊥) → (not (is_holding s) && not (is_over s)) ≡ false
+stage_waits Waits h = absurd (h refl)
+stage_waits Holds h = refl
+stage_waits (Over how) h = refl
+
+pub nobody_waits : (classes : List Class) (book : BookView) → AreAlone classes book → All (λ (a : Ask). is_waiting a ≡ false) book.asks
+nobody_waits classes book alone k d inside =
+    let a = get_or book.asks k d in
+    let t = alone (nobody 0 0) refl in
+    stage_waits a.stage (λ waits. (t.in_line a (has_at book.asks k d inside) waits).1)
+
+pub all_low : (n : ℕ) (asks : List Ask) → AreLow n asks → All (λ (a : Ask). a.number < n) asks
+all_low n asks low k d inside = low (get_or asks k d) (has_at asks k d inside)
+
+pub all_new : (token : ℕ) (asks : List Ask) → IsNewToken asks token → All (λ (a : Ask). a.token ≢ token) asks
+all_new token asks is k d inside = is.new (get_or asks k d) (has_at asks k d inside)
+
+pub new_by : (token : ℕ) (asks : List Ask) → 1 ≤ token → ((k : ℕ) → k < length asks → (ask_at asks k).token ≢ token) → IsNewToken asks token
+new_by token asks some new = record {
+  some = some;
+  new = λ b h. let p = place_of asks b no_ask h in subst (λ (c : Ask). c.token ≢ token) p.2 (new p.0 p.1);
+}
+
+pub skipped_alone : (classes : List Class) (book : BookView) (next granted : ℕ) → AreAlone classes book → AreAlone classes (skip book next granted)
+skipped_alone classes book next granted alone line none =
     let t = alone line none in record { in_line = t.in_line; by_book = t.by_book; apart = t.apart; few = t.few; within = t.within }

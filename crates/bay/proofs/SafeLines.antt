@@ -30,6 +30,7 @@ use Rattle.bay.specs.Giving.{Kept, given_line, end_line, hold_line, how_over, Gi
 use Rattle.bay.specs.Safe.{AreSafe, StaySafe, HavePlaces}
 use Rattle.bay.specs.Keeping.{StaysSafe, IsAsBefore, GivesOnly, GivenIsWritten}
 use Rattle.bay.proofs.Members.{place_of}
+use Rattle.bay.proofs.Tokens.{has_token, one_token}
 use Rattle.bay.proofs.LogLines.{count_no, base_more, alive_more, stands_alive}
 use Rattle.bay.proofs.GivingLines.{still_none}
 use Rattle.bay.proofs.WrittenLines.{Both, once_end, once_hold}
@@ -219,6 +220,12 @@ safe_now classes line lines x s t by = record {
             (eq-eqb a.ask.class k (ap (λ (y : Entry). y.class) a.entry ∙ place.2));
       }) in
       let room = t.few k in omega (arith, le, room);
+  some = λ n e he. let a = by n e he in subst (λ (y : Entry). 1 ≤ y.token) a.entry (has_token x a.ask s a.has a.holds);
+  tokens = λ n m e f he hf ne same.
+      let a = by n e he in let b = by m f hf in
+      let token : a.ask.token ≡ b.ask.token =
+      ap (λ (y : Entry). y.token) a.entry ∙ (same ∙ ap (λ (y : Entry). y.token) (sym b.entry)) in
+      ne (sym a.number ∙ (ap (λ (c : Ask). c.number) (one_token x a.ask b.ask s a.has b.has (has_token x a.ask s a.has a.holds) token) ∙ b.number));
 }
 
 -- fewer hold
@@ -228,6 +235,8 @@ fewer_safe classes lines more back s = record {
   apart = λ n m e f he hf ne. s.apart n m e f (back n e he) (back m f hf) ne;
   within = λ n e he. s.within n e (back n e he);
   few = λ k numbers have. s.few k numbers (have.0, λ i d inside. let place = have.1 i d inside in (place.0, back (get_or numbers i d) place.0 place.1, place.2));
+  some = λ n e he. s.some n e (back n e he);
+  tokens = λ n m e f he hf ne. s.tokens n m e f (back n e he) (back m f hf) ne;
 }
 
 pub always_more : (classes : List Class) (lines : List Line) (line : Line) (durable : ℕ) → is_none lines ≡ false → StaySafe classes lines durable
@@ -349,14 +358,16 @@ only_steps (suc n) x y g = only_step x g.0 y g.2 (only_steps n x g.0 g.1)
 
 -- ---- a bay that begins, and notes
 
-none_alive : (bay : List ℕ) (base next n : ℕ) (e : Entry) → alive (Head bay base next ∷ []) n ≡ Some e → ⊥
-none_alive bay base next n e h = cc
+none_alive : (bay : List ℕ) (base next granted n : ℕ) (e : Entry) → alive (Head bay base next granted ∷ []) n ≡ Some e → ⊥
+none_alive bay base next granted n e h = cc
 
 safe_none : (classes : List Class) (lines : List Line) → ((n : ℕ) (e : Entry) → alive lines n ≡ Some e → ⊥) → AreSafe classes lines
 safe_none classes lines none = record {
   apart = λ n m e f he hf ne. absurd (none n e he);
   within = λ n e he. absurd (none n e he);
   few = few_none;
+  some = λ n e he. absurd (none n e he);
+  tokens = λ n m e f he hf ne. absurd (none n e he);
 }
   where
     few_none : (k : ℕ) (numbers : List ℕ) → HavePlaces lines k numbers → length numbers ≤ (class_at classes k).places
@@ -373,14 +384,14 @@ some_of_one head (f ∷ front) rest h = elim (beginnings (f ∷ front) rest [] h
     not_empty : (f : Line) (front rest : List Line) → [] ≡ (f ∷ front) ++ rest → ⊥
     not_empty f front rest h = cc
 
-safe_fresh : (classes : List Class) (bay : List ℕ) (base next durable : ℕ) → base ≤ durable → StaySafe classes (Head bay base next ∷ []) durable
-safe_fresh classes bay base next durable le = record {
+safe_fresh : (classes : List Class) (bay : List ℕ) (base next granted durable : ℕ) → base ≤ durable → StaySafe classes (Head bay base next granted ∷ []) durable
+safe_fresh classes bay base next granted durable le = record {
   sure = [];
-  begins = (Head bay base next ∷ [], refl);
+  begins = (Head bay base next granted ∷ [], refl);
   within = omega (arith, le);
-  safe = λ front b from. elim (some_of_one (Head bay base next) front b.0 b.1) [
+  safe = λ front b from. elim (some_of_one (Head bay base next granted) front b.0 b.1) [
     | inl none ↦ subst (AreSafe classes) (sym none) (safe_none classes [] (λ n e h. nobody_alive n e h))
-    | inr all ↦ subst (AreSafe classes) (sym all) (safe_none classes (Head bay base next ∷ []) (none_alive bay base next))
+    | inr all ↦ subst (AreSafe classes) (sym all) (safe_none classes (Head bay base next granted ∷ []) (none_alive bay base next granted))
   ];
 }
   where
@@ -395,7 +406,7 @@ safe_note classes lines ask text durable are safe =
 
 pub stays_safe : StaysSafe
 stays_safe = record {
-  once_begins = λ bay base next n. omega arith;
+  once_begins = λ bay base next granted n. omega arith;
   once_note = λ lines ask text once n. subst (λ k. k ≤ 1) (sym (count_no (begins n) lines (Note ask text) refl)) (once n);
   safe_begins = safe_fresh;
   safe_note = safe_note;

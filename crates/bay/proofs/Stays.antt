@@ -59,7 +59,7 @@ begun_more [] line = refl
 begun_more (x ∷ lines) line = refl
 
 pub sound_given_line : (x : Kept) (place : ℕ) (line : Line) → IsSound x.book → place < length x.book.asks → IsSound (given_line x place line).book
-sound_given_line x place line s inside = sound_set x.book place (given (end_of (adding x.log line)) (ask_at x.book.asks place)) inside refl
+sound_given_line x place line s inside = sound_set x.book place (given (end_of (adding x.log line)) (ask_at x.book.asks place)) inside refl refl (omega arith)
     (sound_given x.book.durable (end_of (adding x.log line)) (ask_at x.book.asks place) (s.each place no_ask inside)) s
 
 pub both_end : (x y : Kept) → GivesEnd x y → Both x → Both y

@@ -1,5 +1,5 @@
 -- Steps one after another.
-use Rattle.std.proofs.Common.{◌≡◌, ℕ, zero, suc, ◌<◌, Bool, true, false, not, if◌then◌else◌, List, length, sym, ap, ◌∙◌, subst, inl, inr, arith}
+use Rattle.std.proofs.Common.{◌≡◌, ℕ, zero, suc, ◌+◌, ◌<◌, Bool, true, false, not, if◌then◌else◌, List, length, sym, ap, ◌∙◌, subst, inl, inr, arith}
 use Rattle.std.specs.List.{count_by}
 use Rattle.bay_book.specs.declared.ask.Ask.{Ask}
 use Rattle.bay_book.specs.declared.ask.End.{End}
@@ -31,7 +31,7 @@ if_true b e = ap one_if e
 pub in_open : (classes : List Class) (now : ℕ) (keeps : Bool) (old new : Core) → LetsIn classes now keeps old new
     → count_by is_open new.book.asks ≡ count_by is_open old.book.asks
 in_open classes now keeps old new l =
-    let e = count_set is_open old.book.asks l.place (holding l.it.needs now keeps (ask_at old.book.asks l.place)) l.inside in
+    let e = count_set is_open old.book.asks l.place (holding l.it.needs now keeps (old.book.granted + 1) (ask_at old.book.asks l.place)) l.inside in
     let one = if_true (is_open (ask_at old.book.asks l.place)) (open_waits (ask_at old.book.asks l.place).stage l.waits) in
     ap (λ (b : BookView). count_by is_open b.asks) l.book ∙ omega (arith, e, one)
 

@@ -109,7 +109,7 @@ pub let_in_tied : (classes : List Class) (x : Core) (now : ℕ) (keeps : Bool) (
     → (ask_at x.book.asks place).number ≡ it.ask → (ask_at x.book.asks place).stage ≡ Waits → IsTied classes x
     → IsTied classes (in_core x it free place now keeps)
 let_in_tied classes x now keeps used free in_line it place s are_used are_free next inside number waits t =
-    let asks = x.book.asks in let a0 = ask_at asks place in let v : Ask = holding it.needs now keeps a0 in let w0 = wish_at x.line.wishes in_line in
+    let asks = x.book.asks in let a0 = ask_at asks place in let v : Ask = holding it.needs now keeps (x.book.granted + 1) a0 in let w0 = wish_at x.line.wishes in_line in
     let has0 : Has asks a0 = has_at asks place no_ask inside in
     let its = t.by_book w0 (has_at x.line.wishes in_line no_wish next.first.0) in
     let is : its.0 ≡ a0 = same_ask x.book its.0 a0 s its.1 has0 (its.3.number ∙ (sym next.ask ∙ sym number)) in

@@ -72,7 +72,7 @@ if_some true x u y h = inl refl
 if_some false x u y h = inr h
 
 began_line : (held : ℕ → Option Entry) (line : Line) (n : ℕ) (e : Entry) → after held line n ≡ Some e → (held n ≡ Some e) ⊎ (begins n line ≡ true)
-began_line held (Head bay base next) n e h = inl h
+began_line held (Head bay base next granted) n e h = inl h
 began_line held (Hold ask entry) n e h = elim (if_some (n == ask) e (Some entry) (held n) h) [ inl so ↦ inr so | inr was ↦ inl was ]
 began_line held (Back from to) n e h = elim (if_some (n == to) e (held from) (if n == from then None else held n) h) [
   | inl so ↦ inr so

@@ -110,7 +110,7 @@ same_option (Some x) b f g = sym (f x refl)
 -- the head stays the first line
 of_push : (head : List ℕ) (lines : List Line) (line : Line) → IsOf head lines → IsOf head (lines ++ line ∷ [])
 of_push head [] line h = absurd h
-of_push head (Head bay base next ∷ lines) line h = h
+of_push head (Head bay base next granted ∷ lines) line h = h
 of_push head (HoldLine ask entry ∷ lines) line h = absurd h
 of_push head (Back from to ∷ lines) line h = absurd h
 of_push head (EndLine ask how at ∷ lines) line h = absurd h
@@ -128,14 +128,14 @@ of_filled head log asks (suc n) h =
 
 bay_is : (head : List ℕ) (lines : List Line) → IsOf head lines → bay_of lines ≡ head
 bay_is head [] h = absurd h
-bay_is head (Head bay base next ∷ lines) h = h
+bay_is head (Head bay base next granted ∷ lines) h = h
 bay_is head (HoldLine ask entry ∷ lines) h = absurd h
 bay_is head (Back from to ∷ lines) h = absurd h
 bay_is head (EndLine ask how at ∷ lines) h = absurd h
 bay_is head (Note ask text ∷ lines) h = absurd h
 
 after_bound : (line : Line) → after_line line ≤ bound_of line
-after_bound (Head bay base next) = omega arith
+after_bound (Head bay base next granted) = omega arith
 after_bound (HoldLine ask entry) = omega arith
 after_bound (Back from to) = omega arith
 after_bound (EndLine ask how at) = omega arith

@@ -7,7 +7,7 @@ use Rattle.bay_book.specs.declared.ask.Mark.TheVariants.{None as NoLine, At}
 use Rattle.bay_book.specs.declared.ask.Stage.TheVariants.{Holds}
 use Rattle.bay_book.specs.Asks.{ask_at, no_ask, is_over, holding, over, gone_since, back_again, hearing, IsSoundAt, IsSoundAsk}
 use Rattle.bay_book.specs.Books.{BookView, IsSound, turn, reach, nobody}
-use Rattle.bay_book.proofs.Sound.{sound_set, sound_add, sound_holding, sound_over, sound_gone, sound_back, sound_hearing, sound_turn, sound_purge}
+use Rattle.bay_book.proofs.Sound.{sound_set, sound_add, sound_holding, sound_over, sound_gone, sound_back, sound_hearing, sound_turn, sound_purge, sound_hold}
 use Rattle.bay_log.specs.declared.line.Entry.{Entry}
 use Rattle.bay_log.specs.declared.line.Line.{Line}
 use Rattle.bay_log.specs.declared.line.Line.TheVariants.{Head, Hold as HoldLine, Back, End as EndLine, Note}
@@ -55,37 +55,36 @@ whole_kept lines durable = record {
         same = t.same;
       };
   holds = λ x place needs now inside w t.
-      let a = ask_at x.asks place in
       record {
-        sound = sound_set x place (holding needs now true a) inside refl (sound_holding x.durable needs now true a w (t.sound.each place no_ask inside)) t.sound;
+        sound = sound_hold x place needs now true inside w t.sound;
         written = written_hold lines x place needs now true t.sound inside w refl t.written;
         same = t.same;
       };
   ends = λ x place how now inside goes t.
       let a = ask_at x.asks place in
       record {
-        sound = sound_set x place (over how now a) inside refl (sound_over x.durable how now a) t.sound;
+        sound = sound_set x place (over how now a) inside refl refl (omega arith) (sound_over x.durable how now a) t.sound;
         written = written_over lines x place how now t.sound inside goes t.written;
         same = t.same;
       };
   goes = λ x place moment inside t.
       let a = ask_at x.asks place in
       record {
-        sound = sound_set x place (gone_since moment a) inside refl (sound_gone x.durable moment a (t.sound.each place no_ask inside)) t.sound;
+        sound = sound_set x place (gone_since moment a) inside refl refl (omega arith) (sound_gone x.durable moment a (t.sound.each place no_ask inside)) t.sound;
         written = written_gone lines x place moment t.sound inside t.written;
         same = t.same;
       };
   comes = λ x place inside t.
       let a = ask_at x.asks place in
       record {
-        sound = sound_set x place (back_again a) inside refl (sound_back x.durable a (t.sound.each place no_ask inside)) t.sound;
+        sound = sound_set x place (back_again a) inside refl refl (omega arith) (sound_back x.durable a (t.sound.each place no_ask inside)) t.sound;
         written = written_back lines x place t.sound inside t.written;
         same = t.same;
       };
   hears = λ x place what inside due t.
       let a = ask_at x.asks place in
       record {
-        sound = sound_set x place (hearing what a) inside refl (sound_hearing x.durable a what due (t.sound.each place no_ask inside)) t.sound;
+        sound = sound_set x place (hearing what a) inside refl refl (omega arith) (sound_hearing x.durable a what due (t.sound.each place no_ask inside)) t.sound;
         written = written_heard lines x place what t.sound inside t.written;
         same = t.same;
       };
@@ -225,7 +224,7 @@ at_isnt_none : (m : Mark) (p : ℕ) → m ≡ At p → m ≡ NoLine → ⊥
 at_isnt_none m p a b = cc
 
 bound_by : (line : Line) (next : ℕ) → after_line line ≤ next → bound_of line ≤ 18446744073709551615 → bound_of line ≤ next
-bound_by (Head bay base after) next le fits = le
+bound_by (Head bay base after granted) next le fits = le
 bound_by (HoldLine ask entry) next le fits = omega (arith, le, fits)
 bound_by (Back from to) next le fits = omega (arith, le, fits)
 bound_by (EndLine ask how at) next le fits = omega (arith, le, fits)
@@ -272,12 +271,12 @@ pub stays_whole : StaysWhole
 stays_whole = record {
   opens = λ classes terms limit most head x room log.
       let book : x.room.book ≡ nobody = ap (λ (r : RoomView). r.book) room in
-      let lines : x.log.lines ≡ (beginning head 0 0).lines = ap (λ (l : LogView). l.lines) log in
+      let lines : x.log.lines ≡ (beginning head 0 0 0).lines = ap (λ (l : LogView). l.lines) log in
       record {
         written = subst (λ (l : List Line). IsWritten l x.room.book) (sym lines)
-            (subst (IsWritten (beginning head 0 0).lines) (sym book) (written_fresh head 0 0 0));
+            (subst (IsWritten (beginning head 0 0 0).lines) (sym book) (written_fresh head 0 0 0 0));
         safe = subst (λ (l : List Line). StaySafe x.room.classes l x.room.book.durable) (sym lines)
-            (stays_safe.safe_begins x.room.classes head 0 0 x.room.book.durable (omega arith));
+            (stays_safe.safe_begins x.room.classes head 0 0 0 x.room.book.durable (omega arith));
       };
   calls = whole_calls;
   back = λ classes terms limit most head bytes now used x k r below.

@@ -1,5 +1,5 @@
 -- What the log says of the asks stays what the book does.
-use Rattle.std.proofs.Common.{◌≡◌, ◌≢◌, ◌⊎◌, ℕ, ◌<◌, ◌≤◌, Bool, true, false, not, ◌&&◌, List, [], ◌∷◌, ◌++◌, length, Option, refl, sym, ap, ◌∙◌, subst, inl, inr, arith}
+use Rattle.std.proofs.Common.{◌≡◌, ◌≢◌, ◌⊎◌, ℕ, ◌+◌, ◌<◌, ◌≤◌, Bool, true, false, not, ◌&&◌, List, [], ◌∷◌, ◌++◌, length, Option, refl, sym, ap, ◌∙◌, subst, inl, inr, arith}
 use Rattle.std.specs.Prelude.{◌||◌, is_some}
 use Rattle.std.specs.List.{count_by}
 use Rattle.std.proofs.lemmas.Bool.{cases_eq, false≢true}
@@ -11,7 +11,7 @@ use Rattle.bay_book.specs.declared.ask.Outcome.{Outcome}
 use Rattle.bay_book.specs.declared.ask.Stage.{Stage}
 use Rattle.bay_book.specs.declared.ask.Stage.TheVariants.{Waits, Holds, Over}
 use Rattle.bay_book.specs.Asks.{ask_at, no_ask, is_over, is_owed, kept_mark, end_mark, given_mark, asker, holding, over, gone_since, back_again, hearing, is_done, has_heard_end, has_left, IsSoundAt, IsSoundAsk}
-use Rattle.bay_book.specs.Books.{BookView, IsSound, with_ask, add, reach, purge}
+use Rattle.bay_book.specs.Books.{BookView, IsSound, with_ask, add, hold, reach, purge}
 use Rattle.bay_log.specs.declared.line.Line.{Line}
 use Rattle.bay_log.specs.declared.line.Line.TheVariants.{Head, Note}
 use Rattle.bay_log.specs.Lines.{is_none}
@@ -187,13 +187,13 @@ written_heard lines x place what s inside w =
 -- it holds, and owes a line
 pub written_hold : (lines : List Line) (x : BookView) (place needs now : ℕ) (keeps : Bool) → IsSound x → place < length x.asks
     → (ask_at x.asks place).stage ≡ Waits → keeps ≡ true → IsWritten lines x
-    → IsWritten lines (with_ask x place (holding needs now keeps (ask_at x.asks place)))
+    → IsWritten lines (hold x place needs now keeps)
 written_hold lines x place needs now false s inside waits k w = absurd (false≢true k)
 written_hold lines x place needs now true s inside waits k w =
     let a0 = ask_at x.asks place in
     let sound : IsSoundAsk x.durable a0 = s.each place no_ask inside in
     let none : a0.hold_line ≡ NoLine = waits_none x.durable a0 sound waits in
-    written_set lines x place (holding needs now true a0) s inside
+    let r = written_set lines x place (holding needs now true (x.granted + 1) a0) s inside
     (record {
       number = refl;
       hold = λ at h. absurd (at_isnt_due Due at refl h);
@@ -203,7 +203,8 @@ written_hold lines x place needs now true s inside waits k w =
       given = sym (ap is_given none);
       kept = λ h. due_isnt_none Due refl;
       ends = λ o m. absurd (false≢true o);
-    }) w
+    }) w in
+    record { stand = r.stand; only = r.only; kept = r.kept; ends = r.ends; unused = r.unused; below = r.below }
 
 -- it is over, and owes a line of that if one was given that it holds
 pub written_over : (lines : List Line) (x : BookView) (place : ℕ) (how : HowOver) (now : ℕ) → IsSound x → place < length x.asks
@@ -296,8 +297,8 @@ written_purge lines x w =
 
 -- ---- a fresh bay, and a note
 
-pub written_fresh : (bay : List ℕ) (base next durable : ℕ) → IsWritten (Head bay base next ∷ []) (starting next durable)
-written_fresh bay base next durable = record {
+pub written_fresh : (bay : List ℕ) (base next granted durable : ℕ) → IsWritten (Head bay base next granted ∷ []) (starting next granted durable)
+written_fresh bay base next granted durable = record {
   stand = λ a at h m e. absurd h;
   only = λ n e h. let no : ⊥ = cc in absurd no;
   kept = λ a h holds. absurd h;

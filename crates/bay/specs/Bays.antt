@@ -32,7 +32,7 @@ use Rattle.bay_log.specs.declared.line.Line.{Line}
 use Rattle.bay_log.specs.Laws.{BeginsWith}
 use Rattle.bay.specs.Rooms.{IsOpened, with_book, Stops, Tells, reached, IsKept as IsKeptRoom}
 use Rattle.bay.specs.LineLaws.{IsCall}
-use Rattle.bay.specs.Restoring.{IsOf, IsBack, IsThere}
+use Rattle.bay.specs.Restoring.{IsOf, IsBack, IsThere, token_of}
 use Rattle.bay.specs.Pages.{entry_of, pages, Writes as WritesOwed}
 use Rattle.bay.specs.Turning.{Turns}
 pub use Rattle.bay.specs.BayViews.{BayView}
@@ -129,6 +129,29 @@ abbrev pub PastStaysPast : Type 0
 PastStaysPast =
     (old new : BayView) (number : ℕ) → IsKept old → IsBayCall old new → IsPast old.room.book old.log.lines number → IsPast new.room.book new.log.lines number
 
+-- ---- tokens outlive a crash
+
+-- a line that ended where the file is durable by the book, or before, says this token, or a larger one
+pub record IsSure (x : BayView) (token : ℕ) : Type 0 where
+  pub front : List Line
+  pub begins : BeginsWith x.log.lines front
+  pub within : base_of x.log.lines + length (log_text front) ≤ x.room.book.durable
+  pub line : Line
+  pub has : Has front line
+  pub its : token ≤ token_of line
+
+-- The token of whoever was told that it holds is sure, from then on, whatever is called, also when the ask isn't in the book any more. Whatever is left of the
+-- file after a crash, if it has all that is durable by the book: in the bay that comes back from it no sure token is larger than the largest so far. So whoever
+-- is let in there has a larger one than everybody that was ever told that it holds
+pub record TokensOutlive (x : BayView) : Type 0 where
+  pub told :
+      (a : Ask) (position : ℕ) → Has x.room.book.asks a → a.stage ≡ Holds → a.heard ≡ HeardHolds → a.hold_line ≡ At position → IsSure x a.token
+  pub stays : (new : BayView) (token : ℕ) → IsBayCall x new → IsSure x token → IsSure new token
+  pub back :
+      (token : ℕ) → IsSure x token → (classes : List Class) (terms : Terms) (limit most : ℕ) (head file lost : List ℕ) (now used : ℕ) (y : BayView)
+      → log_text x.log.lines ≡ file ++ lost → x.room.book.durable ≤ base_of x.log.lines + length file
+      → Resumes classes terms limit most head file now y used → token ≤ y.room.book.granted
+
 -- ---- a bay comes back from its own lines
 
 -- the log says of the asks what the book does, but for lines that are owed; and its lines are safe, wherever they are cut at or behind what is durable
@@ -141,7 +164,7 @@ pub record IsWhole (x : BayView) : Type 0 where
 pub record StaysWhole : Type 0 where
   pub opens :
       (classes : List Class) (terms : Terms) (limit most : ℕ) (head : List ℕ) (x : BayView) → IsOpened classes terms limit most x.room
-      → x.log ≡ beginning head 0 0 → IsWhole x
+      → x.log ≡ beginning head 0 0 0 → IsWhole x
   pub calls : (old new : BayView) → IsKept old → IsKept new → old.room.terms.keeps ≡ true → IsBayCall old new → IsWhole old → IsWhole new
   pub back :
       (classes : List Class) (terms : Terms) (limit most : ℕ) (head bytes : List ℕ) (now used : ℕ) (x : BayView) → IsKept x

@@ -26,8 +26,8 @@ use Rattle.bay.specs.Giving.{Kept, GivesLines}
 use Rattle.bay.specs.Safe.{StaySafe}
 
 -- a book in which nobody is
-abbrev pub starting : ℕ → ℕ → BookView
-starting next durable = record { asks = []; next = next; durable = durable }
+abbrev pub starting : ℕ → ℕ → ℕ → BookView
+starting next granted durable = record { asks = []; next = next; granted = granted; durable = durable }
 
 -- a call of a bay that keeps a log, by which no line is given
 abbrev pub GivesNone : Call → Type 0
@@ -44,7 +44,7 @@ GivesNone Purge = Unit {0}
 
 -- The log says of the asks what the book does: in a bay that begins, after each call of the book, and after a note.
 pub record StaysWritten : Type 0 where
-  pub begins : (bay : List ℕ) (base next durable : ℕ) → IsWritten (Head bay base next ∷ []) (starting next durable)
+  pub begins : (bay : List ℕ) (base next granted durable : ℕ) → IsWritten (Head bay base next granted ∷ []) (starting next granted durable)
   pub call :
       (lines : List Line) (x : BookView) (call : Call) → IsSound x → IsAllowed x call → GivesNone call → IsWritten lines x
       → IsWritten lines (after_call x call)
@@ -54,9 +54,11 @@ pub record StaysWritten : Type 0 where
 
 -- Each ask begins at most once by the lines, and they are safe: in a bay that begins, after a note, and when more of them is durable.
 pub record StaysSafe : Type 0 where
-  pub once_begins : (bay : List ℕ) (base next : ℕ) → BeginOnce (Head bay base next ∷ [])
+  pub once_begins : (bay : List ℕ) (base next granted : ℕ) → BeginOnce (Head bay base next granted ∷ [])
   pub once_note : (lines : List Line) (ask : ℕ) (text : List ℕ) → BeginOnce lines → BeginOnce (lines ++ Note ask text ∷ [])
-  pub safe_begins : (classes : List Class) (bay : List ℕ) (base next durable : ℕ) → base ≤ durable → StaySafe classes (Head bay base next ∷ []) durable
+  pub safe_begins :
+      (classes : List Class) (bay : List ℕ) (base next granted durable : ℕ) → base ≤ durable
+      → StaySafe classes (Head bay base next granted ∷ []) durable
   pub safe_note :
       (classes : List Class) (lines : List Line) (ask : ℕ) (text : List ℕ) (durable : ℕ) → AreLines (lines ++ Note ask text ∷ [])
       → StaySafe classes lines durable

@@ -27,6 +27,12 @@ pub record IsWellHeld (x : RoomView) : Type 0 where
   pub places : (k : ℕ) → count_by (holds_class k) x.book.asks ≤ (class_at x.classes k).places
   pub allowed : (a : Ask) → HoldsIn x.book a → is_within (class_at x.classes a.class).uses a.needs ≡ true
 
+-- Of two asks that hold, or held, tokens differ; whoever holds has one; and none is larger than the largest so far
+pub record HaveTokens (x : BookView) : Type 0 where
+  pub differ : (a b : Ask) → Has x.asks a → Has x.asks b → 1 ≤ a.token → a.token ≡ b.token → a ≡ b
+  pub holds : (a : Ask) → HoldsIn x a → 1 ≤ a.token
+  pub within : (a : Ask) → Has x.asks a → a.token ≤ x.granted
+
 -- ---- who holds goes on to hold
 
 -- the ask is over, since its time was over, with as much of the journal durable as now
@@ -42,7 +48,7 @@ HoldsOn classes terms now book a = Has book.asks a ⊎ EndedInTime classes terms
 abbrev pub WaitsOn : List Class → Terms → ℕ → BookView → Ask → Type 0
 WaitsOn classes terms now book a =
     Has book.asks a ⊎ ((is_past now a.deadline ≡ true) × Has book.asks (over Lapsed now a))
-    ⊎ ((needs : ℕ) × HoldsOn classes terms now book (holding needs now terms.keeps a))
+    ⊎ ((needs : ℕ) × (token : ℕ) × HoldsOn classes terms now book (holding needs now terms.keeps token a))
 
 -- any call but one of the ask with this number
 abbrev pub IsCallOfOthers : ℕ → ℕ → RoomView → RoomView → Type 0

@@ -1,15 +1,18 @@
--- For readers: what holds of everybody who waits, and of numbers.
-use Rattle.std.specs.Prelude.{◌≡◌, ◌⊎◌, ℕ, ◌<◌, ◌≤◌, List, length, Some}
+-- For readers: what holds of everybody who waits, of numbers and of tokens.
+use Rattle.std.specs.Prelude.{◌≡◌, ◌⊎◌, ℕ, ◌<◌, ◌≤◌, List, length, Option, Some}
 use Rattle.bay_line.specs.declared.wish.Wish.{Wish}
 use Rattle.bay_line.specs.Bounds.{Waits}
 use Rattle.bay_line.specs.Chains.{HasWholeReason}
+use Rattle.bay_book.specs.declared.ask.Ask.{Ask}
 use Rattle.bay_book.specs.declared.ask.End.{End}
 use Rattle.bay_book.specs.Finding.{IsInUse}
+use Rattle.bay_book.specs.Books.{BookView}
 use Rattle.bay.specs.declared.request.Request.{Request}
+use Rattle.bay.specs.declared.telling.Told.{Told}
 use Rattle.bay.specs.Members.{Has}
 use Rattle.bay.specs.Cores.{Core, AreFree}
 use Rattle.bay.specs.Views.{RoomView, GoesOn}
-use Rattle.bay.specs.Rooms.{IsKept, Asks, Ends, Leaves, Goes, ComesBack, Passes}
+use Rattle.bay.specs.Rooms.{IsKept, Asks, Ends, Leaves, Goes, ComesBack, Passes, Stops, Tells}
 
 -- ---- who waits
 
@@ -51,3 +54,19 @@ NobodyWaitsForNothing = (old new : RoomView) (now : ℕ) (mid : Core) → GoesOn
 pub record NumbersRise : Type 0 where
   pub asks : (old new : RoomView) (sets : List ℕ) (r : Request) (now : ℕ) → Asks sets r now old new → (old.book.next ≤ r.number) × (r.number < new.book.next)
   pub calls : (old new : RoomView) (now : ℕ) → IsCall now old new → old.book.next ≤ new.book.next
+
+-- ---- tokens
+
+-- the ask has the number and the token of one that was in the book
+abbrev pub HadToken : List Ask → Ask → Type 0
+HadToken asks b = (a : Ask) × Has asks a × (a.number ≡ b.number) × (a.token ≡ b.token)
+
+-- the largest token so far is no less than before; and each ask has the token that it had; or it has none; or it is larger than all that were given before
+pub record Rises (old new : BookView) : Type 0 where
+  pub largest : old.granted ≤ new.granted
+  pub each : (b : Ask) → Has new.asks b → HadToken old.asks b ⊎ (b.token ≡ 0) ⊎ (old.granted < b.token)
+
+-- so it is with each call: whoever is let in by it has a larger token than everybody that was let in before
+pub record TokensRise : Type 0 where
+  pub calls : (old new : RoomView) (now : ℕ) → IsCall now old new ⊎ Stops now old new → Rises old.book new.book
+  pub tells : (old new : RoomView) (done : ℕ) (told : Option Told) → Tells done old told new → Rises old.book new.book

@@ -23,7 +23,7 @@ use Rattle.bay.specs.Members.{Has}
 
 -- what an ask holds, as the log says it
 abbrev pub entry_of : Ask → Entry
-entry_of a = record { class = a.class; needs = a.needs; owner = a.owner; since = a.since; limit = a.limit; asked = a.asked }
+entry_of a = record { class = a.class; needs = a.needs; owner = a.owner; since = a.since; limit = a.limit; asked = a.asked; token = a.token }
 
 abbrev pub how_of : End → How
 how_of LetGo = hows.LetGo

@@ -25,11 +25,15 @@ use Rattle.bay.specs.Safe.{HavePlaces}
 abbrev pub IsUsed : List Ask → ℕ → Type 0
 IsUsed asks needs = (b : Ask) × Has asks b × (is_holding b.stage ≡ true) × (common needs b.needs ≡ true)
 
--- there is no such class; or it may not use one of the instruments; or somebody holds one; or the class has no place left
+-- it is no token, or somebody has it
+abbrev pub IsOldToken : List Ask → ℕ → Type 0
+IsOldToken asks token = (token ≡ 0) ⊎ ((b : Ask) × Has asks b × (b.token ≡ token))
+
+-- there is no such class; or it may not use one of the instruments; or somebody holds one; or the class has no place left; or it has no token, or another's
 abbrev pub MayNotHold : List Class → List Ask → Holder → Type 0
 MayNotHold classes asks h =
     (length classes ≤ h.entry.class) ⊎ (is_within (class_at classes h.entry.class).uses h.entry.needs ≡ false) ⊎ IsUsed asks h.entry.needs
-    ⊎ (IsFreeClass classes asks h.entry.class → ⊥)
+    ⊎ (IsFreeClass classes asks h.entry.class → ⊥) ⊎ IsOldToken asks h.entry.token
 
 -- there is no memory; or this one has the last of all numbers, or may not hold
 abbrev pub IsWhyNotOne : List Class → List Ask → Holder → NotBack → Type 0
@@ -46,18 +50,22 @@ IsWhyNotOne classes asks h (MayNot n) = (n ≡ h.ask) × ((h.ask ≡ 18446744073
 abbrev pub AnotherHolds : List line.Line → ℕ → Entry → Type 0
 AnotherHolds lines n e = (m : ℕ) × (f : Entry) × (alive lines m ≡ Some f) × (n ≢ m) × (common e.needs f.needs ≡ true)
 
+-- by these lines it has no token, or another that holds has it
+abbrev pub HasNoTokenOfItsOwn : List line.Line → ℕ → Entry → Type 0
+HasNoTokenOfItsOwn lines n e = (e.token ≡ 0) ⊎ ((m : ℕ) × (f : Entry) × (alive lines m ≡ Some f) × (n ≢ m) × (e.token ≡ f.token))
+
 -- by these lines more hold of its class than it has places, and this is one of them
 abbrev pub TooManyHold : List Class → List line.Line → ℕ → Entry → Type 0
 TooManyHold classes lines n e =
     (numbers : List ℕ) × HavePlaces lines e.class numbers × Has numbers n × ((class_at classes e.class).places < length numbers)
 
 -- by these lines the ask holds; and it has the last of all numbers, which is never given; or there is no such class; or the class may not use one of its
--- instruments; or another holds one; or too many of its class hold
+-- instruments; or another holds one; or too many of its class hold; or it has no token of its own
 abbrev pub HoldsAndMayNot : List Class → List line.Line → ℕ → Type 0
 HoldsAndMayNot classes lines n =
     (e : Entry) × (alive lines n ≡ Some e)
     × ((n ≡ 18446744073709551615) ⊎ (length classes ≤ e.class) ⊎ (is_within (class_at classes e.class).uses e.needs ≡ false) ⊎ AnotherHolds lines n e
-    ⊎ TooManyHold classes lines n e)
+    ⊎ TooManyHold classes lines n e ⊎ HasNoTokenOfItsOwn lines n e)
 
 -- there are more than 32 classes; or there is no memory; or this one holds by the lines, and may not
 abbrev pub IsWhyNotRestored : List Class → List line.Line → NotBack → Type 0

@@ -1,5 +1,5 @@
 -- For readers: those that held by the log hold again.
-use Rattle.std.specs.Prelude.{◌≡◌, ℕ, ◌+◌, ◌<◌, ◌≤◌, max, min, true, false, List, [], ◌∷◌, All, slice_index_or, length, Option, Some, None}
+use Rattle.std.specs.Prelude.{◌≡◌, ◌≢◌, ℕ, ◌+◌, ◌<◌, ◌≤◌, max, min, true, false, List, [], ◌∷◌, All, slice_index_or, length, Option, Some, None}
 use Rattle.bay_line.specs.Lines.{LineView, nobody}
 use Rattle.bay_book.specs.declared.ask.Ask.{Ask}
 use Rattle.bay_book.specs.declared.ask.Heard.TheVariants.{Holds as HeardHolds}
@@ -22,7 +22,7 @@ use Rattle.bay.specs.Views.{RoomView}
 
 -- (none)
 abbrev pub no_holder : Holder
-no_holder = record { ask = 0; entry = record { class = 0; needs = 0; owner = 0; since = 0; limit = None; asked = 0 } }
+no_holder = record { ask = 0; entry = record { class = 0; needs = 0; owner = 0; since = 0; limit = None; asked = 0; token = 0 } }
 
 abbrev pub holder_at : List Holder → ℕ → Holder
 holder_at holders k = slice_index_or holders k no_holder
@@ -31,11 +31,17 @@ holder_at holders k = slice_index_or holders k no_holder
 abbrev pub IsUnused : List Ask → ℕ → Type 0
 IsUnused asks needs = (b : Ask) → Has asks b → is_holding b.stage ≡ true → common needs b.needs ≡ false
 
--- this one may hold, too: nobody holds one of its instruments, its class may use them, and has a place left
+-- it is a token, and nobody has it
+pub record IsNewToken (asks : List Ask) (token : ℕ) : Type 0 where
+  pub some : 1 ≤ token
+  pub new : (b : Ask) → Has asks b → b.token ≢ token
+
+-- this one may hold, too: nobody holds one of its instruments, its class may use them, and has a place left; and nobody has its token
 pub record MayHold (classes : List Class) (asks : List Ask) (h : Holder) : Type 0 where
   pub within : is_within (class_at classes h.entry.class).uses h.entry.needs ≡ true
   pub unused : IsUnused asks h.entry.needs
   pub place : IsFreeClass classes asks h.entry.class
+  pub token : IsNewToken asks h.entry.token
 
 -- of the first n, the one with the least number that isn't below this
 abbrev pub IsNextTo : ℕ → List Holder → ℕ → Option ℕ → Type 0
@@ -55,7 +61,7 @@ AreAlone classes book = (line : LineView) → line.wishes ≡ [] → IsTied clas
 abbrev pub Restores : Holder → ℕ → BookView → BookView → Type 0
 Restores h moment old new =
     (h.ask < 18446744073709551615)
-    × (new ≡ restore old h.ask h.entry.class h.entry.owner h.entry.limit h.entry.needs h.entry.asked h.entry.since moment)
+    × (new ≡ restore old h.ask h.entry.class h.entry.owner h.entry.limit h.entry.needs h.entry.asked h.entry.since moment h.entry.token)
 
 -- the ask holds what it holds by these lines, and was told so; they outlive a crash; and its client is gone since this moment
 pub record IsRestored (lines : List Line) (moment position : ℕ) (a : Ask) : Type 0 where
@@ -67,6 +73,10 @@ pub record IsRestored (lines : List Line) (moment position : ℕ) (a : Ask) : Ty
 
 abbrev pub AreRestored : List Line → ℕ → ℕ → BookView → Type 0
 AreRestored lines moment position book = (book.durable ≡ position) × ((a : Ask) → Has book.asks a → IsRestored lines moment position a)
+
+-- each has a number below this
+abbrev pub AreLow : ℕ → List Ask → Type 0
+AreLow next asks = (a : Ask) → Has asks a → a.number < next
 
 -- this one is in the book, with what it holds
 abbrev pub IsThere : BookView → ℕ → Entry → Type 0
@@ -80,27 +90,36 @@ AreDone lines book = (n : ℕ) (e : Entry) → alive lines n ≡ Some e → IsTh
 
 -- the number behind the one that a line has, if there is one; a head says which numbers were given before
 abbrev pub after_line : Line → ℕ
-after_line (Head bay base next) = next
+after_line (Head bay base next granted) = next
 after_line (HoldLine ask entry) = min (ask + 1) 18446744073709551615
 after_line (Back from to) = min (max from to + 1) 18446744073709551615
 after_line (EndLine ask how at) = min (ask + 1) 18446744073709551615
 after_line (Note ask text) = min (ask + 1) 18446744073709551615
 
+-- the token that a line says: of a hold its own; of a head the largest that was given before
+abbrev pub token_of : Line → ℕ
+token_of (Head bay base next granted) = granted
+token_of (HoldLine ask entry) = entry.token
+token_of (Back from to) = 0
+token_of (EndLine ask how at) = 0
+token_of (Note ask text) = 0
+
 -- the head of these lines is this bay's
 abbrev pub IsOf : List ℕ → List Line → Type 0
 IsOf head [] = ⊥
-IsOf head (Head bay base next ∷ lines) = bay ≡ head
+IsOf head (Head bay base next granted ∷ lines) = bay ≡ head
 IsOf head (HoldLine ask entry ∷ lines) = ⊥
 IsOf head (Back from to ∷ lines) = ⊥
 IsOf head (EndLine ask how at ∷ lines) = ⊥
 IsOf head (Note ask text ∷ lines) = ⊥
 
 -- Just those hold that held by these lines, each what it held. They were told so, and the lines outlive a crash. Their clients are gone since this moment.
--- Nobody waits. And the next number is behind all that the lines have
+-- Nobody waits. The next number is behind all that the lines have; and the largest token so far is at least each that they have
 pub record IsBack (lines : List Line) (limit most moment position : ℕ) (x : RoomView) : Type 0 where
   pub nobody_waits : x.line ≡ nobody limit most
   pub each : (a : Ask) → Has x.book.asks a → IsRestored lines moment position a
   pub all : AreDone lines x.book
   pub next : All (λ line. after_line line ≤ x.book.next) lines
+  pub tokens : All (λ line. token_of line ≤ x.book.granted) lines
   pub moment_is : x.moment ≡ moment
   pub durable : x.book.durable ≡ position

@@ -15,6 +15,7 @@ pub record TellsThis (place serial : ℕ) (t : Told) (old new : BookView) : Type
   pub next : IsNextToTell old.asks old.durable (Some (place, t.outcome))
   pub number : t.number ≡ (ask_at old.asks place).number
   pub needs : t.needs ≡ (ask_at old.asks place).needs
+  pub token : t.token ≡ (ask_at old.asks place).token
   pub serial_is : t.serial ≡ serial
   pub then : new ≡ heard old place t.outcome
 

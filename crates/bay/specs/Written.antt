@@ -16,7 +16,7 @@ use Rattle.bay.specs.Members.{Has}
 
 -- what an ask holds, as its line says it
 abbrev pub entry_of : Ask → Entry
-entry_of a = record { class = a.class; needs = a.needs; owner = a.owner; since = a.since; limit = a.limit; asked = a.asked }
+entry_of a = record { class = a.class; needs = a.needs; owner = a.owner; since = a.since; limit = a.limit; asked = a.asked; token = a.token }
 
 -- the line was given
 abbrev pub is_given : Mark → Bool
@@ -31,7 +31,7 @@ pub record IsOpen (a : Ask) : Type 0 where
 
 -- the line changes what this ask holds
 abbrev pub touches : ℕ → Line → Bool
-touches n (Head bay base next) = false
+touches n (Head bay base next granted) = false
 touches n (Hold ask entry) = n == ask
 touches n (Back from to) = n == from || n == to
 touches n (End ask how at) = n == ask
@@ -39,7 +39,7 @@ touches n (Note ask text) = false
 
 -- every number of the line is below this
 abbrev pub bound_of : Line → ℕ
-bound_of (Head bay base next) = next
+bound_of (Head bay base next granted) = next
 bound_of (Hold ask entry) = ask + 1
 bound_of (Back from to) = max from to + 1
 bound_of (End ask how at) = ask + 1

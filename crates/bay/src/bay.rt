@@ -89,10 +89,10 @@ impl Bay {
         most: u32,
         head: [u8; 32],
     ) -> Result<Bay, NotOpened>
-        ensures opened { IfOk result (λ bay. IsOpened classes.items terms limit most bay.room × (bay.log ≡ beginning head 0 0)) }
+        ensures opened { IfOk result (λ bay. IsOpened classes.items terms limit most bay.room × (bay.log ≡ beginning head 0 0 0)) }
         ensures why { IfErr result (λ why. IsWhyNotOpened classes.items why) }
     {
-        let Ok(log) = Log::begin(alloc, head, 0, 0) else {
+        let Ok(log) = Log::begin(alloc, head, 0, 0, 0) else {
             return Err(NotOpened::NoMemory);
         };
         let Some(room) = Room::open(alloc, classes, terms, limit, most) else {

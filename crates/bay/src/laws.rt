@@ -1,10 +1,10 @@
 //! What holds of every bay. Each law is the contract of a function that does nothing.
-ghost use Rattle.bay.specs.Bays.{ToldIsKept, ToldComesBack, LetGoIsKept, PastStaysPast, StaysWhole, ComesBack};
+ghost use Rattle.bay.specs.Bays.{ToldIsKept, ToldComesBack, LetGoIsKept, PastStaysPast, TokensOutlive, StaysWhole, ComesBack};
 ghost use Rattle.bay.specs.Keepers.{NobodyWaitsForNobody};
-ghost use Rattle.bay.specs.LineLaws.{CallsAreWaited, NobodyWaitsForNothing, NumbersRise};
+ghost use Rattle.bay.specs.LineLaws.{CallsAreWaited, NobodyWaitsForNothing, NumbersRise, TokensRise};
 ghost use Rattle.bay.specs.HeardLaws.{TellsOnce};
 ghost use Rattle.bay.specs.TurnLaws.{TurnsKeep, FilesSayTheSame};
-ghost use Rattle.bay.specs.Laws.{IsWellHeld, WhoHoldsHoldsOn, WhoWaitsWaitsOn, AnswersInTime, WrittenIsInTime};
+ghost use Rattle.bay.specs.Laws.{IsWellHeld, WhoHoldsHoldsOn, WhoWaitsWaitsOn, AnswersInTime, WrittenIsInTime, HaveTokens};
 
 use crate::bay::Bay;
 use bay_line::laws::{each_lacks_something, each_reason_ends, next_is_let_in};
@@ -117,6 +117,27 @@ pub fn nobody_waits_for_nobody()
 pub fn numbers_rise()
     ensures { NumbersRise }
 {}
+
+/// Tokens rise: whoever is let in by a call has a larger one than everybody that was let in before.
+pub fn tokens_rise()
+    ensures { TokensRise }
+{}
+
+/// Of two asks that hold, or held, tokens differ, and none is larger than the largest so far.
+pub fn tokens_differ(bay: &Bay)
+    ensures { HaveTokens bay.now.room.book }
+{
+    bay.look();
+}
+
+/// After a crash, too, whoever is let in has a larger token than everybody that was ever told that it holds.
+pub fn tokens_outlive(bay: &Bay)
+    ensures { TokensOutlive bay.now }
+{
+    bay.look();
+    cut_lines_are_read();
+    holds_at_the_cut();
+}
 
 /// Each ask is told at most once that it holds.
 pub fn tells_once()

@@ -3,8 +3,9 @@ ghost use Rattle.std.specs.Prelude.{◌≡◌, ◌<◌, ◌≤◌, ◌↔◌, �
 ghost use Rattle.bay_log.specs.Alive.{alive};
 ghost use Rattle.bay_log.specs.Holders.{AreHolders};
 ghost use Rattle.bay.specs.Cores.{IsFreeClass};
-ghost use Rattle.bay.specs.Restoring.{holder_at, IsUnused, MayHold, IsNextTo, IsNextHolder, AreAlone, Restores, AreRestored, AreDone, after_line, IsOf};
-ghost use Rattle.bay.specs.Refusals.{IsUsed, MayNotHold, IsWhyNotOne, IsWhyNotRestored};
+ghost use Rattle.bay.specs.Restoring.{holder_at, IsUnused, IsNewToken, MayHold, IsNextTo, IsNextHolder, AreAlone, AreLow};
+ghost use Rattle.bay.specs.Restoring.{Restores, AreRestored, AreDone, after_line, token_of, IsOf};
+ghost use Rattle.bay.specs.Refusals.{IsUsed, IsOldToken, MayNotHold, IsWhyNotOne, IsWhyNotRestored};
 
 use crate::classes::{Class, is_within};
 use crate::free::is_free;
@@ -26,7 +27,7 @@ pub enum NotBack {
     /// There are more than 32 classes.
     Classes,
     /// This ask held by the log, and may not: another holds one of its instruments, or its class may not use one, has no place left, or isn't there; or it has
-    /// the last of all numbers.
+    /// the last of all numbers, or no token of its own.
     MayNot(u64),
 }
 
@@ -36,6 +37,22 @@ fn is_unused(book: &Book, needs: u64) -> bool
     ensures used { result ≡ false → IsUsed book.now.asks needs }
 {
     needs & book.in_use() == 0
+}
+
+/// Whether it is a token, and nobody has it.
+fn is_new_token(book: &Book, token: u64) -> bool
+    ensures new { IsTrue result → IsNewToken book.now.asks token }
+    ensures old { result ≡ false → IsOldToken book.now.asks token }
+{
+    if token == 0 {
+        return false;
+    }
+    for place in 0..book.len() {
+        if book.ask_at(place).token == token {
+            return false;
+        }
+    }
+    true
 }
 
 /// Whether this one may hold, too.
@@ -52,6 +69,9 @@ fn may_hold(classes: &[Class], book: &Book, holder: Holder) -> bool
         return false;
     }
     if !is_unused(book, holder.entry.needs) {
+        return false;
+    }
+    if !is_new_token(book, holder.entry.token) {
         return false;
     }
     is_free(classes, book, class)
@@ -97,7 +117,7 @@ fn restore_one(
     moment: u64,
 ) -> Result<(), NotBack>
     requires few { length classes.now ≤ 32 }
-    requires new { book.old.next ≤ holder.ask }
+    requires new { AreLow holder.ask book.old.asks }
     requires alone { AreAlone classes.now book.old }
     ensures restores { OnOk result (Restores holder moment book.old book.new) }
     ensures alone { OnOk result (AreAlone classes.now book.new) }
@@ -116,6 +136,7 @@ fn restore_one(
         entry.asked,
         entry.since,
         moment,
+        entry.token,
     ) {
         Ok(()) => Ok(()),
         Err(_) => Err(NotBack::NoMemory),
@@ -134,16 +155,17 @@ pub(crate) fn restore_all(
     requires holders { AreHolders holders.now (alive lines.now) }
     requires alone { AreAlone classes.now book.old }
     requires none { book.old.asks ≡ [] }
-    requires first { book.old.next ≡ 0 }
     ensures alone { OnOk result (AreAlone classes.now book.new) }
     ensures each { OnOk result (AreRestored lines.now moment book.old.durable book.new) }
     ensures all { OnOk result (AreDone lines.now book.new) }
     ensures why { IfErr result (λ why. IsWhyNotRestored classes.now lines.now why) }
 {
     let _ = lines.len();
-    while let Some(place) = next_holder(holders, book.next()) {
+    let mut next = 0;
+    while let Some(place) = next_holder(holders, next) {
         book.is_sound();
         restore_one(classes, book, holders[place], moment)?;
+        next = holders[place].ask + 1;
     }
     Ok(())
 }
@@ -172,6 +194,28 @@ pub(crate) fn after_lines(lines: &[Line]) -> u64
     next
 }
 
+/// The token that a line says.
+fn token_of(line: &Line) -> u64
+    ensures { result ≡ token_of line.now }
+{
+    match line {
+        Line::Head { granted, .. } => *granted,
+        Line::Hold { entry, .. } => entry.token,
+        Line::Back { .. } | Line::End { .. } | Line::Note { .. } => 0,
+    }
+}
+
+/// The largest token that the lines say.
+pub(crate) fn largest_token(lines: &[Line]) -> u64
+    ensures { All (λ line. token_of line ≤ result) lines.now }
+{
+    let mut largest = 0u64;
+    for line in lines {
+        largest = largest.max(token_of(line));
+    }
+    largest
+}
+
 /// Whether these are the lines of this bay.
 pub(crate) fn is_of(lines: &[Line], head: [u8; 32]) -> bool
     ensures { IsTrue result ↔ IsOf head lines.now }
@@ -195,6 +239,7 @@ pub(crate) fn restored_book(
     ensures each { IfOk result (λ book. AreRestored lines.now now position book) }
     ensures all { IfOk result (λ book. AreDone lines.now book) }
     ensures next { IfOk result (λ book. All (λ line. after_line line ≤ book.next) lines.now) }
+    ensures tokens { IfOk result (λ book. All (λ line. token_of line ≤ book.granted) lines.now) }
     ensures why { IfErr result (λ why. IsWhyNotRestored classes.now lines.now why) }
 {
     let Ok(found) = holders(alloc, lines) else {
@@ -203,6 +248,6 @@ pub(crate) fn restored_book(
     let mut book = Book::nobody(alloc);
     book.reach(position);
     restore_all(classes, &mut book, lines, &found, now)?;
-    book.skip(after_lines(lines));
+    book.skip(after_lines(lines), largest_token(lines));
     Ok(book)
 }

@@ -15,6 +15,8 @@ pub struct Told {
     pub outcome: Outcome,
     /// The instruments that it holds.
     pub needs: u64,
+    /// Its token: larger than that of each ask that was let in before it. 0, if it wasn't let in.
+    pub token: u64,
 }
 
 /// Whether it was told, and isn't done yet.
@@ -41,6 +43,7 @@ fn tell_one(book: &mut Book, serial: u64) -> Option<Told>
         number: ask.number,
         outcome,
         needs: ask.needs,
+        token: ask.token,
     })
 }
 

@@ -20,6 +20,7 @@ pub(crate) fn entry_of(ask: Ask) -> Entry
         since: ask.since,
         limit: ask.limit,
         asked: ask.asked,
+        token: ask.token,
     }
 }
 

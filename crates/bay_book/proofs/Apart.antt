@@ -1,17 +1,18 @@
 -- Those that hold stay apart, and no more of them hold than are let.
-use Rattle.std.proofs.Common.{◌≡◌, ◌≢◌, ◌⊎◌, ℕ, ◌+◌, ◌<◌, ◌≤◌, ◌==◌, Bool, true, false, not, cond, nat_eq, min, List, [], ◌∷◌, ◌++◌, length, map, set, get_or, Option, None, Some, refl, sym, ap, ◌∙◌, subst, inl, inr, arith, length-set}
-use Rattle.std.specs.List.{count_by, filter}
+use Rattle.std.proofs.Common.{◌≡◌, ◌≢◌, ◌⊎◌, ℕ, ◌+◌, ◌<◌, ◌≤◌, ◌==◌, Bool, true, false, not, nat_eq, min, List, [], ◌∷◌, length, map, set, get_or, Option, None, Some, refl, sym, ap, ◌∙◌, subst, inl, inr, arith, length-set}
+use Rattle.std.specs.List.{count_by}
 use Rattle.std.proofs.lemmas.Bool.{cases_eq, false≢true, leb-false}
 use Rattle.std.proofs.lemmas.Nat.{and_comm}
 use Rattle.std.proofs.lemmas.List.{get_or-set_same, get_or-set_other, get_or_default, get_or-map, length-map}
 use Rattle.std.proofs.lemmas.List.Quantifiers.{all_pairs_push}
 use Rattle.std.proofs.lemmas.List.Kept.{AllPairs-filter}
-use Rattle.std.proofs.lemmas.List.Sums.{sum_by-set, sum_by_push, sum_by-cons}
+use Rattle.std.proofs.lemmas.List.Sums.{sum_by-cons}
 use Rattle.bay_book.specs.declared.ask.Ask.{Ask}
 use Rattle.bay_book.specs.Asks.{no_ask, ask_at, is_holding, holds_class, asker, holding, over, gone_since, back_again, given, turned, hearing, is_done}
 use Rattle.bay_book.specs.Moments.{common, is_past, sooner, until, kept_until, limit_due_at}
 use Rattle.bay_book.specs.Runs.Call.{Add, Hold, Finish, SetGone, IsBack, Give, Turn, Reach, Tell, Purge}
 use Rattle.bay_book.specs.Holding.{IsApart, AreApart, StaysApart, TakesAtMost, DueIsToCome, LimitIsToCome}
+use Rattle.bay_book.proofs.Counts.{number_of, count_set, count_push, count_kept}
 use Rattle.bay_book.proofs.Least.{some_is, le_or}
 
 -- ---- apart
@@ -76,7 +77,7 @@ pub stays_apart : StaysApart
 stays_apart x (Add number class owner deadline limit now) ok free h =
     all_pairs_push IsApart x.asks (asker number class owner deadline limit now) h (λ k d inside. λ p q. absurd (false≢true q))
 stays_apart x (Hold place needs now keeps) ok free h =
-    apart_set x.asks place (holding needs now keeps (ask_at x.asks place)) ok.0 (λ i other in_i p q. free i in_i q) h
+    apart_set x.asks place (holding needs now keeps (x.granted + 1) (ask_at x.asks place)) ok.0 (λ i other in_i p q. free i in_i q) h
 stays_apart x (Finish place how now) ok free h = apart_set x.asks place (over how now (ask_at x.asks place)) ok.0 (λ i other in_i p q. absurd (false≢true p)) h
 stays_apart x (SetGone place moment) inside free h =
     apart_set x.asks place (gone_since moment (ask_at x.asks place)) inside (λ i other in_i p q. apart_either x.asks i place other in_i inside h p q) h
@@ -90,17 +91,6 @@ stays_apart x (Tell place what) ok free h =
 stays_apart x Purge ok free h = AllPairs-filter IsApart (λ a. not (is_done a)) x.asks h
 
 -- ---- how many
-
--- (as `count_by` counts)
-abbrev number_of : Bool → ℕ
-number_of b = cond b 1 0
-
-count_set : (p : Ask → Bool) (asks : List Ask) (j : ℕ) (a : Ask) (more : ℕ) → j < length asks → number_of (p a) ≤ number_of (p (ask_at asks j)) + more
-    → count_by p (set asks j a) ≤ count_by p asks + more
-count_set p asks j a more inside few = omega (arith, few, sum_by-set (λ (b : Ask). number_of (p b)) asks j a no_ask inside)
-
-count_push : (p : Ask → Bool) (asks : List Ask) (a : Ask) → p a ≡ false → count_by p (asks ++ a ∷ []) ≤ count_by p asks + 0
-count_push p asks a fails = omega (arith, sum_by_push (λ (b : Ask). number_of (p b)) asks a, ap number_of fails)
 
 count_give : (class at : ℕ) (asks : List Ask) → count_by (holds_class class) (map (given at) asks) ≡ count_by (holds_class class) asks
 count_give class at [] = refl
@@ -116,25 +106,17 @@ count_turn class at (a ∷ asks) =
     let rest = count_turn class at asks in
     omega (arith, rest, sum_by-cons f a asks, sum_by-cons f (turned at a) (map (turned at) asks))
 
-count_or_not : (p : Ask → Bool) (a : Ask) (asks kept : List Ask) → count_by p kept ≤ count_by p asks → (t : Bool)
-    → count_by p (cond t (a ∷ kept) kept) ≤ count_by p (a ∷ asks)
-count_or_not p a asks kept few true =
-    let f : Ask → ℕ = λ b. number_of (p b) in omega (arith, few, sum_by-cons f a asks, sum_by-cons f a kept)
-count_or_not p a asks kept few false = let f : Ask → ℕ = λ b. number_of (p b) in omega (arith, few, sum_by-cons f a asks)
-
-count_kept : (p q : Ask → Bool) (asks : List Ask) → count_by p (filter q asks) ≤ count_by p asks
-count_kept p q [] = omega arith
-count_kept p q (a ∷ asks) = count_or_not p a asks (filter q asks) (count_kept p q asks) (q a)
-
-one_more : (a : Ask) (class needs now : ℕ) (keeps : Bool)
-    → number_of (holds_class class (holding needs now keeps a)) ≤ number_of (holds_class class a) + number_of (a.class == class)
-one_more a class needs now keeps = omega arith
+one_more : (a : Ask) (class needs now : ℕ) (keeps : Bool) (token : ℕ)
+    → number_of (holds_class class (holding needs now keeps token a)) ≤ number_of (holds_class class a) + number_of (a.class == class)
+one_more a class needs now keeps token = omega arith
 
 pub takes_at_most : TakesAtMost
-takes_at_most x (Add number k owner deadline limit now) ok class = count_push (holds_class class) x.asks (asker number k owner deadline limit now) refl
+takes_at_most x (Add number k owner deadline limit now) ok class =
+    omega (arith, count_push (holds_class class) x.asks (asker number k owner deadline limit now))
 takes_at_most x (Hold place needs now keeps) ok class =
     let a = ask_at x.asks place in
-    count_set (holds_class class) x.asks place (holding needs now keeps a) (number_of (a.class == class)) ok.0 (one_more a class needs now keeps)
+    count_set (holds_class class) x.asks place (holding needs now keeps (x.granted + 1) a) (number_of (a.class == class)) ok.0
+    (one_more a class needs now keeps (x.granted + 1))
 takes_at_most x (Finish place how now) ok class = count_set (holds_class class) x.asks place (over how now (ask_at x.asks place)) 0 ok.0 (omega arith)
 takes_at_most x (SetGone place moment) inside class =
     count_set (holds_class class) x.asks place (gone_since moment (ask_at x.asks place)) 0 inside (omega arith)

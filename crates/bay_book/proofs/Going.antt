@@ -1,5 +1,5 @@
 -- How asks go on over calls: what is so of one after a call was so before it.
-use Rattle.std.proofs.Common.{◌≡◌, ◌⊎◌, ℕ, zero, suc, ◌<◌, ◌≤◌, Bool, true, false, not, cond, List, [], ◌∷◌, ◌++◌, length, map, set, Option, Some, refl, sym, ap, ◌∙◌, subst, inl, inr, arith, length-set, length-append}
+use Rattle.std.proofs.Common.{◌≡◌, ◌⊎◌, ℕ, zero, suc, ◌+◌, ◌<◌, ◌≤◌, Bool, true, false, not, cond, List, [], ◌∷◌, ◌++◌, length, map, set, Option, Some, refl, sym, ap, ◌∙◌, subst, inl, inr, arith, length-set, length-append}
 use Rattle.std.specs.List.{filter}
 use Rattle.std.proofs.lemmas.Bool.{cases_eq}
 use Rattle.std.proofs.lemmas.List.{get_or-set_same, get_or-set_other, get_or-map, get_or_append_left, get_or_push, length-map}
@@ -12,25 +12,27 @@ use Rattle.bay_book.specs.Telling.{to_tell}
 use Rattle.bay_book.specs.Books.{BookView, IsSound, with_ask, add, purge}
 use Rattle.bay_book.specs.Runs.{Call, IsAllowed, after_call}
 use Rattle.bay_book.specs.Runs.Call.{Add, Hold, Finish, SetGone, IsBack, Give, Turn, Reach, Tell, Purge}
-use Rattle.bay_book.proofs.Sound.{sound_holding, sound_over, sound_gone, sound_back, sound_hearing, sound_set, sound_add, sound_give, sound_turn, sound_reach, sound_purge}
+use Rattle.bay_book.proofs.Sound.{sound_holding, sound_over, sound_gone, sound_back, sound_hearing, sound_set, sound_add, sound_give, sound_turn, sound_reach, sound_purge, sound_hold}
 
 -- ---- soundness
 
 pub sound_call : (x : BookView) (call : Call) → IsAllowed x call → IsSound x → IsSound (after_call x call)
 sound_call x (Add number class owner deadline limit now) new h = sound_add x number class owner deadline limit now new h
 sound_call x (Hold place needs now keeps) ok h =
-    sound_set x place (holding needs now keeps (ask_at x.asks place)) ok.0 refl
-    (sound_holding x.durable needs now keeps (ask_at x.asks place) ok.1 (h.each place no_ask ok.0)) h
-sound_call x (Finish place how now) ok h = sound_set x place (over how now (ask_at x.asks place)) ok.0 refl (sound_over x.durable how now (ask_at x.asks place)) h
+    sound_hold x place needs now keeps ok.0 ok.1 h
+sound_call x (Finish place how now) ok h =
+    sound_set x place (over how now (ask_at x.asks place)) ok.0 refl refl (omega arith) (sound_over x.durable how now (ask_at x.asks place)) h
 sound_call x (SetGone place moment) inside h =
-    sound_set x place (gone_since moment (ask_at x.asks place)) inside refl (sound_gone x.durable moment (ask_at x.asks place) (h.each place no_ask inside)) h
+    sound_set x place (gone_since moment (ask_at x.asks place)) inside refl refl (omega arith)
+    (sound_gone x.durable moment (ask_at x.asks place) (h.each place no_ask inside)) h
 sound_call x (IsBack place) inside h =
-    sound_set x place (back_again (ask_at x.asks place)) inside refl (sound_back x.durable (ask_at x.asks place) (h.each place no_ask inside)) h
+    sound_set x place (back_again (ask_at x.asks place)) inside refl refl (omega arith)
+    (sound_back x.durable (ask_at x.asks place) (h.each place no_ask inside)) h
 sound_call x (Give at) ok h = sound_give x at h
 sound_call x (Turn at) ok h = sound_turn x at h
 sound_call x (Reach position) ok h = sound_reach x position h
 sound_call x (Tell place what) ok h =
-    sound_set x place (hearing what (ask_at x.asks place)) ok.0 refl
+    sound_set x place (hearing what (ask_at x.asks place)) ok.0 refl refl (omega arith)
     (sound_hearing x.durable (ask_at x.asks place) what ok.1 (h.each place no_ask ok.0)) h
 sound_call x Purge ok h = sound_purge x h
 
@@ -38,7 +40,7 @@ sound_call x Purge ok h = sound_purge x h
 
 -- what no call makes true of an ask
 pub record ComesNot (Q : Ask → Type 0) : Type 0 where
-  pub by_hold : (a : Ask) (needs now : ℕ) (keeps : Bool) → a.stage ≡ Waits → Q (holding needs now keeps a) → Q a
+  pub by_hold : (a : Ask) (needs now : ℕ) (keeps : Bool) (token : ℕ) → a.stage ≡ Waits → Q (holding needs now keeps token a) → Q a
   pub by_end : (a : Ask) (how : End) (now : ℕ) → is_over a.stage ≡ false → Q (over how now a) → Q a
   pub by_gone : (a : Ask) (moment : ℕ) → Q (gone_since moment a) → Q a
   pub by_back : (a : Ask) → Q (back_again a) → Q a
@@ -122,7 +124,8 @@ pub came_before : (Q : Ask → Type 0) → ComesNot Q → (number : ℕ) (x : Bo
     → May Q number x
 came_before Q c number x (Add n class owner deadline limit now) new h = came_add Q number x n class owner deadline limit now new h
 came_before Q c number x (Hold place needs now keeps) ok h =
-    came_set Q number x place (holding needs now keeps (ask_at x.asks place)) ok.0 refl (c.by_hold (ask_at x.asks place) needs now keeps ok.1) h
+    came_set Q number x place (holding needs now keeps (x.granted + 1) (ask_at x.asks place)) ok.0 refl
+    (c.by_hold (ask_at x.asks place) needs now keeps (x.granted + 1) ok.1) h
 came_before Q c number x (Finish place how now) ok h =
     came_set Q number x place (over how now (ask_at x.asks place)) ok.0 refl (c.by_end (ask_at x.asks place) how now ok.1) h
 came_before Q c number x (SetGone place moment) inside h =

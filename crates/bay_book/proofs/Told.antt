@@ -36,7 +36,7 @@ heard_something (ToldOver how) h = cc
 
 holds_not : ComesNot MayHold
 holds_not = record {
-  by_hold = λ a needs now keeps waits q. record { goes_on = waits_open a.stage waits; silent = q.silent };
+  by_hold = λ a needs now keeps token waits q. record { goes_on = waits_open a.stage waits; silent = q.silent };
   by_end = λ a how now was q. record { goes_on = was; silent = q.silent };
   by_gone = λ a moment q. record { goes_on = q.goes_on; silent = q.silent };
   by_back = λ a q. record { goes_on = q.goes_on; silent = q.silent };
@@ -73,7 +73,7 @@ told_hears durable a what t = told_hears_at durable a what a.stage a.heard t
 
 hears_not : ComesNot MayHear
 hears_not = record {
-  by_hold = λ a needs now keeps waits q. q;
+  by_hold = λ a needs now keeps token waits q. q;
   by_end = λ a how now was q. q;
   by_gone = λ a moment q. q;
   by_back = λ a q. q;

@@ -1,5 +1,6 @@
 -- For readers: one ask, how far it is, and what each call makes of it.
-use Rattle.std.specs.Prelude.{◌≡◌, ◌≢◌, ℕ, ◌==◌, nat_le, Bool, true, false, ◌&&◌, ◌||◌, not, if◌then◌else◌, is_some, List, slice_index_or, Option, None, Some}
+use Rattle.std.specs.Prelude.{◌≡◌, ◌≢◌, ℕ, ◌≤◌, ◌==◌, nat_le, Bool, true, false, ◌&&◌, ◌||◌, not, if◌then◌else◌, is_some}
+use Rattle.std.specs.Prelude.{List, slice_index_or, Option, None, Some}
 use Rattle.bay_book.specs.declared.ask.Ask.{Ask}
 use Rattle.bay_book.specs.declared.ask.End.{End}
 use Rattle.bay_book.specs.declared.ask.End.TheVariants.{LetGo, Left, Lapsed, NotWritten, Limit, Grace, TakenAway, Replaced, Stopped}
@@ -21,6 +22,7 @@ no_ask = record {
   deadline = None;
   limit = None;
   needs = 0;
+  token = 0;
   asked = 0;
   since = 0;
   gone = None;
@@ -44,6 +46,10 @@ abbrev pub is_over : Stage → Bool
 is_over Waits = false
 is_over Holds = false
 is_over (Over how) = true
+
+-- it waits
+abbrev pub is_waiting : Ask → Bool
+is_waiting a = not (is_holding a.stage) && not (is_over a.stage)
 
 -- it holds, and its place is of this class
 abbrev pub holds_class : ℕ → Ask → Bool
@@ -92,6 +98,7 @@ asker number class owner deadline limit now = record {
   deadline = deadline;
   limit = limit;
   needs = 0;
+  token = 0;
   asked = now;
   since = now;
   gone = None;
@@ -102,14 +109,15 @@ asker number class owner deadline limit now = record {
 }
 
 -- one that holds, as the journal says up to this position, and as it was told; its client isn't there since this moment
-abbrev pub restored : ℕ → ℕ → ℕ → Option ℕ → ℕ → ℕ → ℕ → ℕ → ℕ → Ask
-restored number class owner limit needs asked since gone at = record {
+abbrev pub restored : ℕ → ℕ → ℕ → Option ℕ → ℕ → ℕ → ℕ → ℕ → ℕ → ℕ → Ask
+restored number class owner limit needs asked since gone token at = record {
   number = number;
   class = class;
   owner = owner;
   deadline = None;
   limit = limit;
   needs = needs;
+  token = token;
   asked = asked;
   since = since;
   gone = Some gone;
@@ -119,9 +127,10 @@ restored number class owner limit needs asked since gone at = record {
   end_line = NoLine;
 }
 
--- it holds these instruments, from this moment on; a line is owed, if there is a journal
-abbrev pub holding : ℕ → ℕ → Bool → Ask → Ask
-holding needs now keeps a = record a { needs = needs; since = now; stage = Holds; hold_line = if keeps then Due else NoLine }
+-- it holds these instruments, from this moment on, with this token; a line is owed, if there is a journal
+abbrev pub holding : ℕ → ℕ → Bool → ℕ → Ask → Ask
+holding needs now keeps token a =
+    record a { needs = needs; token = token; since = now; stage = Holds; hold_line = if keeps then Due else NoLine }
 
 -- it is over, from this moment on, and holds nothing
 abbrev pub over : End → ℕ → Ask → Ask
@@ -184,11 +193,11 @@ is_done a = is_over a.stage && (has_heard_end a.heard || has_left a.stage || is_
 
 -- ---- what is so of each ask
 
--- who waits has nothing, heard nothing, and owes no line; who was told that it holds, and holds, its line outlives a crash; no end is owed a line but of a
--- hold whose line was given
+-- who waits has nothing, no token, heard nothing, and owes no line; who holds has a token; who was told that it holds, and holds, its line outlives a
+-- crash; no end is owed a line but of a hold whose line was given
 abbrev pub IsSoundAt : ℕ → Ask → Stage → Type 0
-IsSoundAt durable a Waits = (a.needs ≡ 0) × (a.heard ≡ Nothing) × (a.hold_line ≡ NoLine) × (a.end_line ≡ NoLine)
-IsSoundAt durable a Holds = (a.heard ≢ HeardEnd) × (a.heard ≡ HeardHolds → is_written durable a.hold_line ≡ true) × (a.end_line ≡ NoLine)
+IsSoundAt durable a Waits = (a.needs ≡ 0) × (a.heard ≡ Nothing) × (a.hold_line ≡ NoLine) × (a.end_line ≡ NoLine) × (a.token ≡ 0)
+IsSoundAt durable a Holds = (a.heard ≢ HeardEnd) × (a.heard ≡ HeardHolds → is_written durable a.hold_line ≡ true) × (a.end_line ≡ NoLine) × (1 ≤ a.token)
 IsSoundAt durable a (Over how) = (a.needs ≡ 0) × (is_owed a.hold_line ≡ false) × (a.hold_line ≡ NoLine → a.end_line ≡ NoLine)
 
 abbrev pub IsSoundAsk : ℕ → Ask → Type 0

@@ -80,6 +80,8 @@ pub struct Ask {
     pub limit: Option<u64>,
     /// The instruments that it holds: bit i for instrument i. None, unless it holds.
     pub needs: u64,
+    /// Larger than that of each ask that was let in before it. 0, if it wasn't let in.
+    pub token: u64,
     /// Since when it asks.
     pub asked: u64,
     /// Since when it is so far: since when it asks, then since when it holds, and then since when it is over.

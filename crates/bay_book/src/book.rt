@@ -1,7 +1,7 @@
 //! The book.
-ghost use Rattle.std.specs.Prelude.{◌≡◌, ◌<◌, ◌≤◌, length, OnOk, OnErr, Some, false};
+ghost use Rattle.std.specs.Prelude.{◌≡◌, ◌≢◌, ◌<◌, ◌≤◌, length, OnOk, OnErr, Some, false, All};
 ghost use Rattle.std.specs.List.{count_by};
-ghost use Rattle.bay_book.specs.Asks.{ask_at, is_over, holds_class};
+ghost use Rattle.bay_book.specs.Asks.{ask_at, is_over, is_waiting, holds_class};
 ghost use Rattle.bay_book.specs.Moments.{is_gone_too_long, is_over_limit, due_at, limit_due_at};
 ghost use Rattle.bay_book.specs.Finding.{IsPlaceOf, IsFirst, IsFirstLate, IsLeast, IsInUse};
 ghost use Rattle.bay_book.specs.Telling.{to_tell, IsNextToTell};
@@ -19,11 +19,12 @@ use crate::telling::next_to_tell;
 use std::alloc::{AllocError, Global};
 use std::marker::Model;
 
-/// The asks, the least number that the next may have, and how far the journal outlives a crash.
+/// The asks, the least number that the next may have, the largest token so far, and how far the journal outlives a crash.
 #[derive(Drop)]
 pub struct Book {
     asks: Vec<Ask, Global>,
     next: u64,
+    granted: u64,
     durable: u64,
 }
 
@@ -32,9 +33,9 @@ impl Model for Book {
 
     ghost Value = { BookView };
 
-    ghost view = { λ x. record { asks = x.asks.items; next = x.next; durable = x.durable } };
+    ghost view = { λ x. record { asks = x.asks.items; next = x.next; granted = x.granted; durable = x.durable } };
 
-    ghost invariant = { λ x. IsSound (record { asks = x.asks.items; next = x.next; durable = x.durable }) };
+    ghost invariant = { λ x. IsSound (record { asks = x.asks.items; next = x.next; granted = x.granted; durable = x.durable }) };
 }
 
 impl Book {
@@ -45,6 +46,7 @@ impl Book {
         Book {
             asks: Vec::new(alloc),
             next: 0,
+            granted: 0,
             durable: 0,
         }
     }
@@ -68,6 +70,13 @@ impl Book {
         ensures { result ≡ self.now.next }
     {
         self.next
+    }
+
+    /// The largest token so far: that of whoever was let in last.
+    pub fn granted(&self) -> u64
+        ensures { result ≡ self.now.granted }
+    {
+        self.granted
     }
 
     /// Up to where the journal outlives a crash.
@@ -113,7 +122,8 @@ impl Book {
         Ok(())
     }
 
-    /// An ask holds again, as the journal says, and as it was told; its client isn't there since this moment. It takes memory.
+    /// An ask holds again, as the journal says, and as it was told; its client isn't there since this moment. Its number is larger, and nobody
+    /// waits. It takes memory.
     pub fn restore(
         &mut self,
         number: u64,
@@ -124,10 +134,14 @@ impl Book {
         asked: u64,
         since: u64,
         gone: u64,
+        token: u64,
     ) -> Result<(), AllocError>
-        requires new { self.old.next ≤ number }
+        requires rises { All (λ a. a.number < number) self.old.asks }
         requires room { number < 18446744073709551615 }
-        ensures restores { OnOk result (self.new ≡ restore self.old number class owner limit needs asked since gone) }
+        requires nobody_waits { All (λ a. is_waiting a ≡ false) self.old.asks }
+        requires some { 1 ≤ token }
+        requires new { All (λ a. a.token ≢ token) self.old.asks }
+        ensures restores { OnOk result (self.new ≡ restore self.old number class owner limit needs asked since gone token) }
         ensures refused { OnErr result (self.new ≡ self.old) }
     {
         self.asks.push(restored(
@@ -139,26 +153,32 @@ impl Book {
             asked,
             since,
             gone,
+            token,
             self.durable,
         ))?;
-        self.next = number + 1;
+        self.next = self.next.max(number + 1).max(token);
+        self.granted = self.granted.max(token);
         Ok(())
     }
 
-    /// All numbers below this one were given.
-    pub fn skip(&mut self, next: u64)
-        ensures { self.new ≡ skip self.old next }
+    /// All numbers below this one were given, and all tokens up to that one. Nobody waits.
+    pub fn skip(&mut self, next: u64, granted: u64)
+        requires { All (λ a. is_waiting a ≡ false) self.old.asks }
+        ensures { self.new ≡ skip self.old next granted }
     {
-        self.next = self.next.max(next);
+        self.next = self.next.max(next).max(granted);
+        self.granted = self.granted.max(granted);
     }
 
-    /// It holds these instruments from this moment on. A line is owed, if the bay keeps a journal.
+    /// It holds these instruments from this moment on, with the next token: there always is one, since there are no more than numbers. A line is owed, if the
+    /// bay keeps a journal.
     pub fn hold(&mut self, place: usize, needs: u64, now: u64, keeps: bool)
         requires inside { place < length self.old.asks }
         requires waits { (ask_at self.old.asks place).stage ≡ Stage.Waits }
         ensures { self.new ≡ hold self.old place needs now keeps }
     {
-        self.asks[place] = holding(self.asks[place], needs, now, keeps);
+        self.granted += 1;
+        self.asks[place] = holding(self.asks[place], needs, now, keeps, self.granted);
     }
 
     /// It is over from this moment on, and holds nothing. A line is owed if one was given that it holds.

@@ -23,6 +23,7 @@ pub(crate) fn asker(
         deadline,
         limit,
         needs: 0,
+        token: 0,
         asked: now,
         since: now,
         gone: None,
@@ -43,9 +44,10 @@ pub(crate) fn restored(
     asked: u64,
     since: u64,
     gone: u64,
+    token: u64,
     at: u64,
 ) -> Ask
-    ensures { result ≡ restored number class owner limit needs asked since gone at }
+    ensures { result ≡ restored number class owner limit needs asked since gone token at }
 {
     Ask {
         number,
@@ -54,6 +56,7 @@ pub(crate) fn restored(
         deadline: None,
         limit,
         needs,
+        token,
         asked,
         since,
         gone: Some(gone),
@@ -64,13 +67,14 @@ pub(crate) fn restored(
     }
 }
 
-/// It holds these instruments, from this moment on.
-pub(crate) fn holding(ask: Ask, needs: u64, now: u64, keeps: bool) -> Ask
-    ensures { result ≡ holding needs now keeps ask }
+/// It holds these instruments, from this moment on, with this token.
+pub(crate) fn holding(ask: Ask, needs: u64, now: u64, keeps: bool, token: u64) -> Ask
+    ensures { result ≡ holding needs now keeps token ask }
 {
     let hold_line = if keeps { Mark::Due } else { Mark::None };
     Ask {
         needs,
+        token,
         since: now,
         stage: Stage::Holds,
         hold_line,

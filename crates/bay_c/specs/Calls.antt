@@ -39,7 +39,7 @@ use Rattle.bay_c.specs.Telling.{not_turned_status, not_turned_size, not_turned_n
 -- a bay of these classes and terms, in which nobody has asked, and whose log has its head alone
 abbrev pub IsOpenedFor : List BayClass → BayTerms → BayView → Type 0
 IsOpenedFor classes terms x =
-    IsOpened (map class_of classes) (terms_of terms) terms.line terms.overtakes x.room × (x.log ≡ beginning terms.bay 0 0)
+    IsOpened (map class_of classes) (terms_of terms) terms.line terms.overtakes x.room × (x.log ≡ beginning terms.bay 0 0 0)
 
 abbrev pub IsInsideFor : List BayClass → BayTerms → Inside → Type 0
 IsInsideFor classes terms (Open x) = IsOpenedFor classes terms x

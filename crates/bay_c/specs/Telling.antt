@@ -61,7 +61,7 @@ what_of (IsOver Replaced) = 8
 what_of (IsOver EndStopped) = 9
 
 abbrev pub outcome_of : Told → BayOutcome
-outcome_of t = record { serial = t.serial; number = t.number; needs = t.needs; what = what_of t.outcome; unused = 0 }
+outcome_of t = record { serial = t.serial; number = t.number; needs = t.needs; token = t.token; what = what_of t.outcome; unused = 0 }
 
 -- it holds (0), is over, and how (1 to 9), or waits (10)
 abbrev pub stage_of : Stage → ℕ
@@ -76,6 +76,7 @@ standing_of a = record {
   owner_low = a.owner % 18446744073709551616;
   needs = a.needs;
   since = a.since;
+  token = a.token;
   class = a.class;
   what = stage_of a.stage;
 }

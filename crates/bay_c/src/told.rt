@@ -51,7 +51,7 @@ pub struct BayAsked {
     pub unused: u32,
 }
 
-/// What an ask is told. In C: `struct lab_outcome { uint64_t serial, number, needs; uint32_t what, unused; };`
+/// What an ask is told. In C: `struct lab_outcome { uint64_t serial, number, needs, token; uint32_t what, unused; };`
 #[repr(C)]
 #[derive(Clone, Copy)]
 pub struct BayOutcome {
@@ -59,12 +59,14 @@ pub struct BayOutcome {
     pub number: u64,
     /// The instruments that it holds.
     pub needs: u64,
+    /// Its token; 0, if it wasn't let in.
+    pub token: u64,
     /// 0: it holds; 1 to 9: it is over, and how.
     pub what: u32,
     pub unused: u32,
 }
 
-/// How an ask stands. In C: `struct lab_standing { uint64_t number, owner[2], needs, since; uint32_t kind, what; };`
+/// How an ask stands. In C: `struct lab_standing { uint64_t number, owner[2], needs, since, token; uint32_t kind, what; };`
 #[repr(C)]
 #[derive(Clone, Copy)]
 pub struct BayStanding {
@@ -76,6 +78,8 @@ pub struct BayStanding {
     pub needs: u64,
     /// Since when it asks, then since when it holds, and then since when it is over.
     pub since: u64,
+    /// Its token; 0, if it wasn't let in.
+    pub token: u64,
     pub class: u32,
     /// 0: it holds; 1 to 9: it is over, and how; 10: it waits.
     pub what: u32,
@@ -161,6 +165,7 @@ pub(crate) fn outcome_of(told: Told) -> BayOutcome
         serial: told.serial,
         number: told.number,
         needs: told.needs,
+        token: told.token,
         what: what_of(told.outcome),
         unused: 0,
     }
@@ -185,6 +190,7 @@ pub(crate) fn standing_of(ask: Ask) -> BayStanding
         owner_low: (ask.owner % 18446744073709551616) as u64,
         needs: ask.needs,
         since: ask.since,
+        token: ask.token,
         class: ask.class,
         what: stage_of(ask.stage),
     }

@@ -31,7 +31,7 @@ lines_split false (x ∷ a) b p = let more = lines_split false a b p.2 in ((p.0,
 
 pub base_both : (a b : List Line) → is_none a ≡ false → base_of (a ++ b) ≡ base_of a
 base_both [] b h = cc h
-base_both (Head bay base next ∷ a) b h = refl
+base_both (Head bay base next granted ∷ a) b h = refl
 base_both (Hold ask entry ∷ a) b h = refl
 base_both (Back from to ∷ a) b h = refl
 base_both (End ask how at ∷ a) b h = refl
@@ -101,7 +101,7 @@ keeps_more lines text base sent sum line k fits later room =
 
 pub bay_more : (lines : List Line) (line : Line) → is_none lines ≡ false → bay_of (lines ++ line ∷ []) ≡ bay_of lines
 bay_more [] line h = cc h
-bay_more (Head bay base next ∷ lines) line h = refl
+bay_more (Head bay base next granted ∷ lines) line h = refl
 bay_more (Hold ask entry ∷ lines) line h = refl
 bay_more (Back from to ∷ lines) line h = refl
 bay_more (End ask how at ∷ lines) line h = refl

@@ -123,14 +123,17 @@ limit_back (Some n) fits =
 
 -- ---- entries
 
-entry_size_by : (c n o s a : ℕ) (l : Option ℕ) → length (entry_text (record { class = c; needs = n; owner = o; since = s; limit = l; asked = a })) ≡ 109
-unfolding entry_text digits encode_with
-entry_size_by c n o s a None = refl
-entry_size_by c n o s a (Some m) = refl
+abbrev entry_with : ℕ → ℕ → ℕ → ℕ → ℕ → ℕ → Option ℕ → Entry
+entry_with c n o s a t l = record { class = c; needs = n; owner = o; since = s; limit = l; asked = a; token = t }
 
-entry_size : (e : Entry) → length (entry_text e) ≡ 109
+entry_size_by : (c n o s a t : ℕ) (l : Option ℕ) → length (entry_text (entry_with c n o s a t l)) ≡ 126
+unfolding entry_text digits encode_with
+entry_size_by c n o s a t None = refl
+entry_size_by c n o s a t (Some m) = refl
+
+entry_size : (e : Entry) → length (entry_text e) ≡ 126
 unfolding entry_text
-entry_size e = entry_size_by e.class e.needs e.owner e.since e.asked e.limit
+entry_size e = entry_size_by e.class e.needs e.owner e.since e.asked e.token e.limit
 
 entry_class : (e : Entry) → slice_range (entry_text e) 0 8 ≡ digits w32 e.class
 unfolding entry_text digits encode_with
@@ -148,23 +151,32 @@ entry_since : (e : Entry) → slice_range (entry_text e) 59 75 ≡ digits w64 e.
 unfolding entry_text digits encode_with
 entry_since e = refl
 
-entry_limit_by : (c n o s a : ℕ) (l : Option ℕ) → slice_range (entry_text (record { class = c; needs = n; owner = o; since = s; limit = l; asked = a })) 76 92 ≡ limit_text l
+entry_limit_by : (c n o s a t : ℕ) (l : Option ℕ) → slice_range (entry_text (entry_with c n o s a t l)) 76 92 ≡ limit_text l
 unfolding entry_text digits encode_with
-entry_limit_by c n o s a None = refl
-entry_limit_by c n o s a (Some m) = refl
+entry_limit_by c n o s a t None = refl
+entry_limit_by c n o s a t (Some m) = refl
 
 entry_limit : (e : Entry) → slice_range (entry_text e) 76 92 ≡ limit_text e.limit
 unfolding entry_text
-entry_limit e = entry_limit_by e.class e.needs e.owner e.since e.asked e.limit
+entry_limit e = entry_limit_by e.class e.needs e.owner e.since e.asked e.token e.limit
 
-entry_asked_by : (c n o s a : ℕ) (l : Option ℕ) → slice_range (entry_text (record { class = c; needs = n; owner = o; since = s; limit = l; asked = a })) 93 109 ≡ digits w64 a
+entry_asked_by : (c n o s a t : ℕ) (l : Option ℕ) → slice_range (entry_text (entry_with c n o s a t l)) 93 109 ≡ digits w64 a
 unfolding entry_text digits encode_with
-entry_asked_by c n o s a None = refl
-entry_asked_by c n o s a (Some m) = refl
+entry_asked_by c n o s a t None = refl
+entry_asked_by c n o s a t (Some m) = refl
 
 entry_asked : (e : Entry) → slice_range (entry_text e) 93 109 ≡ digits w64 e.asked
 unfolding entry_text
-entry_asked e = entry_asked_by e.class e.needs e.owner e.since e.asked e.limit
+entry_asked e = entry_asked_by e.class e.needs e.owner e.since e.asked e.token e.limit
+
+entry_token_by : (c n o s a t : ℕ) (l : Option ℕ) → slice_range (entry_text (entry_with c n o s a t l)) 110 126 ≡ digits w64 t
+unfolding entry_text digits encode_with
+entry_token_by c n o s a t None = refl
+entry_token_by c n o s a t (Some m) = refl
+
+entry_token : (e : Entry) → slice_range (entry_text e) 110 126 ≡ digits w64 e.token
+unfolding entry_text
+entry_token e = entry_token_by e.class e.needs e.owner e.since e.asked e.token e.limit
 
 entry_back : (e : Entry) → EntryFits e → entry_of (entry_text e) ≡ Some e
 unfolding entry_of
@@ -175,7 +187,8 @@ entry_back e fits =
     let s = ap (number_of w64) (entry_since e) ∙ number_8 e.since fits.since in
     let l = ap limit_of (entry_limit e) ∙ limit_back e.limit fits.limit in
     let a = ap (number_of w64) (entry_asked e) ∙ number_8 e.asked fits.asked in
-    λ i. entry_if (c i) (n i) (o i) (s i) (l i) (a i)
+    let t = ap (number_of w64) (entry_token e) ∙ number_8 e.token fits.token in
+    λ i. entry_if (c i) (n i) (o i) (s i) (l i) (a i) (t i)
 
 -- ---- each kind of line
 
@@ -194,41 +207,46 @@ rest_of a b n h = ap (λ (m : ℕ). drop m (a ++ b)) (sym h) ∙ drop-append_sea
 past : (a b : List ℕ) (n m : ℕ) → length a ≡ n → drop (n + m) (a ++ b) ≡ drop m b
 past a b n m h = ap (λ (k : ℕ). drop (k + m) (a ++ b)) (sym h) ∙ drop-append-add a b m
 
--- the words of a head: 4 bytes, 64 digits, and 34 bytes
-abbrev head_rest : ℕ → ℕ → List ℕ
-head_rest base next = codes " " ++ (digits w64 base ++ (codes " " ++ digits w64 next))
+-- the words of a head: 4 bytes, 64 digits, and 51 bytes
+abbrev head_rest : ℕ → ℕ → ℕ → List ℕ
+head_rest base next granted = codes " " ++ (digits w64 base ++ (codes " " ++ (digits w64 next ++ (codes " " ++ digits w64 granted))))
 
-head_form : (bay : List ℕ) (base next : ℕ) → body (Head bay base next) ≡ codes "bay " ++ (encode_lower bay ++ head_rest base next)
+head_form : (bay : List ℕ) (base next granted : ℕ) → body (Head bay base next granted) ≡ codes "bay " ++ (encode_lower bay ++ head_rest base next granted)
 unfolding body
-head_form bay base next = simp append_assoc
+head_form bay base next granted = simp append_assoc
 
-rest_size : (base next : ℕ) → length (head_rest base next) ≡ 34
+rest_size : (base next granted : ℕ) → length (head_rest base next granted) ≡ 51
 unfolding digits encode_with
-rest_size base next = refl
+rest_size base next granted = refl
 
-rest_base : (base next : ℕ) → take 16 (drop 1 (head_rest base next)) ≡ digits w64 base
+rest_base : (base next granted : ℕ) → take 16 (drop 1 (head_rest base next granted)) ≡ digits w64 base
 unfolding digits encode_with
-rest_base base next = refl
+rest_base base next granted = refl
 
-rest_next : (base next : ℕ) → take 16 (drop 18 (head_rest base next)) ≡ digits w64 next
+rest_next : (base next granted : ℕ) → take 16 (drop 18 (head_rest base next granted)) ≡ digits w64 next
 unfolding digits encode_with
-rest_next base next = refl
+rest_next base next granted = refl
 
-head_back : (bay : List ℕ) (base next : ℕ) → Fits (Head bay base next) → head_in (body (Head bay base next)) ≡ Some (Head bay base next)
+rest_granted : (base next granted : ℕ) → take 16 (drop 35 (head_rest base next granted)) ≡ digits w64 granted
+unfolding digits encode_with
+rest_granted base next granted = refl
+
+head_back : (bay : List ℕ) (base next granted : ℕ) → Fits (Head bay base next granted) → head_in (body (Head bay base next granted)) ≡ Some (Head bay base next granted)
 unfolding head_in
-head_back bay base next fits =
+head_back bay base next granted fits =
     let enc = encode_lower bay in
-    let rest = head_rest base next in
+    let rest = head_rest base next granted in
     let size : length enc ≡ 64 = omega (arith, length-encode_with lower_digits bay, fits.0.len) in
     let text = codes "bay " ++ (enc ++ rest) in
-    let long : length text ≡ 102 = omega (arith, length-append enc rest, size, rest_size base next) in
+    let long : length text ≡ 119 = omega (arith, length-append enc rest, size, rest_size base next granted) in
     let h = ap hash_of (front_of enc rest 64 size) ∙ hash_back bay fits.0 in
-    let b = ap (λ (l : List ℕ). number_of w64 (take 16 l)) (past enc rest 64 1 size) ∙ (ap (number_of w64) (rest_base base next) ∙ number_8 base fits.1) in
-    let n = ap (λ (l : List ℕ). number_of w64 (take 16 l)) (past enc rest 64 18 size) ∙ (ap (number_of w64) (rest_next base next) ∙ number_8 next fits.2) in
-    ap head_in (head_form bay base next) ∙ ((λ i. if is_equal (length text) 102 long i then head_if (hash_of (slice_range text 4 68)) (number_of w64 (slice_range text 69 85)) (number_of w64 (slice_range text 86 102)) else None)
-    ∙ λ i. head_if (h i) (b i) (n i))
+    let b = ap (λ (l : List ℕ). number_of w64 (take 16 l)) (past enc rest 64 1 size) ∙ (ap (number_of w64) (rest_base base next granted) ∙ number_8 base fits.1) in
+    let n = ap (λ (l : List ℕ). number_of w64 (take 16 l)) (past enc rest 64 18 size) ∙ (ap (number_of w64) (rest_next base next granted) ∙ number_8 next fits.2) in
+    let g = ap (λ (l : List ℕ). number_of w64 (take 16 l)) (past enc rest 64 35 size) ∙ (ap (number_of w64) (rest_granted base next granted) ∙ number_8 granted fits.3) in
+    ap head_in (head_form bay base next granted) ∙ ((λ i. if is_equal (length text) 119 long i then head_if (hash_of (slice_range text 4 68)) (number_of w64 (slice_range text 69 85)) (number_of w64 (slice_range text 86 102)) (number_of w64 (slice_range text 103 119)) else None)
+    ∙ λ i. head_if (h i) (b i) (n i) (g i))
 
-hold_size : (ask : ℕ) (e : Entry) → length (body (Hold ask e)) ≡ 131
+hold_size : (ask : ℕ) (e : Entry) → length (body (Hold ask e)) ≡ 148
 unfolding body digits encode_with
 hold_size ask e = omega (arith, entry_size e)
 
@@ -236,9 +254,9 @@ hold_ask : (ask : ℕ) (e : Entry) → slice_range (body (Hold ask e)) 5 21 ≡ 
 unfolding body digits encode_with
 hold_ask ask e = refl
 
-hold_entry : (ask : ℕ) (e : Entry) → slice_range (body (Hold ask e)) 22 131 ≡ entry_text e
+hold_entry : (ask : ℕ) (e : Entry) → slice_range (body (Hold ask e)) 22 148 ≡ entry_text e
 unfolding body digits encode_with
-hold_entry ask e = take_all_of (entry_text e) 109 (entry_size e)
+hold_entry ask e = take_all_of (entry_text e) 126 (entry_size e)
 
 hold_back : (ask : ℕ) (e : Entry) → Fits (Hold ask e) → hold_in (body (Hold ask e)) ≡ Some (Hold ask e)
 unfolding hold_in
@@ -246,7 +264,7 @@ hold_back ask e fits =
     let words = body (Hold ask e) in
     let a = ap (number_of w64) (hold_ask ask e) ∙ number_8 ask fits.0 in
     let h = ap entry_of (hold_entry ask e) ∙ entry_back e fits.1 in
-    (λ i. if is_equal (length words) 131 (hold_size ask e) i then hold_if (a i) (h i) else None)
+    (λ i. if is_equal (length words) 148 (hold_size ask e) i then hold_if (a i) (h i) else None)
 
 back_size : (from to : ℕ) → length (body (Back from to)) ≡ 38
 unfolding body digits encode_with
@@ -365,7 +383,7 @@ note_back ask text fits =
 
 first_back : (line : Line) → Fits line → line_in (body line) ≡ Some line
 unfolding line_in body
-first_back (Head bay base next) fits = head_back bay base next fits
+first_back (Head bay base next granted) fits = head_back bay base next granted fits
 first_back (Hold ask entry) fits = hold_back ask entry fits
 first_back (Back from to) fits = back_back from to fits
 first_back (End ask how at) fits = end_back ask how at fits

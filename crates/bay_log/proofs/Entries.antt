@@ -118,7 +118,7 @@ apart_set hs m (Some e) apart = apart_pushed (without m hs) m e (gone hs m) (apa
 
 -- one line more
 pub taken_holders : (hs : List Holder) (held : ℕ → Option Entry) (line : Line) → AreHolders hs held → AreHolders (taken hs line) (after held line)
-taken_holders hs held (Head bay base next) are = record { each = are.each; apart = are.apart }
+taken_holders hs held (Head bay base next granted) are = record { each = are.each; apart = are.apart }
 taken_holders hs held (Note ask text) are = record { each = are.each; apart = are.apart }
 taken_holders hs held (Hold ask e) are =
     record {

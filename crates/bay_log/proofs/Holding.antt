@@ -28,7 +28,7 @@ kept false y entry h = h
 -- whoever holds after a line that doesn't begin it held before it
 before_line : (held : ℕ → Option Entry) (line : Line) (n : ℕ) (entry : Entry) → begins n line ≡ false → after held line n ≡ Some entry
     → held n ≡ Some entry
-before_line held (Head bay base next) n entry none h = h
+before_line held (Head bay base next granted) n entry none h = h
 before_line held (Hold ask e) n entry none h = chosen (n == ask) (Some e) (held n) entry none h
 before_line held (Back from to) n entry none h =
     kept (n == from) (held n) entry (chosen (n == to) (held from) (if n == from then None else held n) entry none h)

@@ -75,15 +75,18 @@ entry : (e : Entry) → One (entry_text e)
 unfolding entry_text
 entry e =
     field
+    (field
     (field (field (field (field (number w32 e.class) (number w64 e.needs)) (both (number w64 _) (number w64 _))) (number w64 e.since)) (limit e.limit))
-    (number w64 e.asked)
+    (number w64 e.asked))
+    (number w64 e.token)
 
 word : (l : List ℕ) → IsOneLine l → One l
 word l h = record { is = h }
 
 words : (line : Line) → Fits line → One (body line)
 unfolding body
-words (Head bay base next) fits = field (field (both (word (codes "bay ") refl) (hex bay)) (number w64 base)) (number w64 next)
+words (Head bay base next granted) fits =
+    field (field (field (both (word (codes "bay ") refl) (hex bay)) (number w64 base)) (number w64 next)) (number w64 granted)
 words (Hold ask e) fits = field (both (word (codes "hold ") refl) (number w64 ask)) (entry e)
 words (Back from to) fits = field (both (word (codes "back ") refl) (number w64 from)) (number w64 to)
 words (End ask h at) fits = field (field (both (word (codes "end ") refl) (number w64 ask)) (how h)) (number w64 at)

@@ -6,7 +6,7 @@ use Rattle.bay_log.specs.declared.line.Line.TheVariants.{Head, Hold, Back, End, 
 
 -- what each ask holds after a line, from what it held before
 abbrev pub after : (ℕ → Option Entry) → Line → ℕ → Option Entry
-after held (Head bay base next) n = held n
+after held (Head bay base next granted) n = held n
 after held (Hold ask entry) n = if n == ask then Some entry else held n
 after held (Back from to) n = if n == to then held from else if n == from then None else held n
 after held (End ask how at) n = if n == ask then None else held n
@@ -22,7 +22,7 @@ alive lines = alive_from (λ n. None) lines
 
 -- the line by which an ask begins to hold
 abbrev pub begins : ℕ → Line → Bool
-begins n (Head bay base next) = false
+begins n (Head bay base next granted) = false
 begins n (Hold ask entry) = n == ask
 begins n (Back from to) = n == to
 begins n (End ask how at) = false

@@ -53,23 +53,26 @@ how_of word =
 
 -- ---- each kind of line, whatever its first word
 
-abbrev pub entry_if : Option ℕ → Option ℕ → Option ℕ → Option ℕ → Option (Option ℕ) → Option ℕ → Option Entry
-entry_if (Some c) (Some n) (Some o) (Some s) (Some l) (Some a) = Some (record { class = c; needs = n; owner = o; since = s; limit = l; asked = a })
-entry_if _ _ _ _ _ _ = None
+abbrev pub entry_if : Option ℕ → Option ℕ → Option ℕ → Option ℕ → Option (Option ℕ) → Option ℕ → Option ℕ → Option Entry
+entry_if (Some c) (Some n) (Some o) (Some s) (Some l) (Some a) (Some t) =
+    Some (record { class = c; needs = n; owner = o; since = s; limit = l; asked = a; token = t })
+entry_if _ _ _ _ _ _ _ = None
 
 unfoldable pub entry_of : List ℕ → Option Entry
 entry_of words =
     entry_if (number_of w32 (slice_range words 0 8)) (number_of w64 (slice_range words 9 25)) (number_of_128 (slice_range words 26 58))
     (number_of w64 (slice_range words 59 75)) (limit_of (slice_range words 76 92)) (number_of w64 (slice_range words 93 109))
+    (number_of w64 (slice_range words 110 126))
 
-abbrev pub head_if : Option (List ℕ) → Option ℕ → Option ℕ → Option Line
-head_if (Some bay) (Some base) (Some next) = Some (Head bay base next)
-head_if _ _ _ = None
+abbrev pub head_if : Option (List ℕ) → Option ℕ → Option ℕ → Option ℕ → Option Line
+head_if (Some bay) (Some base) (Some next) (Some granted) = Some (Head bay base next granted)
+head_if _ _ _ _ = None
 
 unfoldable pub head_in : List ℕ → Option Line
 head_in words =
-    if length words == 102
+    if length words == 119
     then head_if (hash_of (slice_range words 4 68)) (number_of w64 (slice_range words 69 85)) (number_of w64 (slice_range words 86 102))
+    (number_of w64 (slice_range words 103 119))
     else None
 
 abbrev pub hold_if : Option ℕ → Option Entry → Option Line
@@ -77,7 +80,7 @@ hold_if (Some ask) (Some entry) = Some (Hold ask entry)
 hold_if _ _ = None
 
 unfoldable pub hold_in : List ℕ → Option Line
-hold_in words = if length words == 131 then hold_if (number_of w64 (slice_range words 5 21)) (entry_of (slice_range words 22 131)) else None
+hold_in words = if length words == 148 then hold_if (number_of w64 (slice_range words 5 21)) (entry_of (slice_range words 22 148)) else None
 
 abbrev pub back_if : Option ℕ → Option ℕ → Option Line
 back_if (Some from) (Some to) = Some (Back from to)

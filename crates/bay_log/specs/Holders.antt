@@ -30,7 +30,7 @@ pushed n None holders = holders
 pushed n (Some entry) holders = holders ++ record { ask = n; entry = entry } ∷ []
 
 abbrev pub taken : List Holder → Line → List Holder
-taken holders (Head bay base next) = holders
+taken holders (Head bay base next granted) = holders
 taken holders (Hold ask entry) = pushed ask (Some entry) (without ask holders)
 taken holders (Back from to) = pushed to (entry_in holders from) (without to (without from holders))
 taken holders (End ask how at) = without ask holders

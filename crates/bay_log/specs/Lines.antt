@@ -32,10 +32,11 @@ limit_text (Some n) = digits w64 n
 unfoldable pub entry_text : Entry → List ℕ
 entry_text e =
     digits w32 e.class ++ codes " " ++ digits w64 e.needs ++ codes " " ++ digits_of_128 e.owner ++ codes " " ++ digits w64 e.since
-    ++ codes " " ++ limit_text e.limit ++ codes " " ++ digits w64 e.asked
+    ++ codes " " ++ limit_text e.limit ++ codes " " ++ digits w64 e.asked ++ codes " " ++ digits w64 e.token
 
 unfoldable pub body : Line → List ℕ
-body (Head bay base next) = codes "bay " ++ encode_lower bay ++ codes " " ++ digits w64 base ++ codes " " ++ digits w64 next
+body (Head bay base next granted) =
+    codes "bay " ++ encode_lower bay ++ codes " " ++ digits w64 base ++ codes " " ++ digits w64 next ++ codes " " ++ digits w64 granted
 body (Hold ask entry) = codes "hold " ++ digits w64 ask ++ codes " " ++ entry_text entry
 body (Back from to) = codes "back " ++ digits w64 from ++ codes " " ++ digits w64 to
 body (End ask how at) = codes "end " ++ digits w64 ask ++ codes " " ++ how_text how ++ codes " " ++ digits w64 at
@@ -84,16 +85,17 @@ pub record EntryFits (e : Entry) : Type 0 where
   pub since : e.since < 2 ^ 64
   pub limit : IfSome e.limit (λ n. n < 2 ^ 64)
   pub asked : e.asked < 2 ^ 64
+  pub token : e.token < 2 ^ 64
 
 abbrev pub Fits : Line → Type 0
-Fits (Head bay base next) = IsHash bay × (base < 2 ^ 64) × (next < 2 ^ 64)
+Fits (Head bay base next granted) = IsHash bay × (base < 2 ^ 64) × (next < 2 ^ 64) × (granted < 2 ^ 64)
 Fits (Hold ask entry) = (ask < 2 ^ 64) × EntryFits entry
 Fits (Back from to) = (from < 2 ^ 64) × (to < 2 ^ 64)
 Fits (End ask how at) = (ask < 2 ^ 64) × (at < 2 ^ 64)
 Fits (Note ask text) = (ask < 2 ^ 64) × IsText text
 
 abbrev pub is_head : Line → Bool
-is_head (Head bay base next) = true
+is_head (Head bay base next granted) = true
 is_head (Hold ask entry) = false
 is_head (Back from to) = false
 is_head (End ask how at) = false
@@ -119,10 +121,10 @@ AreLines lines = AreLinesFrom true lines
 
 -- how many bytes the files before this one had, by its head
 abbrev pub base_of : List Line → ℕ
-base_of (Head bay base next ∷ lines) = base
+base_of (Head bay base next granted ∷ lines) = base
 base_of lines = 0
 
 -- the hash of the bay, by the head
 abbrev pub bay_of : List Line → List ℕ
-bay_of (Head bay base next ∷ lines) = bay
+bay_of (Head bay base next granted ∷ lines) = bay
 bay_of lines = []

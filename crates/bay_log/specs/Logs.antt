@@ -22,8 +22,8 @@ abbrev pub unsent_of : LogView → List ℕ
 unsent_of log = drop (log.sent - base_of log.lines) (log_text log.lines)
 
 -- the log of a new file
-abbrev pub beginning : List ℕ → ℕ → ℕ → LogView
-beginning bay base next = record { lines = Head bay base next ∷ []; durable = base; sent = base }
+abbrev pub beginning : List ℕ → ℕ → ℕ → ℕ → LogView
+beginning bay base next granted = record { lines = Head bay base next granted ∷ []; durable = base; sent = base }
 
 -- the log of a new file that goes on from this one, of the same bay
 abbrev pub turning : LogView → ℕ → LogView

@@ -54,7 +54,7 @@ fn limit_text(limit: Option<u64>) -> [u8; 16]
 fn put_entry(out: &mut Words, entry: Entry)
     requires { array_vec_len out.old ≤ 100 }
     ensures text { out.new.items ≡ out.old.items ++ entry_text entry }
-    ensures len { array_vec_len out.new ≡ array_vec_len out.old + 109 }
+    ensures len { array_vec_len out.new ≡ array_vec_len out.old + 126 }
     ensures fits { EntryFits entry }
 {
     put(out, &digits_32(entry.class));
@@ -68,6 +68,8 @@ fn put_entry(out: &mut Words, entry: Entry)
     put(out, &limit_text(entry.limit));
     put(out, b" ");
     put(out, &digits_64(entry.asked));
+    put(out, b" ");
+    put(out, &digits_64(entry.token));
 }
 
 /// The words of a line.
@@ -79,13 +81,20 @@ pub(crate) fn body(line: &Line) -> Words
 {
     let mut out = Words::new();
     match line {
-        Line::Head { bay, base, next } => {
+        Line::Head {
+            bay,
+            base,
+            next,
+            granted,
+        } => {
             put(&mut out, b"bay ");
             put(&mut out, &digits_of_hash(*bay));
             put(&mut out, b" ");
             put(&mut out, &digits_64(*base));
             put(&mut out, b" ");
             put(&mut out, &digits_64(*next));
+            put(&mut out, b" ");
+            put(&mut out, &digits_64(*granted));
         }
         Line::Hold { ask, entry } => {
             put(&mut out, b"hold ");

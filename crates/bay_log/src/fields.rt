@@ -56,7 +56,7 @@ fn how_of(word: &[u8]) -> Option<How>
 /// What an ask holds, by these words.
 #[tactic(auto, unfolding(crate::specs::Bodies::entry_of))]
 fn entry_of(words: &[u8]) -> Option<Entry>
-    requires { length words.now ≡ 109 }
+    requires { length words.now ≡ 126 }
     ensures { result ≡ entry_of words.now }
 {
     let class = number_32(&words[0..8])?;
@@ -65,6 +65,7 @@ fn entry_of(words: &[u8]) -> Option<Entry>
     let since = number_64(&words[59..75])?;
     let limit = limit_of(&words[76..92])?;
     let asked = number_64(&words[93..109])?;
+    let token = number_64(&words[110..126])?;
     Some(Entry {
         class,
         needs,
@@ -72,6 +73,7 @@ fn entry_of(words: &[u8]) -> Option<Entry>
         since,
         limit,
         asked,
+        token,
     })
 }
 
@@ -80,13 +82,19 @@ fn entry_of(words: &[u8]) -> Option<Entry>
 fn head_in(words: &[u8]) -> Option<Line>
     ensures { result ≡ head_in words.now }
 {
-    if words.len() != 102 {
+    if words.len() != 119 {
         return None;
     }
     let bay = hash_of(&words[4..68])?;
     let base = number_64(&words[69..85])?;
     let next = number_64(&words[86..102])?;
-    Some(Line::Head { bay, base, next })
+    let granted = number_64(&words[103..119])?;
+    Some(Line::Head {
+        bay,
+        base,
+        next,
+        granted,
+    })
 }
 
 /// The hold that may have these words.
@@ -94,11 +102,11 @@ fn head_in(words: &[u8]) -> Option<Line>
 fn hold_in(words: &[u8]) -> Option<Line>
     ensures { result ≡ hold_in words.now }
 {
-    if words.len() != 131 {
+    if words.len() != 148 {
         return None;
     }
     let ask = number_64(&words[5..21])?;
-    let entry = entry_of(&words[22..131])?;
+    let entry = entry_of(&words[22..148])?;
     Some(Line::Hold { ask, entry })
 }
 

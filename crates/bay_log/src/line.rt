@@ -18,20 +18,40 @@ pub struct Entry {
     pub limit: Option<u64>,
     /// Since when it asked.
     pub asked: u64,
+    /// Its token: larger than that of each ask that came to hold before it.
+    pub token: u64,
 }
 
 /// One line of a journal.
 #[derive(Drop)]
 pub enum Line {
-    /// The first line of a file: the hash of the bay that it belongs to, how many bytes the files before it had, and a number below which every
-    /// number was given.
-    Head { bay: [u8; 32], base: u64, next: u64 },
+    /// The first line of a file: the hash of the bay that it belongs to, how many bytes the files before it had, a number below which every
+    /// number was given, and a number that no token was larger than.
+    Head {
+        bay: [u8; 32],
+        base: u64,
+        next: u64,
+        granted: u64,
+    },
     /// An ask holds.
-    Hold { ask: u64, entry: Entry },
+    Hold {
+        ask: u64,
+        entry: Entry,
+    },
     /// What one ask holds is another's from here on.
-    Back { from: u64, to: u64 },
+    Back {
+        from: u64,
+        to: u64,
+    },
     /// An ask is over, since this moment.
-    End { ask: u64, how: How, at: u64 },
+    End {
+        ask: u64,
+        how: How,
+        at: u64,
+    },
     /// A note of whoever asked.
-    Note { ask: u64, text: Text },
+    Note {
+        ask: u64,
+        text: Text,
+    },
 }

@@ -65,10 +65,21 @@ fn bay_of(lines: &[Line]) -> Option<[u8; 32]>
 
 impl Log {
     /// The log of a new file: its head alone, of a bay with this hash, behind so many bytes of the files before it.
-    pub fn begin(alloc: Global, bay: [u8; 32], base: u64, next: u64) -> Result<Log, AllocError>
-        ensures { IfOk result (λ log. log ≡ beginning bay base next) }
+    pub fn begin(
+        alloc: Global,
+        bay: [u8; 32],
+        base: u64,
+        next: u64,
+        granted: u64,
+    ) -> Result<Log, AllocError>
+        ensures { IfOk result (λ log. log ≡ beginning bay base next granted) }
     {
-        let head = Line::Head { bay, base, next };
+        let head = Line::Head {
+            bay,
+            base,
+            next,
+            granted,
+        };
         let mut words = ArrayVec::new();
         let sum = put_line(&mut words, [0; 8], &head);
         if words.len() as u64 > u64::MAX - base {

@@ -78,22 +78,28 @@ fn look(rt: &impl Abort, bay: &Bay) {
 }
 
 /// What is told, once the last is done.
-fn tell(rt: &impl Abort, bay: &mut Bay, done: u64, wanted: Option<(u64, u64, Outcome, u64)>) {
-    let came = bay.tell(done).map(|told| (told.serial, told.number, told.outcome, told.needs));
+fn tell(rt: &impl Abort, bay: &mut Bay, done: u64, wanted: Option<(u64, u64, Outcome, u64, u64)>) {
+    let came = bay.tell(done).map(|told| (
+        told.serial,
+        told.number,
+        told.outcome,
+        told.needs,
+        told.token,
+    ));
     check(rt, done, came, wanted);
 }
 
-/// The head has 120 bytes, and the hold of 5 has 149.
+/// The head has 137 bytes, and the hold of 5 has 166.
 fn write(rt: &impl Abort, bay: &mut Bay) {
     check(rt, "written", bay.journal().is_ok(), true);
-    check(rt, "position", bay.position(), 269);
+    check(rt, "position", bay.position(), 303);
     bay.sent();
     check(rt, "all was handed out", bay.unsent().len(), 0);
     bay.failed();
-    check(rt, "again", bay.unsent().len(), 269);
+    check(rt, "again", bay.unsent().len(), 303);
     bay.sent();
-    bay.durable(269);
-    tell(rt, bay, 0, Some((1, 5, Outcome::Holds, 3)));
+    bay.durable(303);
+    tell(rt, bay, 0, Some((1, 5, Outcome::Holds, 3, 1)));
     tell(rt, bay, 1, None);
 }
 
@@ -111,7 +117,7 @@ fn note(rt: &impl Abort, alloc: Global, bay: &mut Bay) {
         bay.note(alloc, 5, b"a\nb"),
         Err(NotNoted::NoText),
     );
-    check(rt, "noted", bay.note(alloc, 5, b"volts 3"), Ok(316));
+    check(rt, "noted", bay.note(alloc, 5, b"volts 3"), Ok(350));
 }
 
 /// The client of 5 is gone since 6, so its grace is over at 16, until its owner is there again.
@@ -123,13 +129,18 @@ fn go(rt: &impl Abort, bay: &mut Bay) {
     check(rt, "no grace", bay.next_moment(), Some(20));
 }
 
-/// 5 lets go, so 6 holds; that is taken away, and told at once.
+/// 5 lets go, so 6 holds, with the next token; that is taken away, and told at once.
 fn end(rt: &impl Abort, bay: &mut Bay) {
     check(rt, "it waits", bay.let_go(6, 8), Err(NotHeld::Waits));
     check(rt, "lets go", bay.let_go(5, 8), Ok(()));
     check(rt, "it is over", bay.let_go(5, 8), Err(NotHeld::Over));
     check(rt, "taken away", bay.take_away(6, 9), Ok(()));
-    tell(rt, bay, 1, Some((2, 6, Outcome::Over(End::TakenAway), 0)));
+    tell(
+        rt,
+        bay,
+        1,
+        Some((2, 6, Outcome::Over(End::TakenAway), 0, 2)),
+    );
     bay.time(30);
     check(rt, "asks", bay.ask(&[1], request(7, 0, None), 30), Ok(()));
     bay.leave(7, 30);
@@ -141,6 +152,16 @@ fn end(rt: &impl Abort, bay: &mut Bay) {
         bay.ask(&[1], request(8, 0, None), 31),
         Err(NotAsked::Stopped),
     );
+}
+
+/// 8 tokens were given, and so 8 numbers at least; 9 is let in with token 9.
+fn rise(rt: &impl Abort, bay: &mut Bay) {
+    check(rt, "next", bay.next_number(), 8);
+    check(rt, "asks", bay.ask(&[4], request(9, 0, None), 52), Ok(()));
+    check(rt, "both", bay.len(), 2);
+    assert!(rt; 1 < bay.len());
+    check(rt, "its own", bay.ask_at(0).token, 8);
+    check(rt, "larger", bay.ask_at(1).token, 9);
 }
 
 #[test]
@@ -158,7 +179,7 @@ fn bays(rt: HostRuntime) {
     }
 }
 
-/// It comes back from the two whole lines of its file, and 5 holds.
+/// It comes back from the two whole lines of its file, and 5 holds. Whoever is let in next has a larger token than 5 has, which is 8.
 #[test]
 fn come_back(rt: HostRuntime) {
     match Bay::resume(
@@ -172,9 +193,10 @@ fn come_back(rt: HostRuntime) {
         50,
     ) {
         Ok((mut bay, used)) => {
-            check(&rt, "used", used, 269);
+            check(&rt, "used", used, 303);
             check(&rt, "grace", bay.next_moment(), Some(60));
             check(&rt, "back", bay.back(5, OWNER, 51), Some(3));
+            rise(&rt, &mut bay);
         }
         Err(_) => panic!(rt; "no bay"),
     }

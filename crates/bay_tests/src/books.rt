@@ -1,6 +1,7 @@
 //! The book.
 use crate::rows::check;
 use bay_book::{Book, End, Outcome, Stage};
+use std::alloc::Global;
 use std::process::Abort;
 use std::rt::HostRuntime;
 
@@ -33,6 +34,12 @@ fn hold(rt: &impl Abort, book: &mut Book, place: usize, needs: u64, now: u64) {
         Stage::Waits => book.hold(place, needs, now, true),
         _ => panic!(rt; "it doesn't wait"),
     }
+}
+
+/// The token of the ask at this place.
+fn token(rt: &impl Abort, book: &Book, place: usize, wanted: u64) {
+    assert!(rt; place < book.len());
+    check(rt, "token", book.ask_at(place).token, wanted);
 }
 
 /// 3 holds 1 and 2 from 3 on, so its limit is over at 7, if somebody wants 1.
@@ -94,20 +101,25 @@ fn let_go(rt: &impl Abort, book: &mut Book) {
     check(rt, "it is the other", book.place_of(5), Some(0));
 }
 
-/// One holds again, as a journal says, whose numbers are all below 12.
-fn restore(rt: &impl Abort, book: &mut Book) {
-    book.is_sound();
-    book.skip(12);
-    check(rt, "next", book.next(), 12);
-    assert!(rt; book.next() <= 12);
+/// One holds again, as a journal says, with token 18. Numbers below 12 were given, and 20 tokens, so as many numbers. Whoever is let in next has token 21.
+fn restore(rt: &impl Abort, alloc: Global) {
+    let mut book = Book::nobody(alloc);
+    book.skip(12, 20);
     check(
         rt,
         "it is back",
-        book.restore(12, 0, 3, None, 8, 1, 2, 4),
+        book.restore(12, 0, 3, None, 8, 1, 2, 4, 18),
         Ok(()),
     );
     check(rt, "it holds", book.in_use(), 8);
-    tell(rt, book, None);
+    check(rt, "next", book.next(), 20);
+    check(rt, "tokens", book.granted(), 20);
+    tell(rt, &mut book, None);
+    assert!(rt; book.next() <= 20);
+    check(rt, "asks", book.add(20, 0, 5, None, None, 6), Ok(()));
+    hold(rt, &mut book, 1, 1, 6);
+    token(rt, &book, 0, 18);
+    token(rt, &book, 1, 21);
 }
 
 #[test]
@@ -116,9 +128,11 @@ fn books(rt: HostRuntime) {
     ask(&rt, &mut book);
     wait(&rt, &book);
     hold(&rt, &mut book, 0, 6, 3);
+    token(&rt, &book, 0, 1);
+    token(&rt, &book, 1, 0);
     use_up(&rt, &book);
     write(&rt, &mut book);
     go(&rt, &mut book);
     let_go(&rt, &mut book);
-    restore(&rt, &mut book);
+    restore(&rt, rt.alloc());
 }

@@ -9,14 +9,18 @@ use std::rt::HostRuntime;
 
 /// The head of the bay whose hash is the bytes 0 to 31, and a hold of ask 5.
 const HEAD: &[u8] =
-    b"d6e9de791de0e594 bay 000102030405060708090a0b0c0d0e0f101112131415161718191a1b1c1d1e1f 0000000000000000 0000000000000000\n";
+    b"8eb4f416f9f7a970 bay 000102030405060708090a0b0c0d0e0f101112131415161718191a1b1c1d1e1f 0000000000000000 0000000000000000 0000000000000000\n";
 
 const HOLD: &[u8] =
-    b"6c263fd900aaa012 hold 0000000000000005 00000000 0000000000000003 00000000000000070000000000000009 0000000000000004 0000000000000006 0000000000000002\n";
+    b"ee5f183f5fb67013 hold 0000000000000005 00000000 0000000000000003 00000000000000070000000000000009 0000000000000004 0000000000000006 0000000000000002 0000000000000008\n";
+
+/// A head as it was before there were tokens, with its own sum.
+const OLDER_HEAD: &[u8] =
+    b"d6e9de791de0e594 bay 000102030405060708090a0b0c0d0e0f101112131415161718191a1b1c1d1e1f 0000000000000000 0000000000000000\n";
 
 /// Both, and a line that is torn.
 pub(crate) const FILE: &[u8] =
-    b"d6e9de791de0e594 bay 000102030405060708090a0b0c0d0e0f101112131415161718191a1b1c1d1e1f 0000000000000000 0000000000000000\n6c263fd900aaa012 hold 0000000000000005 00000000 0000000000000003 00000000000000070000000000000009 0000000000000004 0000000000000006 0000000000000002\n27fe3f";
+    b"8eb4f416f9f7a970 bay 000102030405060708090a0b0c0d0e0f101112131415161718191a1b1c1d1e1f 0000000000000000 0000000000000000 0000000000000000\nee5f183f5fb67013 hold 0000000000000005 00000000 0000000000000003 00000000000000070000000000000009 0000000000000004 0000000000000006 0000000000000002 0000000000000008\n27fe3f";
 
 pub(crate) const BAY: [u8; 32] = [
     0, 1, 2, 3, 4, 5, 6, 7, 8, 9, 10, 11, 12, 13, 14, 15, 16, 17, 18, 19, 20, 21, 22, 23, 24, 25,
@@ -25,7 +29,7 @@ pub(crate) const BAY: [u8; 32] = [
 
 pub(crate) const OWNER: u128 = 0x7_0000_0000_0000_0009;
 
-/// Instruments 0 and 1 in class 0, since 4, for 6; it asked at 2.
+/// Instruments 0 and 1 in class 0, since 4, for 6, with token 8; it asked at 2.
 const ENTRY: Entry = Entry {
     class: 0,
     needs: 3,
@@ -33,12 +37,13 @@ const ENTRY: Entry = Entry {
     since: 4,
     limit: Some(6),
     asked: 2,
+    token: 8,
 };
 
 /// Head and hold are written one after the other; the hold is handed out again if its write fails.
 fn write(rt: &impl Abort, log: &mut Log) {
     check(rt, "head", log.unsent(), HEAD);
-    check(rt, "its end", log.position(), 120);
+    check(rt, "its end", log.position(), 137);
     log.send();
     check(
         rt,
@@ -50,10 +55,10 @@ fn write(rt: &impl Abort, log: &mut Log) {
         .is_ok(),
         true,
     );
-    check(rt, "all", log.position(), 269);
+    check(rt, "all", log.position(), 303);
     check(rt, "what is new", log.unsent(), HOLD);
-    log.reach(120);
-    check(rt, "durable", log.durable(), 120);
+    log.reach(137);
+    check(rt, "durable", log.durable(), 137);
     log.send();
     check(rt, "nothing", log.unsent(), b"".as_slice());
     log.failed();
@@ -62,7 +67,7 @@ fn write(rt: &impl Abort, log: &mut Log) {
 
 #[test]
 fn write_lines(rt: HostRuntime) {
-    match Log::begin(rt.alloc(), BAY, 0, 0) {
+    match Log::begin(rt.alloc(), BAY, 0, 0, 0) {
         Ok(mut log) => write(&rt, &mut log),
         Err(_) => panic!(rt; "no log"),
     }
@@ -72,7 +77,7 @@ fn write_lines(rt: HostRuntime) {
 fn hold(rt: &impl Abort, alloc: Global, found: &Found)
     requires { IsSound found.now }
 {
-    check(rt, "used", found.used, 269);
+    check(rt, "used", found.used, 303);
     match holders(alloc, &found.lines) {
         Ok(held) => check(
             rt,
@@ -83,7 +88,7 @@ fn hold(rt: &impl Abort, alloc: Global, found: &Found)
         Err(_) => panic!(rt; "no memory"),
     }
     match Log::resume(alloc, found) {
-        Some(log) => check(rt, "goes on", (log.position(), log.durable()), (269, 269)),
+        Some(log) => check(rt, "goes on", (log.position(), log.durable()), (303, 303)),
         None => panic!(rt; "no place"),
     }
 }
@@ -97,6 +102,13 @@ fn read_lines(rt: HostRuntime) {
     }
     let fault = read(rt.alloc(), HOLD).err();
     check(&rt, "no head", fault, Some(Fault::Wrong(1)));
+}
+
+/// A head that says no largest token is of an older labrun, and none.
+#[test]
+fn read_older_heads(rt: HostRuntime) {
+    let fault = read(rt.alloc(), OLDER_HEAD).err();
+    check(&rt, "no token", fault, Some(Fault::Wrong(1)));
 }
 
 #[test]

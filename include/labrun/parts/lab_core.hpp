@@ -90,6 +90,7 @@ class lab_core final : public shell, public std::enable_shared_from_this<lab_cor
             found.push_back(begun(it.number, it.kind));
             found.back()->what = LAB_HOLDS;
             found.back()->needs = needs;
+            found.back()->token = it.token;
         }
         return found;
     }

@@ -15,6 +15,7 @@ struct session_state {
     std::uint64_t number = 0;
     std::uint32_t kind = 0, what = NOTHING_YET; // its class, and what it was told last
     std::uint64_t wants = 0, needs = 0;         // the instruments of all sets that it asked for; and those that it came to hold
+    std::uint64_t token = 0;                    // from when it came to hold on
     bool lets_go = false, has_let_go = false;
     std::string note{};
     std::optional<timed_out> late{}; // of one whose time limit passed
@@ -94,7 +95,7 @@ class shell : public shared {
 
   private:
     void tell(session_state &of, const lab_outcome &it) {
-        if (it.what == LAB_HOLDS) of.needs = it.needs;
+        if (it.what == LAB_HOLDS) of.needs = it.needs, of.token = it.token;
         if (it.what == LAB_LAPSED) try {
                 of.late.emplace(in_the_way{&bay_, names, now()}.of(it.number, of.wants, of.kind));
             } catch (const std::bad_alloc &) {

@@ -59,7 +59,7 @@ impl Hold {
             self.inner.options.keeps()?;
         }
         // (before the mutex, so that it goes behind it: dropped, it leaves the line)
-        let mut held = Held { inner: Arc::clone(&self.inner), number: 0, needs: 0 };
+        let mut held = Held { inner: Arc::clone(&self.inner), number: 0, needs: 0, token: 0 };
         let mut shell = self.inner.open()?;
         if self.timeout.min(self.limit) != NEVER {
             shell.starts_timer()?;
@@ -68,7 +68,7 @@ impl Hold {
         shell.state.next += 1;
         shell.is_told(held.number, Told::Nothing);
         self.ask(&mut shell, held.number, sets)?;
-        held.needs = self.wait(shell, held.number)?;
+        (held.needs, held.token) = self.wait(shell, held.number)?;
         if let Some(text) = &self.note {
             held.note(text)?;
         }
@@ -88,11 +88,11 @@ impl Hold {
         }
     }
 
-    /// Sleeps until it holds; what it holds, or why it doesn't.
-    fn wait(&self, mut shell: Shell<'_>, number: u64) -> Result<u64, Error> {
+    /// Sleeps until it holds; what it holds, and its token, or why it doesn't.
+    fn wait(&self, mut shell: Shell<'_>, number: u64) -> Result<(u64, u64), Error> {
         loop {
             match shell.told(number) {
-                Told::Holds(needs) => return Ok(needs),
+                Told::Holds(needs, token) => return Ok((needs, token)),
                 Told::Over(how) => return Err(self.why(&mut shell, number, how)),
                 _ => shell = shell.sleeps_until_told(number)?,
             }

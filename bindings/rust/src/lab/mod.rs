@@ -104,12 +104,12 @@ impl Lab {
     /// ```
     pub fn resumed(&self) -> Result<Vec<Held>, Error> {
         let (mut found, mut shell) = (Vec::new(), self.inner.open()?);
-        for Standing { number, mut needs, .. } in shell.standing()?.into_iter().filter(|it| it.what == HOLDS) {
+        for Standing { number, mut needs, token, .. } in shell.standing()?.into_iter().filter(|it| it.what == HOLDS) {
             let is_known = shell.state.asks.contains_key(&number);
             // (its limit may be over just now)
             if !is_known && shell.calls(|bay, now| lab_bay_back(bay, number, 1, number, now, &mut needs))? == DONE {
-                shell.is_told(number, Told::Holds(needs));
-                found.push(Held { inner: Arc::clone(&self.inner), number, needs });
+                shell.is_told(number, Told::Holds(needs, token));
+                found.push(Held { inner: Arc::clone(&self.inner), number, needs, token });
             }
         }
         Ok(found)

@@ -14,12 +14,26 @@ pub struct Held {
     pub(super) inner: Arc<Inner>,
     pub(super) number: u64,
     pub(super) needs: u64,
+    pub(super) token: u64,
 }
 
 impl Held {
     /// Its number, which no other session of the lab ever has; with a journal not after a restart either.
     pub fn number(&self) -> u64 {
         self.number
+    }
+
+    /// Its token: larger than that of each session that came to hold before it; with a journal also after a restart. So a server before an
+    /// instrument can refuse whoever comes with a smaller one than it has seen: a session that was taken away, and doesn't know it yet.
+    ///
+    /// ```
+    /// let lab = labrun::Lab::new(["scope"])?;
+    /// let first = lab.hold(&["scope"]).begin()?.token();
+    /// assert!(lab.hold(&["scope"]).begin()?.token() > first);
+    /// # Ok::<(), labrun::Error>(())
+    /// ```
+    pub fn token(&self) -> u64 {
+        self.token
     }
 
     /// The instruments that it holds, in the order of the lab's.
@@ -29,7 +43,7 @@ impl Held {
 
     /// Whether it still holds: no if it was taken away, or let go and the disk has that.
     pub fn is_held(&self) -> bool {
-        self.inner.open().is_ok_and(|shell| matches!(shell.told(self.number), Told::Holds(_) | Told::LetsGo))
+        self.inner.open().is_ok_and(|shell| matches!(shell.told(self.number), Told::Holds(..) | Told::LetsGo))
     }
 
     /// Notes something in the journal: at most 500 bytes, without line feed or carriage return. It is on the disk when this returns. After
@@ -38,7 +52,7 @@ impl Held {
         self.inner.options.keeps()?;
         let mut shell = self.inner.open()?;
         match shell.told(self.number) {
-            Told::Holds(_) => {}
+            Told::Holds(..) => {}
             Told::LetsGo | Told::Over(LET_GO) => return Err(Error::NotNow(format!("session {} lets go", self.number))),
             _ => return Err(Error::TakenAway),
         }
@@ -56,7 +70,7 @@ impl Held {
     pub fn finish(&mut self) -> Result<(), Error> {
         let mut shell = self.inner.open()?;
         // (else it lets go already, and a write failed meanwhile, or is done by now)
-        if matches!(shell.told(self.number), Told::Holds(_)) {
+        if matches!(shell.told(self.number), Told::Holds(..)) {
             shell.is_told(self.number, Told::LetsGo);
             // (somebody may have taken it away just now: that is told)
             shell.calls(|bay, now| lab_bay_let_go(bay, self.number, now))?;
@@ -79,7 +93,7 @@ impl Held {
         let mut shell = self.inner.open()?;
         let Some((told, _)) = shell.state.asks.remove(&self.number) else { return Ok(()) };
         // (one that holds lets go, which is the journal's word for it; one that still waits, or comes to hold, leaves)
-        let call = if matches!(told, Told::Holds(_)) && !std::thread::panicking() { lab_bay_let_go } else { lab_bay_leave };
+        let call = if matches!(told, Told::Holds(..)) && !std::thread::panicking() { lab_bay_let_go } else { lab_bay_leave };
         shell.calls(|bay, now| call(bay, self.number, now)).map(drop)
     }
 }

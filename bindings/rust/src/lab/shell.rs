@@ -42,7 +42,8 @@ impl Inner {
 #[derive(Clone, Copy)]
 pub(super) enum Told {
     Nothing,
-    Holds(u64),
+    /// What it holds, and its token.
+    Holds(u64, u64),
     /// It lets go, and that isn't durable yet.
     LetsGo,
     /// It is over, and how.
@@ -111,7 +112,7 @@ impl<'l> Shell<'l> {
         let mut it = Outcome { serial: self.state.serial, ..Outcome::default() };
         while self.reads(|bay| lab_bay_tell(bay, it.serial, &mut it))? == DONE {
             if let Some((told, woken)) = self.state.asks.get_mut(&it.number) {
-                *told = if it.what == HOLDS { Told::Holds(it.needs) } else { Told::Over(it.what) };
+                *told = if it.what == HOLDS { Told::Holds(it.needs, it.token) } else { Told::Over(it.what) };
                 woken.notify_one();
             }
             self.state.serial = it.serial;

@@ -1,5 +1,3 @@
-use Rattle.std.proofs.Common.{length, Some, None, subst}
-use Rattle.bay.specs.Restoring.{IsNextTo}
 use Rattle.bay.specs.Refusals.{IsWhyNotRestored}
 use Rattle.bay.proofs.Restored.{so_far_more, all_done}
 use Rattle.bay.proofs.Refused.{why_lines, handed_on}
@@ -8,21 +6,19 @@ use Rattle.bay.proofs.restoring.restore_all.Goals as goal
 pub loop-place-preserved : goal.loop-place-preserved
 loop-place-preserved c =
     let l = c.loop-place in let holders = c.args.holders.now in let place = c.in-Some.place in
-    let s = so_far_more c.args.classes.now c.args.lines.now c.args.moment c.args.book.now.durable holders l.book c.restore_one.new.book place
-    c.requires.holders (subst (λ n. IsNextTo n holders (length holders) (Some place)) c.next.ensures c.in-Some.ensures)
-    c.in_ok-restore_one.ensures.restores c.in_ok-restore_one.ensures.alone l.invariant.each l.invariant.done in
-    record { alone = s.alone; each = s.each; done = s.done }
+    let s = so_far_more c.args.classes.now c.args.lines.now c.args.moment c.args.book.now.durable l.next holders l.book c.restore_one.new.book place
+    c.requires.holders c.in-Some.ensures c.in_ok-restore_one.ensures.restores c.in_ok-restore_one.ensures.alone l.invariant.each l.invariant.done l.invariant.low in
+    record { alone = s.alone; each = s.each; done = s.done; low = s.low }
 
 pub returns-clause-all : goal.returns-clause-all
 returns-clause-all c =
     let l = c.loop-place in let holders = c.args.holders.now in
-    all_done c.args.lines.now holders l.book c.requires.holders
-    (subst (λ n. IsNextTo n holders (length holders) None) c.next.ensures c.in_default.ensures) l.invariant.done
+    all_done c.args.lines.now l.next holders l.book c.requires.holders c.in_default.ensures l.invariant.done
 
 pub returns-in_err-restore_one-clause-why : goal.returns-in_err-restore_one-clause-why
 returns-in_err-restore_one-clause-why c =
     let l = c.loop-place in let holders = c.args.holders.now in let place = c.in-Some.place in
-    let why = why_lines c.args.classes.now c.args.lines.now c.args.moment c.args.book.now.durable holders l.book place c.in_err-restore_one.field-0.0 c.requires.holders
-    c.is_sound.ensures l.invariant.each (subst (λ n. IsNextTo n holders (length holders) (Some place)) c.next.ensures c.in-Some.ensures)
+    let why = why_lines c.args.classes.now c.args.lines.now c.args.moment c.args.book.now.durable l.next holders l.book place c.in_err-restore_one.field-0.0 c.requires.holders
+    c.is_sound.ensures l.invariant.each l.invariant.low c.in-Some.ensures
     c.in_err-restore_one.ensures.why in
     handed_on (IsWhyNotRestored c.args.classes.now c.args.lines.now) c.from_residual.result c.in_err-restore_one.field-0.0 c.from_residual.ensures.1 why

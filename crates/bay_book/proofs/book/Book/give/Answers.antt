@@ -10,5 +10,5 @@ pub invariant_of-self : goal.invariant_of-self
 invariant_of-self c =
     let x = c.self.inside in let at = c.args.at in
     let items = with_items_is x.asks c.give_all.new.asks (c.give_all.auto.asks ∙ c.deref_mut.ensures.len) in
-    subst (λ (z : List Ask). IsSound (record { asks = z; next = x.next; durable = x.durable })) (sym (items ∙ (c.give_all.ensures ∙ ap (map (given at)) c.deref_mut.ensures.value)))
-    (sound_give (record { asks = x.asks.items; next = x.next; durable = x.durable }) at c.self.invariant)
+    subst (λ (z : List Ask). IsSound (record { asks = z; next = x.next; granted = x.granted; durable = x.durable })) (sym (items ∙ (c.give_all.ensures ∙ ap (map (given at)) c.deref_mut.ensures.value)))
+    (sound_give (record { asks = x.asks.items; next = x.next; granted = x.granted; durable = x.durable }) at c.self.invariant)

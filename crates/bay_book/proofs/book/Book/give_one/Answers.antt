@@ -1,0 +1,19 @@
+use Rattle.std.proofs.Common.{◌≡◌, ◌<◌, length, refl, sym, ap, ◌∙◌, subst, arith}
+use Rattle.std.proofs.lemmas.List.{get_or_read}
+use Rattle.bay_book.specs.declared.ask.Ask.{Ask}
+use Rattle.bay_book.specs.Asks.{no_ask, ask_at, given}
+use Rattle.bay_book.specs.Books.{BookView, IsSound, with_ask}
+use Rattle.bay_book.proofs.Sound.{sound_set, sound_given}
+use Rattle.bay_book.proofs.book.Book.give_one.Goals as goal
+
+pub invariant_of-self : goal.invariant_of-self
+invariant_of-self c =
+    let i = c.self.inside in let place = c.args.place in
+    let x : BookView = record { asks = i.asks.items; next = i.next; granted = i.granted; durable = i.durable } in
+    let inside : place < length x.asks = subst (λ (v : BookView). place < length v.asks) (sym c.self.view_is) c.requires in
+    let a = ask_at x.asks place in
+    let here : c.index.result.now ≡ a =
+    get_or_read x.asks place c.index.result.now inside c.index.ensures no_ask in
+    let is : c.given.result ≡ given c.args.at a = c.given.ensures ∙ ap (given c.args.at) here in
+    subst (λ (v : Ask). IsSound (with_ask x place v)) (sym is)
+    (sound_set x place (given c.args.at a) inside refl refl (omega arith) (sound_given x.durable c.args.at a (c.self.invariant.each place no_ask inside)) c.self.invariant)
