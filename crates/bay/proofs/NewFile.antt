@@ -292,13 +292,13 @@ below_filled log book (suc n) s within h =
 -- ---- the new file
 
 pub begun_new : (book : BookView) (log : LogView) → is_none (new_lines book log).lines ≡ false
-begun_new book log = begun_filled (turning log book.next) book.asks (length book.asks) refl
+begun_new book log = begun_filled (turning log book.next book.granted) book.asks (length book.asks) refl
 
 pub base_new : (book : BookView) (log : LogView) → base_of (new_lines book log).lines ≡ end_of log
-base_new book log = base_filled (turning log book.next) book.asks (length book.asks) refl
+base_new book log = base_filled (turning log book.next book.granted) book.asks (length book.asks) refl
 
 pub sent_new : (book : BookView) (log : LogView) → (new_lines book log).sent ≡ end_of log
-sent_new book log = sent_filled (turning log book.next) book.asks (length book.asks)
+sent_new book log = sent_filled (turning log book.next book.granted) book.asks (length book.asks)
 
 pub text_new : (book : BookView) (log : LogView) → unsent_of (new_lines book log) ≡ log_text (new_lines book log).lines
 text_new book log =
@@ -310,7 +310,7 @@ text_new book log =
 pub none_new : (book : BookView) (log : LogView) (k : ℕ) → ((a : Ask) → Has book.asks a → a.stage ≡ Holds → a.number ≢ k)
     → list_any (begins k) (new_lines book log).lines ≡ false
 none_new book log k isnt =
-    none_filled (turning log book.next) book.asks k (length book.asks) refl
+    none_filled (turning log book.next book.granted) book.asks k (length book.asks) refl
     (λ j less holds. isnt (ask_at book.asks j) (has_at book.asks j no_ask less) holds)
 
 -- whoever holds does so by the new lines
@@ -319,12 +319,12 @@ pub has_new : (book : BookView) (log : LogView) (a : Ask) → IsSound book → H
 has_new book log a s h holds =
     let p = place_of book.asks a no_ask h in
     subst (λ (b : Ask). alive (new_lines book log).lines b.number ≡ Some (entry_of b)) p.2
-    (has_filled (turning log book.next) book p.0 (length book.asks) s p.1 (omega arith) (ap (λ (b : Ask). b.stage) p.2 ∙ holds))
+    (has_filled (turning log book.next book.granted) book p.0 (length book.asks) s p.1 (omega arith) (ap (λ (b : Ask). b.stage) p.2 ∙ holds))
 
 -- and nobody else
 pub only_new : (book : BookView) (log : LogView) (k : ℕ) (e : Entry) → alive (new_lines book log).lines k ≡ Some e → HoldsBy book k e
 only_new book log k e h =
-    let o = only_filled (turning log book.next) book.asks k (length book.asks) e refl h in
+    let o = only_filled (turning log book.next book.granted) book.asks k (length book.asks) e refl h in
     record {
       ask = ask_at book.asks o.place;
       has = has_at book.asks o.place no_ask o.inside;
@@ -335,5 +335,5 @@ only_new book log k e h =
 
 pub below_new : (book : BookView) (log : LogView) → IsSound book → (l : Line) → Has (new_lines book log).lines l → bound_of l ≤ book.next
 below_new book log s =
-    below_filled (turning log book.next) book (length book.asks) s (omega arith)
+    below_filled (turning log book.next book.granted) book (length book.asks) s (omega arith)
     (λ l h. elim h [ inl is ↦ subst (λ (x : Line). bound_of x ≤ book.next) is (omega arith) | inr none ↦ absurd none ])

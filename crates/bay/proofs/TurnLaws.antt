@@ -168,7 +168,7 @@ same_files classes now text old new k w keeps t =
           (subst (λ m. alive (new_log book log).lines m ≡ Some (entry_of o.ask)) o.number (has_new book log o.ask s o.has o.holds))));
       its = λ head h.
           subst (IsOf head) lines
-          (of_filled head (turning log book.next) book.asks (length book.asks) (bay_is head log.lines h));
+          (of_filled head (turning log book.next book.granted) book.asks (length book.asks) (bay_is head log.lines h));
       numbers = λ j d inside.
           let l = get_or new.log.lines j d in
           let below : bound_of l ≤ book.next =

@@ -96,7 +96,7 @@ filled log asks (suc n) = with_line (filled log asks n) (ask_at asks n)
 
 -- the new file has its head, and a line for each that holds
 abbrev pub new_lines : BookView → LogView → LogView
-new_lines book log = filled (turning log book.next) book.asks (length book.asks)
+new_lines book log = filled (turning log book.next book.granted) book.asks (length book.asks)
 
 -- and is durable to its end
 abbrev pub new_log : BookView → LogView → LogView

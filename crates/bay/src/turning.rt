@@ -118,7 +118,7 @@ fn add_line(log: &mut Log, ask: Ask) -> Result<(), AllocError>
 pub(crate) fn new_lines(alloc: Global, book: &Book, log: &Log) -> Result<Log, AllocError>
     ensures { IfOk result (λ new. new ≡ new_lines book.now log.now) }
 {
-    let mut file = log.turn(alloc, book.next())?;
+    let mut file = log.turn(alloc, book.next(), book.granted())?;
     for place in 0..book.len() {
         add_line(&mut file, book.ask_at(place))?;
     }

@@ -6,7 +6,7 @@ use Rattle.std.proofs.lemmas.List.Sums.{sum_by-set, sum_by_push, sum_by-cons}
 use Rattle.bay_book.specs.declared.ask.Ask.{Ask}
 use Rattle.bay_book.specs.declared.ask.Stage.{Stage}
 use Rattle.bay_book.specs.declared.ask.Stage.TheVariants.{Waits}
-use Rattle.bay_book.specs.Asks.{no_ask, ask_at, is_holding, is_over, is_waiting, given}
+use Rattle.bay_book.specs.Asks.{no_ask, ask_at, is_holding, is_over, is_waiting, given, turned}
 
 -- (as `count_by` counts)
 abbrev pub number_of : Bool → ℕ
@@ -51,6 +51,13 @@ waiting_give at (a ∷ asks) =
     let f : Ask → ℕ = λ b. number_of (is_waiting b) in
     let rest = waiting_give at asks in
     omega (arith, rest, sum_by-cons f a asks, sum_by-cons f (given at a) (map (given at) asks))
+
+pub waiting_turn : (at : ℕ) (asks : List Ask) → count_by is_waiting (map (turned at) asks) ≡ count_by is_waiting asks
+waiting_turn at [] = refl
+waiting_turn at (a ∷ asks) =
+    let f : Ask → ℕ = λ b. number_of (is_waiting b) in
+    let rest = waiting_turn at asks in
+    omega (arith, rest, sum_by-cons f a asks, sum_by-cons f (turned at a) (map (turned at) asks))
 
 pub nobody_waits : (asks : List Ask) → All (λ a. is_waiting a ≡ false) asks → count_by is_waiting asks ≡ 0
 nobody_waits [] none = refl

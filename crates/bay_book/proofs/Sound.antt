@@ -19,7 +19,7 @@ use Rattle.bay_book.specs.declared.ask.Stage.TheVariants.{Waits, Holds, Over}
 use Rattle.bay_book.specs.Asks.{no_ask, ask_at, is_owed, is_written, kept_mark, end_mark, given_mark, turned_mark, asker, holding, over, gone_since, back_again, given, turned, heard_of, hearing, is_done, IsSoundAt, IsSoundAsk, is_waiting, restored}
 use Rattle.bay_book.specs.Telling.{to_tell, to_tell_at, if_may}
 use Rattle.bay_book.specs.Books.{BookView, IsSound, with_ask, add, give, turn, reach, purge, restore, skip, hold}
-use Rattle.bay_book.proofs.Counts.{number_of, count_set, count_push, count_kept, one_less, waiting_give, nobody_waits}
+use Rattle.bay_book.proofs.Counts.{number_of, count_set, count_push, count_kept, one_less, waiting_give, waiting_turn, nobody_waits}
 
 -- ---- one ask
 
@@ -311,6 +311,14 @@ sound_turn x at h =
       below = All-map (λ (b : Ask). b.number < x.next) (turned at) x.asks h.below;
       each = All-map (IsSoundAsk durable) (turned at) x.asks (λ k d inside.
           sound_turned durable at (get_or x.asks k d) (omega arith) (sound_later x.durable durable (get_or x.asks k d) (omega arith) (h.each k d inside)));
+      tokens = λ i k d less within.
+          let in_k : k < length x.asks = omega (arith, within, length-map x.asks (turned at)) in
+          let in_i : i < length x.asks = omega (arith, in_k, less) in
+          let at_i = ap (λ (b : Ask). b.token) (get_or-map (turned at) x.asks i d d in_i) in
+          let at_k = ap (λ (b : Ask). b.token) (get_or-map (turned at) x.asks k d d in_k) in
+          λ e. at_i ∙ h.tokens i k d less in_k (sym at_i ∙ (e ∙ at_k));
+      within = All-map (λ (b : Ask). b.token ≤ x.granted) (turned at) x.asks h.within;
+      room = let same = waiting_turn at x.asks in omega (arith, same, h.room);
     }
 
 pub sound_reach : (x : BookView) (position : ℕ) → IsSound x → IsSound (reach x position)

@@ -26,8 +26,8 @@ abbrev pub beginning : List ℕ → ℕ → ℕ → ℕ → LogView
 beginning bay base next granted = record { lines = Head bay base next granted ∷ []; durable = base; sent = base }
 
 -- the log of a new file that goes on from this one, of the same bay
-abbrev pub turning : LogView → ℕ → LogView
-turning log next = beginning (bay_of log.lines) (end_of log) next
+abbrev pub turning : LogView → ℕ → ℕ → LogView
+turning log next granted = beginning (bay_of log.lines) (end_of log) next granted
 
 -- behind what was read
 abbrev pub resumed : Found → LogView

@@ -96,10 +96,10 @@ impl Log {
     }
 
     /// The log of a new file that goes on from this one: its head alone, of the same bay.
-    pub fn turn(&self, alloc: Global, next: u64) -> Result<Log, AllocError>
-        ensures { IfOk result (λ log. log ≡ turning self.now next) }
+    pub fn turn(&self, alloc: Global, next: u64, granted: u64) -> Result<Log, AllocError>
+        ensures { IfOk result (λ log. log ≡ turning self.now next granted) }
     {
-        Log::begin(alloc, self.bay, self.position(), next)
+        Log::begin(alloc, self.bay, self.position(), next, granted)
     }
 
     /// The log goes on behind what was read of its file, which is durable up to there. None, if no line was read, or if there is no room for a

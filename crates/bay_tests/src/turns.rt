@@ -7,9 +7,9 @@ use std::alloc::Global;
 use std::process::Abort;
 use std::rt::HostRuntime;
 
-/// The new file behind one of 269 bytes: all numbers below 7 were given, and 5 holds 0 and 1 for owner 9, since 4. (The sums are those of another SHA-256.)
+/// The new file behind one of 303 bytes: all numbers below 7 and the first token were given, and 5 holds 0 and 1 for owner 9, since 4. (The sums are those of another SHA-256.)
 const TEXT: &[u8] =
-    b"8b62830104538674 bay 000102030405060708090a0b0c0d0e0f101112131415161718191a1b1c1d1e1f 000000000000010d 0000000000000007\n77db2af6c413f57a hold 0000000000000005 00000000 0000000000000003 00000000000000000000000000000009 0000000000000004 ---------------- 0000000000000004\n";
+    b"90d62ff7b52e8fee bay 000102030405060708090a0b0c0d0e0f101112131415161718191a1b1c1d1e1f 000000000000012f 0000000000000007 0000000000000001\nb91889e7dc16abde hold 0000000000000005 00000000 0000000000000003 00000000000000000000000000000009 0000000000000004 ---------------- 0000000000000004 0000000000000001\n";
 
 /// Whether it keeps a journal.
 fn terms(keeps: bool) -> Terms {
@@ -97,7 +97,7 @@ fn ask(rt: &impl Abort, alloc: Global, bay: &mut Bay) {
     refuse(rt, alloc, bay, (1, 7, 2), 500, NotTurned::NotYet);
     bay.sent();
     refuse(rt, alloc, bay, (1, 7, 2), 500, NotTurned::NotYet);
-    bay.durable(269);
+    bay.durable(303);
     tell(rt, bay, 0, Some((1, 5, Outcome::Holds, 3)));
     check(rt, "second", bay.ask(&[6], request(6, 8), 5), Ok(()));
 }
@@ -109,15 +109,15 @@ fn refuse_all(rt: &impl Abort, alloc: Global, bay: &mut Bay) {
     refuse(rt, alloc, bay, (0, 7, 2), 500, NotTurned::MayNot(5));
     refuse(rt, alloc, bay, (1, 3, 2), 500, NotTurned::MayNot(6));
     refuse(rt, alloc, bay, (33, 7, 2), 500, NotTurned::Classes);
-    refuse(rt, alloc, bay, (1, 7, 2), 268, NotTurned::NoRoom(269));
+    refuse(rt, alloc, bay, (1, 7, 2), 302, NotTurned::NoRoom(303));
 }
 
 /// The bay goes on: 5 holds, and is told nothing new; 6 waits.
 fn turn(rt: &impl Abort, alloc: Global, bay: &mut Bay) -> Vec<u8, Global> {
-    match bay.turn(alloc, classes(rt, alloc, 1, 7, 2), 6, 269) {
+    match bay.turn(alloc, classes(rt, alloc, 1, 7, 2), 6, 303) {
         Ok(text) => {
             check(rt, "text", text.as_slice(), TEXT);
-            check(rt, "position", bay.position(), 538);
+            check(rt, "position", bay.position(), 606);
             check(rt, "nothing more", bay.unsent().len(), 0);
             tell(rt, bay, 1, None);
             check(
@@ -132,12 +132,12 @@ fn turn(rt: &impl Abort, alloc: Global, bay: &mut Bay) -> Vec<u8, Global> {
     }
 }
 
-/// 5 lets go, so 6 holds: the end has 62 bytes, and the hold 149. From the new file that goes on so, 6 comes back.
+/// 5 lets go, so 6 holds: the end has 62 bytes, and the hold 166. From the new file that goes on so, 6 comes back.
 fn go_on(rt: &impl Abort, alloc: Global, bay: &mut Bay, text: Vec<u8, Global>) {
     let mut file = text;
     check(rt, "lets go", bay.let_go(5, 8), Ok(()));
     check(rt, "written", bay.journal().is_ok(), true);
-    check(rt, "position", bay.position(), 749);
+    check(rt, "position", bay.position(), 834);
     if file.extend_from_slice(bay.unsent()).is_err() {
         panic!(rt; "no memory");
     }
@@ -152,15 +152,15 @@ fn go_on(rt: &impl Abort, alloc: Global, bay: &mut Bay, text: Vec<u8, Global>) {
         50,
     ) {
         Ok((back, used)) => {
-            check(rt, "used", used, 480);
+            check(rt, "used", used, 531);
             check(rt, "one", back.len(), 1);
             assert!(rt; 0 < back.len());
             let ask = back.ask_at(0);
             check(
                 rt,
                 "6",
-                (ask.number, ask.stage, ask.needs),
-                (6, Stage::Holds, 6),
+                (ask.number, ask.stage, ask.needs, ask.token),
+                (6, Stage::Holds, 6, 2),
             );
             check(rt, "next", back.next_number(), 7);
         }
@@ -190,11 +190,11 @@ fn widens(rt: HostRuntime) {
     let mut bay = opened(&rt, rt.alloc(), true, 1);
     check(&rt, "first", bay.ask(&[1], request(5, 9), 4), Ok(()));
     check(&rt, "second", bay.ask(&[2], request(6, 8), 5), Ok(()));
-    write(&rt, &mut bay, 269);
+    write(&rt, &mut bay, 303);
     tell(&rt, &mut bay, 0, Some((1, 5, Outcome::Holds, 1)));
     tell(&rt, &mut bay, 1, None);
-    check(&rt, "text", widen(&rt, rt.alloc(), &mut bay), 269);
-    write(&rt, &mut bay, 687);
+    check(&rt, "text", widen(&rt, rt.alloc(), &mut bay), 303);
+    write(&rt, &mut bay, 772);
     tell(&rt, &mut bay, 1, Some((2, 6, Outcome::Holds, 2)));
 }
 

@@ -4,4 +4,4 @@ use Rattle.bay.specs.Turning.{filled}
 use Rattle.bay.proofs.turning.new_lines.Given as goal
 
 abbrev pub invariant-loop-place : goal.invariant-loop-place
-invariant-loop-place l = l.file ≡ filled (turning l.log l.book.next) l.book.asks l.place
+invariant-loop-place l = l.file ≡ filled (turning l.log l.book.next l.book.granted) l.book.asks l.place
