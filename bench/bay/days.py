@@ -5,9 +5,9 @@ journal have to be the same.
 usage: bench/bay/days.py LIBRARY [DAYS [SEED]]      LIBRARY: liblabrun.so, as bench/door/build makes it; 300 days if none is said
 
 A day is up to some hundred calls by a few classes of clients at a few instruments: asks with one set or several, with deadlines and limits,
-let-goes, leaves, clients that are gone, what is taken away, notes, a disk that is slow, that fails, a stop. At a random moment the journal is
-cut at a random byte at or behind what is durable, and the bay that comes back from it has to hold what was told. The last line is `N passed,
-M failed`."""
+let-goes, leaves, clients that are gone, what is taken away, notes, a disk that is slow, that fails, new files with other classes, a stop. At a
+random moment the journal is cut at a random byte at or behind what is durable, and the bay that comes back from it has to hold what was told.
+The last line is `N passed, M failed`."""
 
 import ctypes
 import dataclasses

@@ -171,11 +171,6 @@ sent_with log a Waits = refl
 sent_with log a Holds = refl
 sent_with log a (Over how) = refl
 
-durable_with : (log : LogView) (a : Ask) (s : Stage) → (with_line_at log (hold_line a) s).durable ≡ log.durable
-durable_with log a Waits = refl
-durable_with log a Holds = refl
-durable_with log a (Over how) = refl
-
 if_else : {X : Type 0} (b : Bool) (x y : X) → b ≡ false → (if b then x else y) ≡ y
 if_else true x y h = absurd (false≢true (sym h))
 if_else false x y h = refl
@@ -290,9 +285,6 @@ below_filled log book (suc n) s within h =
     (below_filled log book n s (omega (arith, within)) h)
 
 -- ---- the new file
-
-pub begun_new : (book : BookView) (log : LogView) → is_none (new_lines book log).lines ≡ false
-begun_new book log = begun_filled (turning log book.next book.granted) book.asks (length book.asks) refl
 
 pub base_new : (book : BookView) (log : LogView) → base_of (new_lines book log).lines ≡ end_of log
 base_new book log = base_filled (turning log book.next book.granted) book.asks (length book.asks) refl

@@ -28,7 +28,7 @@ text_send : IsSend (as_row (Vec.the_field u8 Heap.the_row ghosts))
 text_send = as_row_send (Vec.the_field u8 Heap.the_row ghosts) (any.Vec-send u8 Heap.the_row ghosts (search sendable) heap.send heap.frees)
 
 log_send : IsSend Log.the_row
-log_send = view_send _ _ _ _ _ (declared_send InLog.the_type (text_send, (search sendable, (search sendable, (search sendable, (past_send, tt))))))
+log_send = view_send _ _ _ _ _ (declared_send InLog.the_type (text_send, (search sendable, (search sendable, (search sendable, (search sendable, (past_send, tt)))))))
 
 bay_send : IsSend Bay.the_row
 bay_send = view_send _ _ _ _ _ (declared_send InBay.the_type (rooms.the_send, (log_send, tt)))
