@@ -13,6 +13,12 @@
     count = 8                           # so many hold at once; more may wait
     may_use = ["scope", "supply"]       # without this line: all
 
+    [tags]                              # `tag:precise` is one of these, `2 of tag:precise` two
+    precise = ["scope", "load-1"]
+
+    [labels]                            # what people know it by, in `status` and on the page
+    scope = "DSO-X 3034, by the window"
+
     [limits]                            # (each as it is without a line)
     clients = 200                       # streams at once, idle ones too
     requests = 2000                     # messages a second in a stream
@@ -29,10 +35,10 @@ from dataclasses import dataclass, field
 from typing import Any, Optional, Union
 
 # what the library can take (the guests are a class, as each station is one, of 32); of guests, as many as a status can show
-MOST_STATIONS, MOST_INSTRUMENTS, MOST_GUESTS, NAME_LENGTH = 31, 64, 1000, 16
+MOST_STATIONS, MOST_INSTRUMENTS, MOST_GUESTS, NAME_LENGTH = 31, 64, 1000, 64
 MOST_NUMBER = 1000000
-KEYWORDS = ("lab", "job", "session", "end", "steps", "patience")
-A_NAME = f"up to {NAME_LENGTH} of a to z, digits and `-`, first a letter, and none of {' '.join(KEYWORDS)}"
+LABEL_LENGTH = 200
+A_NAME = f"up to {NAME_LENGTH} letters, digits, `-`, `_` and `.`, first a letter"
 
 GONE = ("keep", "release")
 
@@ -60,6 +66,8 @@ class Bay:
     limits: Limits = Limits()
     # so many sessions at most may go before one that asks; if nothing is said, as if each of the others went once
     overtakes: Optional[int] = None
+    tags: dict[str, tuple[str, ...]] = field(default_factory=dict)
+    labels: dict[str, str] = field(default_factory=dict)
 
     @property
     def guest_names(self) -> tuple[str, ...]:
@@ -128,7 +136,7 @@ class _Reader:
         self.given, self.faults = given, list[str]()
 
     def bay(self) -> Bay:
-        self.knows("", self.given, ("bay", "instruments", "gone", "overtakes", "stations", "guests", "limits"))
+        self.knows("", self.given, ("bay", "instruments", "gone", "overtakes", "stations", "guests", "limits", "tags", "labels"))
         name = self.given.get("bay", "bay")
         if not isinstance(name, str) or not re.fullmatch(r"[\w.-]{1,64}", name):
             self.fault("bay", "a name of up to 64 letters, digits, `-`, `_` or `.` is wanted")
@@ -141,7 +149,8 @@ class _Reader:
         if gone not in GONE:
             self.fault("gone", '"keep" or "release" is wanted')
         overtakes = self.number("overtakes", self.given["overtakes"], 0) if "overtakes" in self.given else None
-        bay = Bay(str(name), instruments, stations, guests, guests_use, str(gone), self.limits(), overtakes)
+        tags, labels = self.tags(instruments), self.labels(instruments)
+        bay = Bay(str(name), instruments, stations, guests, guests_use, str(gone), self.limits(), overtakes, tags, labels)
         self.fits(bay)
         return bay
 
@@ -154,7 +163,7 @@ class _Reader:
                 self.fault(f"{where}{key}", f"there is no such key; there are {', '.join(keys)}")
 
     def is_name(self, key: str, name: object) -> bool:
-        if isinstance(name, str) and re.fullmatch(r"[a-z][a-z0-9-]*", name) and len(name) <= NAME_LENGTH and name not in KEYWORDS:
+        if isinstance(name, str) and re.fullmatch(r"[A-Za-z][A-Za-z0-9._-]*", name) and len(name) <= NAME_LENGTH:
             return True
         self.fault(key, f"{name!r} is no name: {A_NAME}")
         return False
@@ -198,6 +207,20 @@ class _Reader:
         count = self.number("guests.count", table.get("count", 0), 0, MOST_GUESTS)
         uses = self.uses("guests.may_use", table["may_use"], instruments) if "may_use" in table else instruments
         return count, uses
+
+    def tags(self, instruments: tuple[str, ...]) -> dict[str, tuple[str, ...]]:
+        return {tag: self.uses(f"tags.{tag}", its, instruments) for tag, its in self.table("tags").items() if self.is_name(f"tags.{tag}", tag)}
+
+    def labels(self, instruments: tuple[str, ...]) -> dict[str, str]:
+        found = {}
+        for name, label in self.table("labels").items():
+            if instruments and name not in instruments:
+                self.fault(f"labels.{name}", f"{name} is none of the bay's instruments")
+            elif not isinstance(label, str) or not label.isprintable() or len(label) > LABEL_LENGTH:
+                self.fault(f"labels.{name}", f"a text in one line, of up to {LABEL_LENGTH} characters, is wanted")
+            else:
+                found[name] = label
+        return found
 
     def number(self, key: str, given: object, least: int, most: int = MOST_NUMBER) -> int:
         # (of one that is too large for the library `fits` says more)

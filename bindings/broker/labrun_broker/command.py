@@ -50,9 +50,10 @@ def run_top(args: argparse.Namespace) -> int:
 def lines_of(status: dict[str, Any]) -> list[str]:
     """How the bay stands, for people."""
     at, since = status["at"], time.strftime("%Y-%m-%d %H:%M", time.localtime(status["since"]))
-    rows = [["INSTRUMENT", "HELD BY", "FOR", "WAITING"]]
+    rows = [["INSTRUMENT", "HELD BY", "FOR", "WAITING", "LABEL" if any(one.get("label") for one in status["instruments"]) else ""]]
     for one in status["instruments"]:
-        rows.append([one["name"], one["holder"] or "-", span(at - one["since"]) if one["holder"] else "", " ".join(one["waiting"])])
+        held_for = span(at - one["since"]) if one["holder"] else ""
+        rows.append([one["name"], one["holder"] or "-", held_for, " ".join(one["waiting"]), plain(one.get("label", ""))])
     lines = [f"bay {plain(status['bay'])}, {counted(status['sessions'], 'session')} since {since}", *disk_of(status), "", *aligned(rows), ""]
     rows = [["STATION", "", "FOR", "INSTRUMENTS", "BY"]]
     for one in status["stations"]:

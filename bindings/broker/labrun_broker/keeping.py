@@ -140,6 +140,7 @@ class Keeping:
             if wish.comes_back:
                 raise self._ends.why(key)
             wishes.check(wish, self.bay)
+            wish = wishes.resolved(wish, self.bay)
             session = self._asks(wish, key, owner, held)
         except LabrunError:
             self.refusals += 1

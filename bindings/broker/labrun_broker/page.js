@@ -101,6 +101,7 @@ function rowOf(it, long) {
   const state = make("span", "state", ...(it.holder ? [named(it.holder), isGone ? " is gone" : ""] : ["free"]));
   if (holder && holder.by) state.append(make("span", "soft", " by ", named(holder.by)));
   row.append(state, make("span", "since", since(it.holder ? it.since : null)));
+  if (it.label) row.append(make("span", "line label", make("bdi", "", it.label)));
   if (it.waiting.length) row.append(make("span", "line", it.waiting.length === 1 ? "waits: " : `${it.waiting.length} wait: `, ...list(it.waiting)));
   if (holder && holder.note) row.append(make("span", "line of-note", make("bdi", "note", holder.note)));
   return row;

@@ -4,7 +4,6 @@ from __future__ import annotations
 
 import argparse
 import contextlib
-import fnmatch
 import os
 import re
 import signal
@@ -29,10 +28,10 @@ STARTING = 5.0  # seconds that a broker may take to begin
 
 
 def add_hold(parser: argparse.ArgumentParser) -> None:
-    parser.add_argument("instruments", metavar="INSTRUMENT", nargs="+", help="what the command needs, all at once")
+    parser.add_argument("instruments", metavar="INSTRUMENT", nargs="+", help="what the command needs, all at once; 'load-*' and tag:precise are one that is like that, '2 of load-*' two")
     parser.add_argument("--timeout", metavar="SECONDS", type=seconds, help="how long to wait for them at most")
     parser.add_argument("-n", "--no-wait", dest="timeout", action="store_const", const=0.0, help="take what is free, as with --timeout 0")
-    parser.add_argument("--any", action="store_true", help="one of these is enough; with a comma, as in load-1,load-2, a choice has several; load-* is each such one")
+    parser.add_argument("--any", action="store_true", help="one of these is enough; with a comma, as in load-1,load-2, a choice has several")
     parser.add_argument("--station", metavar="NAME", default="", help="as which station; a guest without")
     parser.add_argument("--by", metavar="TEXT", help="who holds, for people to read; user, machine and command without")
     parser.add_argument("--quiet", action="store_true", help="don't say for whom it waits")
@@ -46,7 +45,7 @@ def run_hold(args: argparse.Namespace) -> int:
         say("hold: say what to run, behind `--`: labrun-broker hold scope -- ./measure.sh")
         return USAGE
     what = os.path.basename(args.command[0])
-    its = choices(args) if args.any else tuple(args.instruments)
+    its = tuple(dict.fromkeys(args.instruments))
     any_of = tuple(tuple(it.split(",")) for it in its) if args.any else ()
     if not looks_around(args, any_of or (its,)):
         return USAGE
@@ -71,22 +70,6 @@ def lets_go(held: Union[Quick, Held], status: int, signals: Signals, ends: conte
             say(f"the command ran, and ended with status {status}, but:")
             raise
         say("the broker wasn't told, as far as is known here: the session may go on holding, as `labrun-broker status` says")
-
-
-def choices(args: argparse.Namespace) -> tuple[str, ...]:
-    """What is enough, each once, with the names for the patterns."""
-    if not any(sign in it for it in args.instruments for sign in "*?["):
-        return tuple(args.instruments)
-    with lab_of(args) as lab:
-        status = Start(args).tries(lab.status)
-    names = [str(it["name"]) for it in status["instruments"]]
-    found = []
-    for it in args.instruments:
-        its = fnmatch.filter(names, it) or [it]
-        if its == [it] and it not in names and "," not in it:
-            raise ValueError(f"no instrument of this bay is like {it}: there are {', '.join(names)}")
-        found += its
-    return tuple(dict.fromkeys(found))
 
 
 class Start:

@@ -209,7 +209,8 @@ class Standings:
     def _instrument(self, name: str, waiting: dict[int, list[str]]) -> dict[str, Any]:
         bit = self._keeping.places.instruments.index(name)
         holder, since = self._held.get(bit, (None, None))
-        return {"name": name, "holder": None if holder is None else holder.name, "since": self.when(since), "waiting": waiting.get(bit, [])}
+        about = {"label": self._keeping.bay.labels.get(name, ""), "tags": [tag for tag, its in self._keeping.bay.tags.items() if name in its]}
+        return {"name": name, **about, "holder": None if holder is None else holder.name, "since": self.when(since), "waiting": waiting.get(bit, [])}
 
     def _rows(self) -> tuple[list[dict[str, Any]], list[dict[str, Any]]]:
         """A row for each station and guest; and those that wait for a place first."""

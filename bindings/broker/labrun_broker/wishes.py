@@ -6,10 +6,11 @@ import difflib
 import hashlib
 import math
 import secrets
-from dataclasses import dataclass
-from typing import Any, Optional
+from dataclasses import dataclass, replace
+from typing import Any, Optional, Sequence
 
 from labrun import MayNotUse, NotHeld
+from labrun.picks import NoSuch, TooFew, TooMany, is_plain, sets_of
 
 from .bay import Bay
 from .errors import BadWish, NoInstrument
@@ -98,12 +99,38 @@ def check(wish: Wish, bay: Bay) -> None:
         raise BadWish(f"this bay has no guests: say which station you are, of {', '.join(bay.stations)}")
     if wish.any_of and wish.instruments or not all(wish.choices):
         raise BadWish("say which instruments, or which sets of them to choose from (any_of)")
-    may = bay.stations[wish.station] if wish.station else bay.guests_use
-    for name in wish.names:
+    may = _may_use(wish, bay)
+    for name in filter(is_plain, wish.names):
         if name not in bay.instruments:
             raise _no_such(name, bay)
         if name not in may:
             raise MayNotUse(wish.station or "a guest", name, may)
+
+
+def _may_use(wish: Wish, bay: Bay) -> tuple[str, ...]:
+    return bay.stations[wish.station] if wish.station else bay.guests_use
+
+
+def resolved(wish: Wish, bay: Bay) -> Wish:
+    """A wish that was checked, with the sets of instruments that its words stand for, as `load-*`, `tag:precise` or `2 of load-*`, of what
+    its client may use. BadWish, NoInstrument."""
+    if all(map(is_plain, wish.names)):
+        return wish
+    choices: dict[tuple[str, ...], None] = {}
+    for words in wish.choices:
+        choices.update(dict.fromkeys(_sets(words, _may_use(wish, bay), bay)))
+    if len(choices) > MOST_CHOICES:
+        raise BadWish(f"these words stand for {len(choices)} choices; {MOST_CHOICES} are the most")
+    return replace(wish, instruments=(), any_of=tuple(choices))
+
+
+def _sets(words: Sequence[str], may: Sequence[str], bay: Bay) -> tuple[tuple[str, ...], ...]:
+    try:
+        return sets_of(words, may, bay.tags)
+    except NoSuch as fault:
+        raise NoInstrument(str(fault)) from None
+    except (TooFew, TooMany) as fault:
+        raise BadWish(str(fault)) from None
 
 
 def _no_such(name: str, bay: Bay) -> NoInstrument:

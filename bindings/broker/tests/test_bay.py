@@ -22,18 +22,27 @@ FAULTY = (
     ('gone = "away"\n' + ONE, ['gone: "keep" or "release" is wanted']),
     ('instruments = "scope"\n[guests]\ncount = 1\n', ["instruments: a list of names"]),
     ('instruments = ["scope", "scope"]\n[guests]\ncount = 1\n', ["instruments: scope is there twice"]),
-    ('instruments = ["scope", "Scope"]\n[guests]\ncount = 1\n', ["instruments: 'Scope' is no name"]),
-    ('instruments = ["scope", "session"]\n[guests]\ncount = 1\n', ["instruments: 'session' is no name"]),
-    ('instruments = ["abcdefghijklmnopq"]\n[guests]\ncount = 1\n', ["instruments: 'abcdefghijklmnopq' is no name"]),
+    ('instruments = ["scope", "2scope"]\n[guests]\ncount = 1\n', ["instruments: '2scope' is no name"]),
+    ('instruments = ["scope", "a scope"]\n[guests]\ncount = 1\n', ["instruments: 'a scope' is no name"]),
+    ('instruments = ["scope", "load-*"]\n[guests]\ncount = 1\n', ["instruments: 'load-*' is no name"]),
+    ('instruments = ["scope", "tag:x"]\n[guests]\ncount = 1\n', ["instruments: 'tag:x' is no name"]),
+    ('instruments = ["scope", "a,b"]\n[guests]\ncount = 1\n', ["instruments: 'a,b' is no name"]),
+    (f'instruments = ["{65 * "a"}"]\n[guests]\ncount = 1\n', [f"instruments: '{65 * 'a'}' is no name"]),
     ('instruments = ["scope"]\n[stations]\nboard = ["scope", "lamp"]\n', ["stations.board: lamp is none of the bay's instruments"]),
     ('instruments = ["scope"]\n[stations]\nboard = []\n', ["stations.board: a list of names", "instruments: nobody may use scope"]),
     ('instruments = ["scope", "lamp"]\n[stations]\nboard = ["scope"]\n', ["instruments: nobody may use lamp"]),
-    ('instruments = ["scope"]\n[stations]\n"Board" = ["scope"]\n', ["stations.Board: 'Board' is no name", "stations: there is neither", "instruments: nobody"]),
+    ('instruments = ["scope"]\n[stations]\n"b b" = ["scope"]\n', ["stations.b b: 'b b' is no name", "stations: there is neither", "instruments: nobody"]),
     ('instruments = ["scope"]\nstations = 5\n', ["stations: a table is wanted", "stations: there is neither", "instruments: nobody"]),
     ('instruments = ["scope"]\n[guests]\ncount = 1001\n', ["guests.count: 1001 guests; a bay has 1000 at most"]),
     ('instruments = ["scope"]\n[guests]\ncount = -1\n', ["guests.count: a number from 0 to 1000 is wanted", "stations: there is neither", "instruments: nobody"]),
     ('instruments = ["scope"]\n[guests]\ncount = true\n', ["guests.count: a number from 0 to 1000 is wanted", "stations: there is neither", "instruments: nobody"]),
     ('instruments = ["scope"]\n[stations]\nguest-1 = ["scope"]\n[guests]\ncount = 1\n', ["stations.guest-1: this is the name of a guest"]),
+    (ONE + '[tags]\nx = ["lamp"]\n', ["tags.x: lamp is none of the bay's instruments"]),
+    (ONE + '[tags]\n"x y" = ["scope"]\n', ["tags.x y: 'x y' is no name"]),
+    (ONE + '[tags]\nx = "scope"\n', ["tags.x: a list of names"]),
+    (ONE + '[labels]\nlamp = "a lamp"\n', ["labels.lamp: lamp is none of the bay's instruments"]),
+    (ONE + '[labels]\nscope = "two\\nlines"\n', ["labels.scope: a text in one line, of up to 200 characters, is wanted"]),
+    (ONE + f'[labels]\nscope = "{201 * "a"}"\n', ["labels.scope: a text in one line, of up to 200"]),
     (ONE + "[limits]\nnote = 0\n", ["limits.note: a number from 1"]),
     (ONE + "[limits]\nnotes = 5\n", ["limits.notes: there is no such key; there are clients, name, note, requests"]),
     ('instruments = ["scope"]\n[stations]\nguest-99 = ["scope"]\n[guests]\ncount = 1\n', ["stations.guest-99: this is the name of a guest"]),
@@ -53,6 +62,13 @@ class Bays(unittest.TestCase):
         bay = bay_of('instruments = ["a", "b"]\ngone = "release"\n[guests]\ncount = 1\nmay_use = ["b"]\n[stations]\nx = ["a"]\n[limits]\nnote = 9\n')
         self.assertEqual((bay.gone, bay.guests_use, bay.limits, bay.overtakes), ("release", ("b",), Limits(note=9), None))
         self.assertEqual(bay_of("overtakes = 0\n" + ONE).overtakes, 0)
+
+    def test_names_as_people_have_them(self) -> None:
+        """Also words that a script has for something else."""
+        names = ("Keysight_34465A", "load-1.b", "session", 64 * "a")
+        listed = ", ".join(f'"{it}"' for it in names)
+        bay = bay_of(f'instruments = [{listed}]\n[guests]\ncount = 1\n[tags]\nHV = ["session"]\n[labels]\nsession = "it, by the \\"door\\""\n')
+        self.assertEqual((bay.instruments, bay.tags, bay.labels), (names, {"HV": ("session",)}, {"session": 'it, by the "door"'}))
 
     def test_faults(self) -> None:
         for text, wanted in FAULTY:
@@ -81,10 +97,11 @@ class Example(unittest.TestCase):
         bay = bay_of(text)
         self.assertEqual((bay.name, bay.gone, bay.guests, bay.overtakes, bay.limits), ("north", "keep", 8, None, Limits()))
         self.assertEqual((len(bay.instruments), list(bay.stations)), (6, ["board", "burn-in"]))
-        whole = re.sub(r"(?m)^# (?=\w+ = |\[)", "", text)
-        self.assertEqual(bay_of(whole), replace(bay, overtakes=16))
+        whole = re.sub(r"(?m)^# (?=[\w-]+ = |\[)", "", text)
+        more = {"tags": {"precise": ("scope", "meter")}, "labels": {"scope": "DSO-X 3034, by the window"}}
+        self.assertEqual(bay_of(whole), replace(bay, overtakes=16, **more))
         given = tomllib.loads(whole)
-        self.assertEqual(set(given), {"bay", "instruments", "gone", "overtakes", "stations", "guests", "limits"})
+        self.assertEqual(set(given), {"bay", "instruments", "gone", "overtakes", "stations", "guests", "limits", "tags", "labels"})
         self.assertEqual((set(given["guests"]), set(given["limits"])), ({"count", "may_use"}, {"clients", "requests", "name", "note"}))
 
     def test_each_key_is_in_formats(self) -> None:
@@ -92,4 +109,4 @@ class Example(unittest.TestCase):
             part = file.read().partition("## A bay's file")[2].partition("\n## ")[0]
         rows = set(re.findall(r"(?m)^\| `([\w.]+)` \|", part))
         limits = {f"limits.{it}" for it in vars(Limits())}
-        self.assertEqual(rows, {"bay", "instruments", "gone", "overtakes", "stations.NAME", "guests.count", "guests.may_use", *limits})
+        self.assertEqual(rows, {"bay", "instruments", "gone", "overtakes", "stations.NAME", "guests.count", "guests.may_use", "tags.NAME", "labels.NAME", *limits})

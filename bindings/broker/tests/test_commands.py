@@ -152,7 +152,11 @@ class WithBroker(OnBroker):
             rows = (
                 (["--any", "load-*"], 0, "load-2\n", ""),
                 (["--any", "supply", "l*2"], 0, "load-2\n", ""),
-                (["--any", "lamp-*"], 1, "", "labrun-broker: no instrument of this bay is like lamp-*: there are scope, supply, load-1, load-2\n"),
+                (["load-*"], 0, "load-2\n", ""),
+                (["2 of load-*", "-n"], 75, "", "load-1 is held by guest-1"),
+                (["3 of load-*"], 1, "", "labrun-broker: 3 of load-* are wanted; there are 2: load-1, load-2\n"),
+                (["--any", "lamp-*"], 2, "", "labrun-broker: no instrument is like lamp-*: scope, supply, load-1, load-2\n"),
+                (["tag:lamps"], 2, "", "labrun-broker: lamps is no tag: there are none\n"),
                 (["-n", "load-1"], 75, "", "load-1 is held by guest-1"),
                 (["--no-wait", "scope"], 0, "scope\n", ""),
             )

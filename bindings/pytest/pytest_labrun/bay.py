@@ -6,15 +6,15 @@ import re
 import tomllib
 from pathlib import Path
 
-from .needs import A_NAME, is_name
+from .needs import A_NAME, Bay, is_name
 
 
 class BayFault(Exception):
     """The file is no bay; the text names it, and what is wrong."""
 
 
-def read_bay(path: Path) -> tuple[str, ...]:
-    """The instruments of a file that has `instruments = ["scope", "supply"]`."""
+def read_bay(path: Path) -> Bay:
+    """The instruments of a file that has `instruments = ["scope", "supply"]`, each with its tags, if the file has a table of these."""
     try:
         given = tomllib.loads(path.read_text(encoding="utf-8"))
     except OSError as fault:
@@ -29,7 +29,14 @@ def read_bay(path: Path) -> tuple[str, ...]:
             raise BayFault(f"{path}{_line_of(path, name)}: {name!r} can't be an instrument's name: {A_NAME}")
         if name in names[:at]:
             raise BayFault(f"{path}{_line_of(path, name)}: {name} is there twice")
-    return tuple(names)
+    tags = given.get("tags", {})
+    if not isinstance(tags, dict) or not all(isinstance(its, list) for its in tags.values()):
+        raise BayFault(f'{path}: tags: a table of lists is wanted, as precise = ["scope"]')
+    for tag, its in tags.items():
+        for name in its:
+            if name not in names:
+                raise BayFault(f"{path}: tags.{tag}: {name} is none of the instruments")
+    return {name: tuple(tag for tag, its in tags.items() if name in its) for name in names}
 
 
 def _line_of(path: Path, name: object) -> str:

@@ -9,6 +9,7 @@ import pytest
 from . import seen
 from .desk import SocketDesk
 from .labs import BrokerLab, Lab, LabFault, OwnLab
+from .needs import Bay
 from .past import Past
 from .plugin import Runner, broker_of, timeout_of
 from .server import Server
@@ -45,7 +46,7 @@ def _times_of(config: pytest.Config) -> dict[str, float]:
 class Controller:
     """Of a run by xdist."""
 
-    def __init__(self, config: pytest.Config, bay: Optional[Sequence[str]]) -> None:
+    def __init__(self, config: pytest.Config, bay: Optional[Bay]) -> None:
         self.config, self.bay = config, bay
         self.past = Past(_times_of(config))
         self.server = _server(config, self.past)
@@ -54,7 +55,7 @@ class Controller:
     def pytest_sessionstart(self) -> None:
         _started(self.server)
         if self.bay is None and isinstance(self.server.lab, BrokerLab):
-            self.bay = self.server.lab.instruments
+            self.bay = self.server.lab.bay
 
     @pytest.hookimpl(optionalhook=True)
     def pytest_configure_node(self, node: Any) -> None:
@@ -94,12 +95,12 @@ class Controller:
 class Alone(Runner):
     """One process that runs all tests, and holds at a broker."""
 
-    def __init__(self, config: pytest.Config, bay: Optional[Sequence[str]], timeout: Optional[float]) -> None:
+    def __init__(self, config: pytest.Config, bay: Optional[Bay], timeout: Optional[float]) -> None:
         self.config, self.past = config, Past()
         self.server = _server(config, self.past)
         _started(self.server)
         assert isinstance(self.server.lab, BrokerLab)
-        super().__init__(SocketDesk(self.server.path, "alone"), self.server.lab.instruments if bay is None else bay, timeout)
+        super().__init__(SocketDesk(self.server.path, "alone"), self.server.lab.bay if bay is None else bay, timeout)
 
     @pytest.hookimpl(trylast=True)
     def pytest_sessionfinish(self) -> None:

@@ -7,7 +7,7 @@ from typing import Any, Optional, Sequence
 import pytest
 
 from .desk import Desk, NotHeld
-from .needs import Need, Unit, chosen_for, held_by, units_of
+from .needs import Bay, Need, Unit, chosen_for, held_by, units_of
 
 
 class Instruments:
@@ -58,7 +58,7 @@ class Holding:
         # fixtures that hold for several tests, and are set up: each with the request by which it was
         self._wide: dict[Any, Any] = {}
 
-    def collected(self, items: Sequence[pytest.Item], bay: Sequence[str]) -> None:
+    def collected(self, items: Sequence[pytest.Item], bay: Bay) -> None:
         units = units_of(items, bay)
         for unit in units:
             for test, need in zip(unit.tests, unit.needs):

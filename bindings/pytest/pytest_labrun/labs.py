@@ -95,7 +95,7 @@ class BrokerLab:
         self.address = address
         try:
             self.client = importlib.import_module("labrun_broker").connect(address)
-            self.instruments = tuple(it["name"] for it in self.client.status()["instruments"])
+            self.bay = {it["name"]: tuple(it["tags"]) for it in self.client.status()["instruments"]}
         except ImportError as fault:
             raise LabFault(f"--lab-broker needs the package labrun_broker: {fault}") from None
         except (labrun.LabrunError, ValueError, OSError) as fault:

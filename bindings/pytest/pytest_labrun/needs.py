@@ -3,7 +3,6 @@
 from __future__ import annotations
 
 import difflib
-import fnmatch
 import functools
 import inspect
 import itertools
@@ -13,17 +12,19 @@ from dataclasses import dataclass, field
 from typing import Any, Callable, Iterable, Mapping, Optional, Sequence, TypeVar, Union
 
 import pytest
+from labrun.picks import NoSuch, counted, is_plain, matching
 
 MARK = "instruments"
-KEYWORDS = ("lab", "job", "session", "end", "steps", "patience")
-NAME = re.compile(r"[a-z][a-z0-9-]{0,15}")
-A_NAME = f"at most 16 letters a-z, digits and `-`, a letter first, and none of {' '.join(KEYWORDS)}"
+NAME = re.compile(r"[A-Za-z][A-Za-z0-9._-]{0,63}")
+A_NAME = "at most 64 letters, digits, `-`, `_` and `.`, a letter first"
 MOST_WAYS = 1000
 
 _HOLDS = "_labrun_holds"
 Function = TypeVar("Function", bound=Callable[..., Any])
 
 Way = tuple[str, ...]
+# the instruments that there are, each with its tags
+Bay = Mapping[str, Sequence[str]]
 
 # the place of a word of a marker, or of the marker
 Where = Callable[[Optional[str]], str]
@@ -34,39 +35,55 @@ class Fault(Exception):
 
 
 def is_name(name: object) -> bool:
-    return isinstance(name, str) and NAME.fullmatch(name) is not None and name not in KEYWORDS
+    return isinstance(name, str) and NAME.fullmatch(name) is not None
 
 
 @dataclass(frozen=True)
 class Wish:
-    """One marker, or what one fixture holds: each of `names`, and one of the instruments that `any_of` names, by patterns too."""
+    """One marker, or what one fixture holds: each of `names`, for each of `picks` as many as it says, as `2 of load-*` or `tag:precise`, and
+    one of the instruments that `any_of` names, by patterns and tags too."""
 
     names: tuple[str, ...]
+    picks: tuple[str, ...]
     any_of: tuple[str, ...]
     where: Where = field(compare=False)
 
-    def check(self, bay: Optional[Sequence[str]]) -> None:
+    def check(self, bay: Optional[Bay]) -> None:
         """Fault says what the bay lacks. Without a bay only the names are looked at."""
         for name in self.names:
             if not is_name(name):
                 raise Fault(f"{self.where(name)}: {name!r} can't be an instrument's name: {A_NAME}")
             if bay is not None and name not in bay:
                 raise Fault(f"{self.where(name)}: {_unknown(name, bay)}")
-        if self.any_of and bay is not None:
-            self.choice(bay)
+        if bay is not None:
+            self.choices(bay)
 
-    def choice(self, bay: Sequence[str]) -> tuple[str, ...]:
-        """The instruments of which it wants one, in the order in which it names them."""
-        found: dict[str, None] = {}
-        for pattern in self.any_of:
-            matching = fnmatch.filter(bay, pattern)
-            if not matching:
-                raise Fault(f"{self.where(pattern)}: {_unknown(pattern, bay)}")
-            found.update(dict.fromkeys(matching))
-        return tuple(found)
+    def choices(self, bay: Bay) -> list[tuple[str, ...]]:
+        """For each further instrument that it wants, those of which that is to be one, in the order in which they are named."""
+        found = [its for word in self.picks for its in self._picked(word, bay)]
+        if self.any_of:
+            found.append(tuple(dict.fromkeys(name for word in self.any_of for name in self._like(word, word, bay))))
+        return found
+
+    def _picked(self, word: str, bay: Bay) -> list[tuple[str, ...]]:
+        count, what = counted(word)
+        its = self._like(word, what, bay)
+        if not 0 < count <= len(its):
+            raise Fault(f"{self.where(word)}: {count} of {what} are wanted; there {'is' if len(its) == 1 else 'are'} {len(its)}: {', '.join(its)}")
+        return [its] * count
+
+    def _like(self, word: str, what: str, bay: Bay) -> tuple[str, ...]:
+        tags: dict[str, list[str]] = {}
+        for name, its in bay.items():
+            for tag in its:
+                tags.setdefault(tag, []).append(name)
+        try:
+            return matching(what, tuple(bay), tags)
+        except NoSuch as fault:
+            raise Fault(f"{self.where(word)}: {fault if what.startswith('tag:') else _unknown(what, bay)}") from None
 
 
-def _unknown(name: str, bay: Sequence[str]) -> str:
+def _unknown(name: str, bay: Iterable[str]) -> str:
     near = difflib.get_close_matches(name, bay, 1)
     return f"unknown instrument {name!r}: there are {', '.join(bay) or 'none'}" + (f" (did you mean {near[0]!r}?)" if near else "")
 
@@ -83,7 +100,10 @@ def read_wish(args: tuple[Any, ...], kwargs: Mapping[str, Any], where: Where) ->
         raise Fault(f"{where(None)}: an instrument is named by a text, not by {wrong[0]!r}")
     if not args and not any_of:
         raise Fault(f'{where(None)}: instruments() names none: write instruments("scope") or instruments(any_of="load-*")')
-    return Wish(tuple(args), any_of, where)
+    counts = [it for it in any_of if counted(it)[1] != it]
+    if counts:
+        raise Fault(f"{where(counts[0])}: any_of is one of several: write instruments({counts[0]!r})")
+    return Wish(tuple(filter(is_plain, args)), tuple(it for it in args if not is_plain(it)), any_of, where)
 
 
 def holds(*names: str, any_of: Union[str, Sequence[str]] = ()) -> Callable[[Function], Function]:
@@ -199,11 +219,11 @@ class Need:
         return tuple(found.values())
 
 
-def need_of(wishes: Iterable[Wish], bay: Sequence[str]) -> Need:
+def need_of(wishes: Iterable[Wish], bay: Bay) -> Need:
     """They add up: every name once, every choice one more instrument."""
     wishes = list(wishes)
     names = tuple(dict.fromkeys(name for wish in wishes for name in wish.names))
-    choices = tuple(wish.choice(bay) for wish in wishes if wish.any_of)
+    choices = tuple(choice for wish in wishes for choice in wish.choices(bay))
     need = Need(names, choices)
     if wishes and not need.ways():
         raise Fault(f"{wishes[0].where(None)}: no instrument is left for any_of: there are {', '.join(bay)}")
@@ -241,13 +261,14 @@ class Unit:
         return ways_of(tuple(dict.fromkeys(self.needs)))
 
 
-def named_by(items: Iterable[pytest.Item]) -> tuple[str, ...]:
+def named_by(items: Iterable[pytest.Item]) -> Bay:
     """All instruments that markers name: the bay, if nobody says what is in it."""
     wishes = [wish for item in items for wish in wishes_of(item)]
-    return tuple(sorted({name for wish in wishes for name in (*wish.names, *filter(is_name, wish.any_of))}))
+    names = {name for wish in wishes for name in (*wish.names, *filter(is_name, wish.any_of))}
+    return {name: () for name in sorted(names)}
 
 
-def units_of(items: Sequence[pytest.Item], bay: Sequence[str]) -> list[Unit]:
+def units_of(items: Sequence[pytest.Item], bay: Bay) -> list[Unit]:
     """The units of a collection, in its order."""
     found: list[Unit] = []
     for tests in _together(items):

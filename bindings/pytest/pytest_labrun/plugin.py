@@ -4,7 +4,7 @@ from __future__ import annotations
 
 import math
 import os
-from typing import Any, Generator, Iterator, Optional, Sequence
+from typing import Any, Generator, Iterator, Optional
 
 import pytest
 
@@ -12,7 +12,7 @@ from . import seen
 from .bay import BayFault, read_bay
 from .desk import AloneDesk, Desk, SocketDesk
 from .holding import Holding, Instruments, Lab
-from .needs import Fault, named_by, wishes_of
+from .needs import Bay, Fault, named_by, wishes_of
 from .past import Past
 
 # the plugin that holds, by its name
@@ -61,7 +61,7 @@ def broker_of(config: pytest.Config) -> Optional[str]:
     return config.getoption("lab_broker") or config.getini("lab_broker") or None
 
 
-def bay_of(config: pytest.Config) -> Optional[tuple[str, ...]]:
+def bay_of(config: pytest.Config) -> Optional[Bay]:
     """The instruments that there are; None if nobody says: then those that markers name."""
     given, of_ini = config.getoption("lab"), config.getini("lab_bay")
     try:
@@ -103,9 +103,9 @@ def pytest_configure(config: pytest.Config) -> None:
 class Runner:
     """In each process that runs tests."""
 
-    def __init__(self, desk: Desk, bay: Optional[Sequence[str]], timeout: Optional[float]) -> None:
+    def __init__(self, desk: Desk, bay: Optional[Bay], timeout: Optional[float]) -> None:
         self.bay = bay
-        self.named: tuple[str, ...] = ()
+        self.named: Bay = {}
         self.holding = Holding(desk, timeout)
 
     @pytest.hookimpl(hookwrapper=True)
@@ -163,7 +163,7 @@ class Runner:
 class Single(Runner):
     """One process that runs all tests: nothing waits."""
 
-    def __init__(self, config: pytest.Config, bay: Optional[Sequence[str]], timeout: Optional[float]) -> None:
+    def __init__(self, config: pytest.Config, bay: Optional[Bay], timeout: Optional[float]) -> None:
         self.config, self.past = config, Past()
         super().__init__(AloneDesk(self.past), bay, timeout)
 

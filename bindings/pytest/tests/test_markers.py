@@ -38,6 +38,34 @@ def test_markers_of_module_class_and_test_add_up(pytester: pytest.Pytester, run:
     done.stdout.fnmatch_lines(["test_markers_of_module_class_and_test_add_up.py:16: no instrument is left for any_of*"])
 
 
+def test_words_for_several(pytester: pytest.Pytester, run: Run) -> None:
+    pytester.makefile(".toml", bay='instruments = ["scope", "load-1", "load-2"]\n[tags]\nprecise = ["scope", "load-2"]')
+    pytester.makepyfile(
+        """
+        import pytest
+
+        @pytest.mark.instruments("2 of load-*", "scope")
+        def test_two_of(instruments):
+            assert instruments.names == ("scope", "load-1", "load-2")
+
+        @pytest.mark.instruments("load-*")
+        def test_like(instruments):
+            # (another worker may be at the other one)
+            assert instruments.names in (("load-1",), ("load-2",))
+
+        @pytest.mark.instruments("tag:precise", "scope")
+        def test_a_tag(instruments):
+            assert instruments.names == ("scope", "load-2")
+
+        @pytest.mark.instruments(any_of=["tag:precise", "load-1"])
+        def test_any_of(instruments):
+            assert len(instruments.names) == 1 and instruments.names[0] in ("scope", "load-1", "load-2")
+        """
+    )
+    for words in ((), ("-n", "2")):
+        run("-q", "--lab", "bay.toml", *words).assert_outcomes(passed=4)
+
+
 WRONG = '''
 import pytest
 
@@ -64,8 +92,11 @@ def test_an_unknown_instrument_is_an_error_at_its_place(pytester: pytest.Pyteste
 @pytest.mark.parametrize(
     "marker, told",
     [
-        ('"Scope"', "test_it.py:3: 'Scope' can't be an instrument's name: at most 16 letters a-z, digits and `-`, a letter first, and none of lab job session end steps patience"),
-        ('"session"', "test_it.py:3: 'session' can't be an instrument's name*"),
+        ('"a scope"', "test_it.py:3: 'a scope' can't be an instrument's name: at most 64 letters, digits, `-`, `_` and `.`, a letter first"),
+        ('"Scope"', "test_it.py:3: unknown instrument 'Scope': there are scope, supply (did you mean 'scope'?)"),
+        ('"3 of s*"', "test_it.py:3: 3 of s[*] are wanted; there are 2: scope, supply"),
+        ('"tag:precise"', "test_it.py:3: precise is no tag: there are none"),
+        ('any_of="2 of s*"', "test_it.py:3: any_of is one of several: write instruments('2 of s[*]')"),
         ("", 'test_it.py:3: instruments() names none: write instruments("scope") or instruments(any_of="load-[*]")'),
         ("3", "test_it.py:3: an instrument is named by a text, not by 3"),
         ('"scope", anyof="load-*"', "test_it.py:3: instruments() takes names and any_of=, not anyof="),
@@ -84,8 +115,10 @@ def test_a_wrong_marker_is_an_error_at_its_place(pytester: pytest.Pytester, run:
         (None, "ERROR: *bay.toml: No such file or directory"),
         ("instruments = [1 2]", "ERROR: *bay.toml: *line 1*"),
         ("bay = 1", 'ERROR: *bay.toml: a line `instruments = [[]"scope", "supply"[]]` is wanted'),
-        ('instruments = [\n"scope",\n"Oven"]', "ERROR: *bay.toml:3: 'Oven' can't be an instrument's name*"),
+        ('instruments = [\n"scope",\n"an oven"]', "ERROR: *bay.toml:3: 'an oven' can't be an instrument's name*"),
         ('instruments = ["scope", "scope"]', "ERROR: *bay.toml:1: scope is there twice"),
+        ('instruments = ["scope"]\ntags = 3', 'ERROR: *bay.toml: tags: a table of lists is wanted*'),
+        ('instruments = ["scope"]\n[tags]\nx = ["lamp"]', "ERROR: *bay.toml: tags.x: lamp is none of the instruments"),
     ],
 )
 def test_a_wrong_bay(pytester: pytest.Pytester, run: Run, text: str, told: str) -> None:

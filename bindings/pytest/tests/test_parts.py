@@ -12,17 +12,17 @@ import pytest
 
 from pytest_labrun.desk import NotHeld, SocketDesk
 from pytest_labrun.labs import OwnLab
-from pytest_labrun.needs import Fault, Need, Wish, chosen_for, need_of, ways_of
+from pytest_labrun.needs import Bay, Fault, Need, Wish, chosen_for, need_of, ways_of
 from pytest_labrun.past import Held, Past, Times
 from pytest_labrun.seen import rows, table
 from pytest_labrun.server import Server, UnitTold
 
-BAY = ("load-1", "load-2", "load-3", "scope", "supply")
-LOADS = BAY[:3]
+LOADS = ("load-1", "load-2", "load-3")
+BAY: Bay = {name: () for name in (*LOADS, "scope", "supply")}
 
 
 def wish(*names: str, any_of: tuple[str, ...] = ()) -> Wish:
-    return Wish(names, any_of, lambda word: "here")
+    return Wish(names, (), any_of, lambda word: "here")
 
 
 # ---- needs
@@ -46,7 +46,7 @@ def test_a_choice_is_never_a_name() -> None:
 
 
 def test_too_many_ways() -> None:
-    bay = tuple(f"load-{at}" for at in range(11))
+    bay: Bay = {f"load-{at}": () for at in range(11)}
     with pytest.raises(ValueError, match="1331 ways to choose; 1000 is the most"):
         need_of([wish(any_of=("*",))] * 3, bay)
 

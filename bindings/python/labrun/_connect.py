@@ -27,7 +27,8 @@ def connect(where: Union[str, os.PathLike[str]], station: str = "", **of_broker:
             uses, places = [], None
         else:
             uses, places = guests.get("may_use", bay["instruments"]), guests["count"]
-        return Lab(bay["instruments"], bay.get("stations", {}), uses, places, bay.get("overtakes", OVERTAKES), station=station)
+        overtakes, tags = bay.get("overtakes", OVERTAKES), bay.get("tags", {})
+        return Lab(bay["instruments"], bay.get("stations", {}), uses, places, overtakes, station=station, tags=tags)
     except (ValueError, TypeError, AttributeError, KeyError) as fault:
         raise ValueError(f"{given}: {fault}") from fault
 

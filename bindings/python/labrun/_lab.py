@@ -50,9 +50,9 @@ class _Asks:
         self, *instruments: str, any_of: AnyOf = (), timeout: Optional[float] = None, limit: Optional[float] = None, note: str = ""
     ) -> Held:
         """A session of these instruments, or of one of the sets `any_of`, whichever is free first: `with lab.hold("scope", "supply"):`, or
-        `async with`. It waits for `timeout` seconds at most; then TimeoutError says who has what it wanted. 0: it takes what is free. After
-        `limit` seconds it is taken away as soon as somebody waits for what it has. `note` is noted as it comes to hold, as by
-        `Held.note`."""
+        `async with`. `load-*`, `tag:precise` and `2 of load-*` stand for those that are like that, whichever are free first. It waits for
+        `timeout` seconds at most; then TimeoutError says who has what it wanted. 0: it takes what is free. After `limit` seconds it is
+        taken away as soon as somebody waits for what it has. `note` is noted as it comes to hold, as by `Held.note`."""
         kind = self._kind
         sets = kind.known.get(instruments) if not any_of else None
         return Held(self._room, kind, kind.sets(instruments, any_of) if sets is None else sets, timeout, limit, note)
@@ -75,7 +75,8 @@ class Lab(_Asks):
             measure(held.instruments)
 
     `stations` says which instruments each may use; a station is in one session at a time. Whoever asks without one is a guest: `guests` are
-    the instruments that guests may use (all, if nothing is said), and `places` how many of them hold at once. With a `journal` each session
+    the instruments that guests may use (all, if nothing is said), and `places` how many of them hold at once. `tags` are names, each for some
+    of the instruments. With a `journal` each session
     is in that file before it is told: whoever held when the process died is in `resumed`. `sync="none"` leaves it to the system when that
     reaches the disk. There are 64 instruments and 31 stations at most. The lab is this process's: in a child of a fork each call raises
     OtherProcess."""
@@ -90,9 +91,10 @@ class Lab(_Asks):
         journal: Optional[Union[str, os.PathLike[str]]] = None,
         sync: str = "data",
         station: str = "",
+        tags: Optional[Mapping[str, Iterable[str]]] = None,
     ) -> None:
         self.instruments = tuple(dict.fromkeys(_strings("instruments", instruments)))
-        kinds = _kinds(self.instruments, stations or {}, self.instruments if guests is None else guests)
+        kinds = _kinds(self.instruments, stations or {}, self.instruments if guests is None else guests, tags or {})
         most = MOST_INSTRUMENTS if places is None else places
         if len(self.instruments) > MOST_INSTRUMENTS or len(kinds) > MOST_STATIONS + 1:
             found = f"{len(self.instruments)} instruments and {len(kinds) - 1} stations"
@@ -192,18 +194,27 @@ def _strings(what: str, given: Iterable[str]) -> tuple[str, ...]:
     return names
 
 
-def _kinds(instruments: tuple[str, ...], stations: Mapping[str, Iterable[str]], guests: Iterable[str]) -> dict[str, Kind]:
+def _kinds(
+    instruments: tuple[str, ...], stations: Mapping[str, Iterable[str]], guests: Iterable[str], tags: Mapping[str, Iterable[str]]
+) -> dict[str, Kind]:
     if "" in stations:
         raise ValueError("a station has a name")
     bits = {name: 1 << at for at, name in enumerate(instruments)}
+    tagged = {tag: _some("tags", tag, its, bits) for tag, its in tags.items()}
     kinds: dict[str, Kind] = {}
     for name, its in [*stations.items(), ("", guests)]:
-        may = _strings(f"stations: {name}" if name else "guests", its)
-        for wrong in may:
-            if wrong not in bits:
-                raise ValueError(f"{name or 'guests'}: {wrong!r} is none of the instruments")
-        kinds[name] = Kind(name, len(kinds), {it: bit for it, bit in bits.items() if it in may}, bits)
+        may = _some("stations", name, its, bits) if name else _some("guests", "", its, bits)
+        kinds[name] = Kind(name, len(kinds), {it: bit for it, bit in bits.items() if it in may}, bits, tagged)
     return kinds
+
+
+def _some(what: str, name: str, its: Iterable[str], bits: Mapping[str, int]) -> tuple[str, ...]:
+    """Some of the lab's instruments, as a station, the guests or a tag names them."""
+    found = tuple(_strings(f"{what}: {name}" if name else what, its))
+    for wrong in found:
+        if wrong not in bits:
+            raise ValueError(f"{name or what}: {wrong!r} is none of the instruments")
+    return found
 
 
 def _one_of(them: Mapping[str, T], name: str) -> T:

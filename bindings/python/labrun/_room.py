@@ -4,10 +4,11 @@ from __future__ import annotations
 
 import itertools
 from dataclasses import dataclass, field
-from typing import Any, Iterable, Iterator, Optional, Sequence, Union
+from typing import Any, Iterable, Iterator, Mapping, Optional, Sequence, Union
 
 from ._faults import MayNotUse
 from ._keepers import Keeper
+from .picks import NoSuch, is_plain, sets_of
 from ._shell import Shell
 from .machine import HOLDS
 
@@ -22,6 +23,7 @@ class Kind:
     number: int
     may: dict[str, int]
     bits: dict[str, int]
+    tags: Mapping[str, tuple[str, ...]]
     # what was asked for before, and was right
     known: dict[tuple[str, ...], tuple[int, ...]] = field(default_factory=dict)
     # of a station: the thread or the task that is within its session
@@ -37,10 +39,22 @@ class Kind:
         choices = [(it,) if isinstance(it, str) else tuple(it) for it in any_of]
         if bool(choices) == bool(instruments) or not all(choices):
             raise ValueError("say which instruments, or of which sets of them it is to be one (any_of)")
-        sets = tuple(all_of(self._bit(name) for name in names) for names in choices or (instruments,))
+        sets = tuple(dict.fromkeys(bits for words in choices or (instruments,) for bits in self._sets(words)))
         if instruments and len(self.known) < 1000:
             self.known[instruments] = sets
         return sets
+
+    def _sets(self, words: tuple[str, ...]) -> tuple[int, ...]:
+        """The sets that do for these words."""
+        if all(word in self.bits for word in words):
+            return (all_of(self._bit(word) for word in words),)
+        for word in words:
+            if is_plain(word):
+                self._bit(word)
+        try:
+            return tuple(all_of(self._bit(name) for name in names) for names in sets_of(words, tuple(self.may), self.tags))
+        except NoSuch as fault:
+            raise ValueError(f"{self.called} may use no such instrument: {fault}" if len(self.may) < len(self.bits) else str(fault)) from None
 
     def _bit(self, name: str) -> int:
         if name not in self.bits:
