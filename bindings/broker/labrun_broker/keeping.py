@@ -12,18 +12,19 @@ from typing import Any, AsyncIterator, Callable, Optional
 
 import labrun
 from labrun import LabrunError, NotHeld
-from labrun.machine import GRACE, HOLDS, LAPSED, NEVER, NOT_WRITTEN, WAS_STOPPED, Machine, Refusal, Standing, Told
+from labrun.machine import GRACE, HOLDS, LAPSED, NEVER, NOT_WRITTEN, WAS_STOPPED, Machine, Refusal, Told
 
-from . import leases, mending, wishes
+from . import leases, turning, wishes
 from .bay import Bay
 from .errors import BadWish
 from .errors import TimeoutError as TimedOut
 from .folder import Folder, State
-from .journals import Left, notes_of
+from .journals import notes_of
 from .opening import Opened
 from .records import News, Record
 from .shell import Shell
 from .standing import Owner, Session, Standings, free_label
+from .taking_up import takes_up
 from .wishes import Ended, Ends, Wish
 
 UNTOLD = "the session was taken away before its client was told that it holds"
@@ -43,6 +44,8 @@ class Keeping:
         # what is to be told to whoever looks after the broker, as it begins, and later
         self.complaints: list[str] = []
         self.says: Callable[[str], None] = lambda text: None
+        # from which size on the journal begins anew
+        self.most_bytes = turning.MOST_BYTES
         self.by_number: dict[int, Session] = {}
         self.idle_since: dict[str, int] = {}
         self._opens, self._syncs = opens, syncs
@@ -62,38 +65,16 @@ class Keeping:
         # (who only waited is in the records alone)
         asked = (record["session"] for record in it.recent if record.get("session"))
         self._next, self.opened_at = max(1, it.machine.next_number(), 1 + max(asked, default=0)), self._shell.now()
-        self._takes_up(it)
+        takes_up(self, it)
+        self._carries()
         self._shell.pump()
 
-    def _takes_up(self, it: Opened) -> None:
-        """What was held is held, and its clients are awaited."""
-        mending.names_them(it.left, it.recent)
-        for one in it.left.values():
-            if one.how == "let_go" or one.what == "taken":
-                self._ends.add(one.owner, "" if one.how == "let_go" else f"by {one.taken or 'the broker'}")
-        rows = {row.number: row for row in self.machine.standings() if row.what == HOLDS}
-        names = {number: self.places.station(row.kind) or it.left[number].station for number, row in rows.items()}
-        # (those whose names are known come first, so that no other gets one of them)
-        # (where a grace ends they are gone from now on: it begins anew)
-        gone = mending.gone_since(it.recent) if math.isinf(self.grace) else {}
-        for number in sorted(rows, key=lambda number: (not names[number], number)):
-            of = it.left[number]
-            of.station = names[number] or free_label(self.by_number.values())
-            self._takes_up_one(rows[number], of, of.station, gone.get(number))
-        for record in mending.missing(it.left, it.recent, self.places):
-            self._news.add(record)
-        self._record("opened", text="as it was left" if it.left else "")
-        for number, session in self.by_number.items():
-            if number not in gone:
-                self._record("gone", session)
-
-    def _takes_up_one(self, row: Standing, it: Left, name: str, gone: Optional[float]) -> None:
-        told: asyncio.Future[None] = asyncio.get_running_loop().create_future()
-        told.set_result(None)
-        session = Session(row.number, name, row.kind, row.owner, told, state="gone", since=row.since, by=it.by or None)
-        session.gone_at = self.now() - (0 if gone is None else max(0, wishes.milliseconds(time.time() - gone)))
-        session.instruments, session.note = self.places.names(row.needs), it.notes[-1] if it.notes else None
-        self.by_number[row.number] = self._by_key[row.owner] = session
+    def _carries(self) -> None:
+        """What goes on in a new file of the journal: whose each session is, and its last note; the records have the others."""
+        turns = self._shell.turns
+        turns.most, turns.records = self.most_bytes, self._news.file
+        turns.classes = lambda: self.places.classes(self.bay)
+        turns.notes = lambda: [(it.number, note) for it in self.by_number.values() if it.holds for note in it.in_a_new_file()]
 
     async def close(self) -> None:
         """Nobody comes to hold any more; what is held stays held, in the journal."""
@@ -134,6 +115,7 @@ class Keeping:
         try:
             wishes.check_form(wish, self.bay)
             key = wishes.owner_of(wish.ticket)
+            await self._shell.turns.may_go_on()
             held = await self._session_of(key)
             if held is not None and held.holds:
                 return self._comes_back(held, wish, owner)
@@ -260,6 +242,7 @@ class Keeping:
 
     async def let_go(self, session: Session, owner: Owner, failed: Optional[str] = None) -> None:
         """Who waits comes to hold, and is told once both are on the disk. `failed` is what the client says of work that failed."""
+        await self._shell.turns.may_go_on()
         self._is_of(session, owner)
         if failed is not None:
             self._notes(session, "failed", failed)
@@ -271,9 +254,11 @@ class Keeping:
         self._ends.add(session.key)
         self._shell.pump()
         self._news.write()
+        await self._shell.turns.stands()
 
     async def note(self, session: Session, owner: Owner, text: str) -> None:
         """It is on the disk then."""
+        await self._shell.turns.may_go_on()
         self._is_of(session, owner)
         wishes.check_note(text, self.bay)
         position = self._notes(session, "note", text)
@@ -292,6 +277,7 @@ class Keeping:
 
     async def release(self, station: str, by: str, number: int = 0) -> tuple[str, ...]:
         """Ends the session that a station holds, for its owner; its instruments. With its number, no other session of the station."""
+        await self._shell.turns.may_go_on()
         if station not in self.bay.jobs and all(it.name != station for it in self.by_number.values()):
             raise BadWish(f"{station} is no station of this bay: there are {', '.join(self.bay.jobs)}")
         session, needs = next(((it, bits) for it, bits, _ in Standings(self).holders if it.name == station), (None, 0))

@@ -177,7 +177,12 @@ class Client:
         if self._waiting is not None:
             return await self._give_up(self._waiting)
         failed = asked.failed[: self.keeping.bay.limits.note] if asked.HasField("failed") else None
-        await self.keeping.let_go(self._held(), self, failed)
+        try:
+            await self.keeping.let_go(self._held(), self, failed)
+        except labrun.JournalError:
+            # (it is over all the same)
+            self.session = None
+            raise
         self.session = None
         await self._tell(GONE)
 

@@ -14,6 +14,7 @@ from typing import TYPE_CHECKING, Any, Iterable, Optional, Protocol
 
 from labrun.machine import HOLDS, WAITS
 
+from .journals import notes_of
 from .places import bits_of
 from .texts import span
 from .wishes import Wish
@@ -69,6 +70,11 @@ class Session:
     def chosen(self, needs: int) -> tuple[str, ...]:
         """Of the sets that it asked for, the one that it holds."""
         return next((tuple(dict.fromkeys(it)) for it, bits in zip(self.wish.choices, self.sets) if bits == needs), self.instruments)
+
+    def in_a_new_file(self) -> list[bytes]:
+        """What the journal's next file has to say of it, for it holds."""
+        by = notes_of("by", f"{self.name} {self.by or ''}")
+        return by if self.note is None else [*by, *notes_of("note", self.note)]
 
     def stops_looking(self) -> None:
         """Whether its client is silent doesn't matter any more."""

@@ -43,6 +43,14 @@ def seconds(text: str) -> float:
     return value
 
 
+def mebibytes(text: str) -> int:
+    """So many MiB, in bytes."""
+    value = float(text)
+    if not 0.001 <= value <= 1 << 20:
+        raise argparse.ArgumentTypeError(f"{text} is no number of MiB from 0.001 to {1 << 20}")
+    return int(value * (1 << 20))
+
+
 def last(text: str) -> float:
     """A span of the past: 90, 30s, 15min, 4h, 2d."""
     found = re.fullmatch(r"(\d{1,9}(?:\.\d{1,3})?)\s*(s|m|min|h|d)?", text)

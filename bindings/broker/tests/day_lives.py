@@ -18,10 +18,10 @@ from labrun_broker import broker_pb2 as pb
 from tests import day_checks as checks
 from tests import day_model as rules
 from tests.day_checks import Wrong
-from tests.day_journal import ENDS, Left, left_in, lines_of, records_in, wrong_records
+from tests.day_journal import ENDS, Left, ends_in, left_in, next_in, notes_in, records_in, wrong_records
 from tests.day_life import Life, Stream
 from tests.day_model import Rules, Wish, model
-from tests.day_world import PLACES, Disk, Killed
+from tests.day_world import PLACES, Disk, Killed, lines_of
 
 LEASE = 0.75  # of the grace
 
@@ -43,7 +43,7 @@ class Day:
         self.wrong: Optional[Wrong] = None
         self.before: list[dict[str, Any]] = []
         self.kept_grace: Optional[int] = 0
-        self.read_to = 0
+        self.read_to, self.read_of = 0, b""
         self.counts: Counter[str] = Counter()
         self.power = True, 0.5
         self.rules: Optional[Rules] = None
@@ -57,7 +57,8 @@ class Day:
     def stands_in(self) -> Iterator[None]:
         """For the clock, the disk and the thread of every broker."""
         with self.disk.stands_in(), mock.patch.multiple("time", time=self.clock, monotonic=lambda: self.halves / 2000):
-            with mock.patch("labrun_broker.shell.ThreadPoolExecutor", lambda *_: self.life.loop):
+            # (nobody is made to wait so that the journal can begin anew: the rules have no word of that)
+            with mock.patch("labrun_broker.shell.ThreadPoolExecutor", lambda *_: self.life.loop), mock.patch("labrun_broker.turning.HUSHES", 10**9):
                 yield
 
     def begins(self, file: rules.File) -> None:
@@ -111,6 +112,7 @@ class Day:
             raise Wrong(1, f"it keeps for {self.life.keeping.grace} s; by the rules for {grace} ms")
         it = self.rules = Rules(self.file, now, grace)
         self.began_at = now, self.halves
+        it.ends |= ends_in(self.before)
         for one in left.values():
             if now <= one.since:
                 raise Wrong(2, f"it is {now}, and {one.number} holds since {one.since}")
@@ -119,7 +121,7 @@ class Day:
         for one in sorted(stands, key=lambda one: one.number):
             it.sessions[one.number] = self._taken_up(one, now)
             it.line.asks.append(model.Ask(one.number, one.kind, rules.owner_of(one.ticket), None, None, one.asked, one.since, one.needs, now, model.HOLDS, "", "holds", "durable"))  # fmt: skip
-        it.line.next = it.next = 1 + max([0, *left, *(one["session"] or 0 for one in self.before)])
+        it.line.next = it.next = max(1 + max([0, *left, *(one["session"] or 0 for one in self.before)]), next_in(self.disk))
         it.line.now = now
         checks.takes_up(self)
         it.follows()
@@ -145,17 +147,24 @@ class Day:
             late = {one.number for one in it.sessions.values() if it.grace is not None and one.gone_at is not None and one.gone_at + it.grace <= now}
             self.may_be_over |= late | (set(self.told_holds) - set(it.sessions))
         has_power, share = self.power
-        acked = self.disk.acked
+        durable = self.disk.durable | lines_of(self.disk.acked)
+        self.counts["turns"] += self.disk.turns
         self.disk.begins_again(has_power, share)
         self.counts["kills" if has_power else "power cuts"] += 1
-        self._keeps_what_was_told(acked, has_power)
+        self._keeps_what_was_told(durable, has_power)
         self.counts["sessions that came back"] += sum(not it.how for it in self.left().values())
 
-    def _keeps_what_was_told(self, acked: bytes, has_power: bool) -> None:
-        left, durable = self.left(), lines_of(acked)
+    def _keeps_what_was_told(self, durable: set[tuple[bytes, int]], has_power: bool) -> None:
+        left = self.left()
         self.before = records_in(self.disk)
+        over = {it["session"] for it in self.before if it["what"] in ENDS} & (self.may_be_over | self.is_over)
         for number, (instruments, _) in self.told_holds.items():
             it = left.get(number)
+            if it is None and number in over:
+                # (the journal began anew behind its end, which is in the records)
+                self.is_over.add(number)
+                self._keeps_notes(Left(number, 0, instruments, "", 0, 0))
+                continue
             if it is None or set(it.names) != set(instruments):
                 raise Wrong(2, f"{number} was told that it holds {instruments}, and is lost by the {'kill' if has_power else 'power cut'}")
             if it.how and number not in self.may_be_over | self.is_over:
@@ -182,7 +191,7 @@ class Day:
     def _keeps_notes(self, it: Left) -> None:
         sent = self.notes[it.number]
         wanted, at = [text for text, was_answered in sent if was_answered], 0
-        for text in it.notes:
+        for text in notes_in(self.before, it):
             at += at < len(wanted) and text == wanted[at]
         if at < len(wanted) or not set(it.notes) <= {text for text, _ in sent}:
             raise Wrong(3, f"notes of {it.number} that were answered: {wanted}; and there are {it.notes}")
@@ -236,11 +245,11 @@ class Day:
         if self.disk.is_dead:
             return
         self.rules.now = self.now()
-        before = copy.deepcopy((self.rules, [it.rules for it in self.life.streams])), list(self.releases), self.read_to
+        before = copy.deepcopy((self.rules, [it.rules for it in self.life.streams])), list(self.releases), (self.read_to, self.read_of)
         try:
             self._saw(first[1], second[1])
         except Wrong as fault:
-            (self.rules, streams), self.releases, self.read_to = before
+            (self.rules, streams), self.releases, (self.read_to, self.read_of) = before
             for it, its in zip(self.life.streams, streams):
                 it.rules = its
             try:
@@ -347,6 +356,8 @@ class Day:
             self._has_let_go(session.number)
         elif session is not None and (kind == "noted" or kind == "pong" and its.holds) and (session.pings or session.heard_at is not None):
             self.believes[session.number] = stream.sent[kind] + LEASE * (self.rules.grace or math.inf)
+        elif kind == "gone" and stream.rules.leaving is not None:
+            self._has_let_go(stream.rules.leaving[0])
         if kind == "noted":
             self._is_noted(stream)
 

@@ -74,7 +74,13 @@ class Stream:
     session: Optional[Session] = None
     waits: bool = False
     note: Optional[tuple[int, str, int]] = None
+    # the session of which it let go, and until when it is told so
+    leaving: Optional[tuple[int, int]] = None
     is_open: bool = True
+
+    @property
+    def is_busy(self) -> bool:
+        return self.note is not None or self.leaving is not None
 
 
 @dataclass(frozen=True)
@@ -235,7 +241,7 @@ class Rules:
             session, stream.session = stream.session, None
             self.line.let_go(session.number, self.now)
             self._over(session, LETS_GO if failed is None else "failed", failed or "", LETS_GO)
-            stream.told.append(("gone",))
+            stream.leaving = session.number, self.now + DISK
             self.follows()
 
     def _gives_up(self, stream: Stream, text: str) -> None:
@@ -268,7 +274,7 @@ class Rules:
 
     def is_cut(self, stream: Stream, says_so: bool = False) -> None:
         """Its stream is gone; `says_so`: it has ended it."""
-        stream.is_open, stream.note = False, None
+        stream.is_open, stream.note, stream.leaving = False, None, None
         if stream.waits:
             self._gives_up(stream, "the client is gone")
             if says_so:

@@ -138,7 +138,7 @@ class Doing:
     def free(self, client: int) -> Optional[Stream]:
         """The same, if it doesn't wait for an answer."""
         it = self.stream(client)
-        return None if it is None or it.rules.note is not None else it
+        return None if it is None or it.rules.is_busy else it
 
     # the steps
 
@@ -166,7 +166,7 @@ class Doing:
         held = next((it for it in day.rules.sessions.values() if it.ticket == ticket and it.holds), None)
         # (of two that wait until they may come back with one ticket, the clock's last digits say who is first)
         is_toss = any(it[2].ticket == ticket for it in day.rules.later) or held is not None and held.back_at > day.rules.now - rules.BACK and ticket in tickets
-        if stream is not None and stream.rules.note is not None or is_toss:
+        if stream is not None and stream.rules.is_busy or is_toss:
             return None
         if stream is None or manner == "again":
             stream = self.stream(client, True)
@@ -260,7 +260,7 @@ class Doing:
             day.passes(1100)
         else:
             raise Wrong(7, f"it hangs: {day.life.keeping.status()}")
-        if day.releases or any(it.rules.note for it in day.life.streams):
+        if day.releases or any(it.rules.is_busy for it in day.life.streams if it.rules.is_open):
             raise Wrong(7, "somebody is never answered")
         day.stops(day.file)
         day.life.ends()
