@@ -69,6 +69,7 @@ class Lab:
             "Status": (self._channel.unary_unary, pb.StatusWish, pb.Bay),
             "Watch": (self._channel.unary_stream, pb.StatusWish, pb.Bay),
             "Release": (self._channel.unary_unary, pb.ReleaseWish, pb.Released),
+            "Apply": (self._channel.unary_unary, pb.ApplyWish, pb.Applied),
             "Hold": (self._channel.stream_stream, pb.Ask, pb.Told),
         }
         self._methods = {name: kind(SERVICE + name, wish.SerializeToString, answer.FromString) for name, (kind, wish, answer) in kinds.items()}
@@ -144,6 +145,12 @@ class Lab:
         """Ends the session that a station holds, for its owner; with a number, no other one. First see that nobody is at the instruments."""
         wish = pb.ReleaseWish(station=station, by=self.by, session=session)
         return tuple(self._run(self._unary("Release", wish)).instruments)
+
+    def apply(self, bay: str, only_check: bool = False) -> tuple[str, ...]:
+        """The bay goes on as this text has it, a TOML file's, while sessions hold and wait; what has changed, or would. BrokerError: nothing has,
+        because somebody holds or waits for what is gone, or the text is no bay."""
+        wish = pb.ApplyWish(bay=bay, by=self.by, only_check=only_check)
+        return tuple(self._run(self._unary("Apply", wish)).changes)
 
     async def _unary(self, name: str, wish: Any, within: Optional[float] = ANSWER) -> Any:
         self._may_go_on()

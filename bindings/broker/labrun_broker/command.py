@@ -87,8 +87,11 @@ def run_release(args: argparse.Namespace) -> int:
 
 
 def add_bay(parser: argparse.ArgumentParser) -> None:
-    parser.add_argument("what", choices=("check",), help="names every fault of the file")
+    what = "check: names every fault of the file; apply: the bay that a broker keeps goes on as the file has it, whoever holds or waits"
+    parser.add_argument("what", choices=("check", "apply"), help=what)
     parser.add_argument("bay", metavar="BAY", help="the TOML file")
+    parser.add_argument("--check", action="store_true", help="of apply: nothing is changed, but what would be is said, and who is in the way")
+    add_client(parser)
 
 
 def run_bay(args: argparse.Namespace) -> int:
@@ -99,7 +102,16 @@ def run_bay(args: argparse.Namespace) -> int:
     except BayFault as fault:
         print(fault, file=sys.stderr)
         return 1
+    if args.what == "apply":
+        return apply_bay(args)
     print(f"ok bay {bay.name}: {len(bay.instruments)} instruments, {len(bay.stations)} stations, {bay.guests} guests, gone = {bay.gone}")
+    return 0
+
+
+def apply_bay(args: argparse.Namespace) -> int:
+    with open(args.bay, encoding="utf-8") as file, lab_of(args, by=user()) as lab:
+        changes = lab.apply(file.read(), args.check)
+    print("\n".join(changes) or "nothing changes: the bay is as the file has it")
     return 0
 
 
@@ -152,7 +164,7 @@ WORDS = (
     Word("report", "what each station and instrument did, from a state folder", add_past, later("past", "run_report")),
     Word("gantt", "a picture of what was: who held what, and who waited, from a state folder", add_gantt, later("past", "run_gantt")),
     Word("table", "each session of a state folder, with times and notes", add_table, later("past", "run_table")),
-    Word("bay", "bay check: is the bay's file sound", add_bay, run_bay),
+    Word("bay", "bay check: is the bay's file sound; bay apply: the bay goes on as the file has it, without a restart", add_bay, run_bay),
     Word("manual", "writes the man page and the completions", add_help, run_help),
 )
 

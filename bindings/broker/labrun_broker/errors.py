@@ -61,6 +61,10 @@ class NoInstrument(BadWish):
     """The bay has no instrument of this name."""
 
 
+class CantChange(labrun.LabrunError):
+    """The bay can't be as the file has it: somebody is in the way."""
+
+
 KINDS: dict[str, Callable[[str], Exception]] = {
     "TimeoutError": TimeoutError,
     "TakenAway": TakenAway,

@@ -52,6 +52,9 @@ class Keeping:
         self._by_key: dict[tuple[int, int], Session] = {}
         self._ends = Ends()
         self._is_closed = False
+        # one after another (applying.py)
+        self.changing = asyncio.Lock()
+        self.tasks = set[asyncio.Future[None]]()
 
     # ---- from the start to the end
 

@@ -12,6 +12,8 @@ import socket
 import sys
 from typing import TYPE_CHECKING, Any, Awaitable, Callable
 
+import labrun
+
 from .bay import BadAddress, read_bay
 from .quick import DEFAULT
 from .texts import counted, mebibytes, plain, seconds
@@ -78,10 +80,31 @@ async def serve(args: argparse.Namespace) -> int:
             say(plain(it))
         keeping.says = lambda text: say(plain(text)[:MOST_TOLD]) if door.is_read() else None
         tell_systemd("READY=1")
+        asyncio.get_running_loop().add_signal_handler(signal.SIGHUP, lambda: hears(keeping, args.bay))
         await until_the_end()
         return 0
     finally:
         await ends.aclose()
+
+
+def hears(keeping: Keeping, path: str) -> None:
+    """SIGHUP: the bay goes on as its file has it by now."""
+    task = asyncio.ensure_future(applies(keeping, path))
+    keeping.tasks.add(task)
+    task.add_done_callback(keeping.tasks.discard)
+
+
+async def applies(keeping: Keeping, path: str) -> None:
+    from .applying import apply
+
+    try:
+        with open(path, encoding="utf-8") as file:
+            text = file.read()
+        if not await apply(keeping, text, "a signal", False):
+            keeping.says(f"{path}: nothing has changed")
+    except (labrun.LabrunError, OSError, ValueError) as fault:
+        for line in str(fault).split("\n"):
+            keeping.says(f"{path}: {line}")
 
 
 async def web(args: argparse.Namespace, keeping: Keeping) -> list[Any]:

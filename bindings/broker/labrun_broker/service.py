@@ -15,6 +15,7 @@ import grpc
 import labrun
 
 from . import broker_pb2 as pb
+from .applying import apply
 from .bay import BadAddress
 from .door import Complaints, Door, Seldom, check_free
 from .errors import KINDS, BadWish
@@ -260,6 +261,12 @@ class Service:
         return pb.Released(instruments=await _answer(context, self.keeping.release(wish.station, by, wish.session)))
 
 
+    async def Apply(self, wish: Any, context: Any) -> Any:
+        await self._paces(context)
+        by = wish.by[: self.keeping.bay.limits.name] or "an operator"
+        return pb.Applied(changes=await _answer(context, apply(self.keeping, wish.bay, by, wish.only_check)))
+
+
 async def _answer(context: Any, work: Awaitable[Any]) -> Any:
     try:
         return await work
@@ -304,6 +311,7 @@ def _methods(service: Service) -> Any:
             "Watch": grpc.unary_stream_rpc_method_handler(service.Watch, pb.StatusWish.FromString, _bytes),
             "Status": unary(service.Status, pb.StatusWish),
             "Release": unary(service.Release, pb.ReleaseWish),
+            "Apply": unary(service.Apply, pb.ApplyWish),
         },
     )
 

@@ -181,6 +181,10 @@ class Shell:
     def written(self) -> int:
         return self._written
 
+    async def runs(self, does: Callable[[], None]) -> None:
+        """Something is done on the thread; what it raises is raised here."""
+        await self._loop.run_in_executor(self._thread, does)
+
     def works(self, does: Callable[[], None], ends: Callable[[Optional[Exception]], None]) -> None:
         """Something is done on the thread, as long as a sync may take; then `ends` is told, also why it failed."""
         self._is_syncing = True

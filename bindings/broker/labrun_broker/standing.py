@@ -188,6 +188,9 @@ class Standings:
     def _for(self, since: int) -> str:
         return span((self._now - since) / 1000, 1)
 
+    def span_since(self, moment: int) -> str:
+        return self._for(moment)
+
     # the whole
 
     def status(self) -> dict[str, Any]:
