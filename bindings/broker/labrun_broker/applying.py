@@ -7,7 +7,7 @@ from __future__ import annotations
 
 import functools
 from dataclasses import replace
-from typing import TYPE_CHECKING, Iterator, Sequence
+from typing import TYPE_CHECKING, Iterator, Optional, Sequence
 
 from labrun import JournalError
 from labrun.machine import HOLDS, MAY_NOT, WAITS, Refusal
@@ -16,6 +16,7 @@ from .bay import Bay, BayFault, bay_of
 from .errors import BadWish, CantChange
 from .places import Places
 from .standing import Standings
+from .texts import span
 
 if TYPE_CHECKING:
     from .keeping import Keeping
@@ -53,6 +54,12 @@ def _of_numbers(before: Bay, after: Bay) -> Iterator[tuple[str, object, object]]
     for key, value in vars(after.limits).items():
         if value != (old := getattr(before.limits, key)):
             yield f"limits.{key}", value, old
+    limits = [("limit", after.limit, before.limit), ("guests.limit", after.guests_limit, before.guests_limit)]
+    names = dict.fromkeys((*before.station_limits, *after.station_limits))
+    limits += [(f"station_limits.{name}", after.station_limits.get(name), before.station_limits.get(name)) for name in names]
+    for name, new, was in limits:
+        if new != was:
+            yield f"{name} (for who asks from now on)", _span(new), _span(was)
     for key in LATER_KEYS:
         if (value := getattr(after, key)) != (old := getattr(before, key)):
             yield f"{key} ({LATER})", value, old
@@ -60,6 +67,10 @@ def _of_numbers(before: Bay, after: Bay) -> Iterator[tuple[str, object, object]]
 
 # what the machine has for as long as it is open
 LATER_KEYS = ("gone", "overtakes")
+
+
+def _span(value: Optional[float]) -> Optional[str]:
+    return None if value is None else span(value)
 
 
 def _told(value: object) -> str:
@@ -121,16 +132,16 @@ def _in_the_way(keeping: Keeping, places: Places, after: Bay) -> Iterator[str]:
         its = row.needs if row.what == HOLDS else session.wanted
         guests += row.what == HOLDS and not row.kind
         who = f"{session.name} ({session.by})" if session.by else session.name
-        span = stands.span_since(row.since)
+        since = stands.span_since(row.since)
         lacks = places.names(its & ~classes[row.kind][0])
         gone = [name for name in lacks if name not in after.instruments]
         if places.station(row.kind) not in after.stations if row.kind else not after.guests:
             does = f"has held {_all(places.names(its))}" if row.what == HOLDS else f"has waited for {_all(places.names(its))}"
-            yield f"{who if row.kind else 'guests are'} {'is ' if row.kind else ''}taken out, and {'' if row.kind else f'{who} '}{does} for {span}"
+            yield f"{who if row.kind else 'guests are'} {'is ' if row.kind else ''}taken out, and {'' if row.kind else f'{who} '}{does} for {since}"
         elif lacks:
             does = "has held" if row.what == HOLDS else "has waited for"
             what = f"{_all(gone)} {'is' if len(gone) == 1 else 'are'} taken out" if gone else f"{session.name} may not use {_all(lacks)} any more"
-            yield f"{what}, and {who} {does} {'it' if len(gone or lacks) == 1 else 'them'} for {span}"
+            yield f"{what}, and {who} {does} {'it' if len(gone or lacks) == 1 else 'them'} for {since}"
     if guests > after.guests > 0:
         yield f"{guests} guests hold, and by the file only {after.guests} may"
 

@@ -91,10 +91,12 @@ class Lab:
 
     def hold(
         self, *instruments: str, timeout: Optional[float] = None, any_of: Iterable[Union[str, Iterable[str]]] = (), station: Optional[str] = None,
-        waits: Optional[Callable[[str], None]] = None,
+        waits: Optional[Callable[[str], None]] = None, limit: Optional[float] = None, warns: Optional[Callable[[str], None]] = None,
     ) -> Held:
         """A session of these instruments, or of one of the sets `any_of`: `with lab.hold("scope", "supply"):`, or `async with`. After `timeout`
-        seconds TimeoutError says who keeps it waiting, and it is given up. `waits` is called with a line whenever it is known for whom it waits."""
+        seconds TimeoutError says who keeps it waiting, and it is given up. `waits` is called with a line whenever it is known for whom it waits. With a
+        `limit` it may be taken away once it has held for so many seconds and somebody waits for what it has; `warns` is called with a line before
+        the limit is over, be it this one or the bay's, on another thread."""
         if timeout is not None and not timeout >= 0:
             raise BadWish(f"a timeout of {timeout:g} s; it is 0 or more")
         if any_of and isinstance(any_of, str):
@@ -102,11 +104,16 @@ class Lab:
         choices = [pb.Instruments(names=(it,) if isinstance(it, str) else tuple(it)) for it in any_of]
         wish = pb.Wish(instruments=instruments, any_of=choices, station=self.station if station is None else station, by=self.by)
         wish.wants_waits, wish.pings = waits is not None, True
-        return Held(self, wish, timeout, waits)
+        if limit is not None:
+            wish.limit = limit
+        wish.wants_warning = True
+        held = Held(self, wish, timeout, waits)
+        held.on_warning = warns
+        return held
 
     def _resumed(self, of: Quick, ticket: str, waits: bool) -> Held:
         """A session that holds on a stream which is of another client, or was cut."""
-        held = Held(self, pb.Wish(instruments=of.instruments, ticket=ticket, by=self.by), None, None)
+        held = Held(self, pb.Wish(instruments=of.instruments, ticket=ticket, by=self.by, wants_warning=True), None, None)
         held.station, held.number = of.station, of.number
         self._run(held._resumes(waits))
         return held

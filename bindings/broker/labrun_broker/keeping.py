@@ -12,9 +12,9 @@ from typing import Any, AsyncIterator, Callable, Optional
 
 import labrun
 from labrun import LabrunError, NotHeld
-from labrun.machine import GRACE, HOLDS, LAPSED, NEVER, NOT_WRITTEN, WAS_STOPPED, Machine, Refusal, Told
+from labrun.machine import GRACE, HOLDS, LAPSED, LIMIT, NEVER, NOT_WRITTEN, WAS_STOPPED, Machine, Refusal, Told
 
-from . import leases, turning, wishes
+from . import lasting, leases, turning, wishes
 from .bay import Bay
 from .errors import BadWish
 from .errors import TimeoutError as TimedOut
@@ -86,6 +86,7 @@ class Keeping:
         self._is_closed = True
         for session in self.by_number.values():
             session.stops_looking()
+            lasting.stops(session)
         self._shell.machine.stop(self.now())
         self._shell.pump()
         self._record("closed")
@@ -161,13 +162,14 @@ class Keeping:
         self._next += 1
         kind, sets = self.places.kind(wish.station), tuple(self.places.bits(choice) for choice in wish.choices)
         deadline = NEVER if wish.timeout is None else now + wishes.milliseconds(wish.timeout)
+        limit = lasting.limit_of(self.bay, wish)
         try:
-            self._shell.machine.ask(number, key, kind, sets, deadline, NEVER, now)
+            self._shell.machine.ask(number, key, kind, sets, deadline, NEVER if limit is None else wishes.milliseconds(limit), now)
         except Refusal as it:
             raise LabrunError(f"the bay doesn't take it: {it}") from None
         name, told = wish.station or free_label(self.by_number.values()), asyncio.get_running_loop().create_future()
         session = Session(number, name, kind, key, told, wish, sets, since=now)
-        session.owner, session.by, session.instruments = owner, wish.by or None, wish.names
+        session.owner, session.by, session.instruments, session.limit = owner, wish.by or None, wish.names, limit
         self.by_number[number] = self._by_key[key] = session
         self._record("asked", session)
         self._shell.pump()
@@ -201,6 +203,7 @@ class Keeping:
             session.told.set_result(None)
         if session.owner is not None:
             self.heard(session, session.owner, session.wish.pings)
+            lasting.begins(self, session, session.wish.wants_warning)
 
     def _fails(self, session: Session, what: str, fault: LabrunError) -> None:
         self._over(session, what, str(fault))
@@ -208,7 +211,7 @@ class Keeping:
             session.told.set_exception(fault)
 
     def _is_taken(self, session: Session, how: int) -> None:
-        what = f"by {session.taken_by or 'the broker'}" + (f", because its client was gone for {self.grace:g} s" if how == GRACE else "")
+        what = f"by {session.taken_by or 'the broker'}" + (f", because its client was gone for {self.grace:g} s" if how == GRACE else lasting.why(session) if how == LIMIT else "")
         owner, held = session.owner, ", ".join(session.instruments)
         self.says(f"session {session.number} of {session.name} was taken away {what}: {held}")
         self._over(session, "taken", what)
@@ -231,6 +234,7 @@ class Keeping:
 
     def _over(self, session: Session, what: str, text: str) -> None:
         session.stops_looking()
+        lasting.stops(session)
         session.state = "over"
         self.by_number.pop(session.number, None)
         if self._by_key.get(session.key) is session:
@@ -362,6 +366,7 @@ class Keeping:
         session.stops_looking()
         session.owner, session.heard_at, session.back_at = owner, None, asyncio.get_running_loop().time()
         self.heard(session, owner, wish.pings)
+        lasting.begins(self, session, wish.wants_warning)
         return session
 
     # ---- what is told

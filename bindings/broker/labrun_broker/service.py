@@ -131,6 +131,9 @@ class Client:
         self.session = None
         self._starts(self._tell(pb.Told(taken=pb.Fault(kind="TakenAway", text=why))))
 
+    def warned(self, text: str, seconds: float) -> None:
+        self._starts(self._tell(pb.Told(warning=pb.Warning(text=text, seconds=seconds))))
+
     # ---- what it asks
 
     async def _wish(self, asked: Any) -> None:

@@ -35,6 +35,9 @@ class Owner(Protocol):
     def taken(self, why: str) -> None:
         """The session was ended for its owner, or is another's now."""
 
+    def warned(self, text: str, seconds: float) -> None:
+        """Its limit is over in so many seconds."""
+
 
 @dataclass(eq=False)
 class Session:
@@ -61,6 +64,9 @@ class Session:
     heard_at: Optional[int] = None
     back_at: float = -math.inf
     timer: Optional[asyncio.TimerHandle] = None
+    # for how long it may hold while others wait for what it has, in seconds; and when its client is warned of the end
+    limit: Optional[float] = None
+    warning: Optional[asyncio.TimerHandle] = None
 
     @property
     def holds(self) -> bool:

@@ -51,5 +51,6 @@ def _takes_up_one(keeping: Keeping, row: Standing, it: Left, gone: Optional[floa
     told.set_result(None)
     session = Session(row.number, it.station, row.kind, row.owner, told, state="gone", since=row.since, by=it.by or None)
     session.gone_at = keeping.now() - (0 if gone is None else max(0, milliseconds(time.time() - gone)))
+    session.limit = None if it.limit is None else it.limit / 1000
     session.instruments, session.note = keeping.places.names(row.needs), it.notes[-1] if it.notes else None
     keeping.by_number[row.number] = keeping._by_key[row.owner] = session

@@ -4,6 +4,7 @@ from __future__ import annotations
 
 import argparse
 import re
+from typing import Optional
 
 
 def plain(text: object) -> str:
@@ -53,7 +54,12 @@ def mebibytes(text: str) -> int:
 
 def last(text: str) -> float:
     """A span of the past: 90, 30s, 15min, 4h, 2d."""
-    found = re.fullmatch(r"(\d{1,9}(?:\.\d{1,3})?)\s*(s|m|min|h|d)?", text)
-    if not found:
+    if (found := span_of(text)) is None:
         raise argparse.ArgumentTypeError(f"{text!r} is no span: write 90, 30s, 15min, 4h or 2d")
-    return float(found[1]) * {None: 1, "s": 1, "m": 60, "min": 60, "h": 3600, "d": 86400}[found[2]]
+    return found
+
+
+def span_of(text: str) -> Optional[float]:
+    """In seconds; None: it is none."""
+    found = re.fullmatch(r"(\d{1,9}(?:\.\d{1,3})?)\s*(s|m|min|h|d)?", text)
+    return float(found[1]) * {None: 1, "s": 1, "m": 60, "min": 60, "h": 3600, "d": 86400}[found[2]] if found else None
