@@ -101,7 +101,7 @@ async def _apply(keeping: Keeping, after: Bay, by: str, is_check: bool) -> list[
         return its
     bay = replace(after, **{key: getattr(before, key) for key in LATER_KEYS})
     if places != keeping.places:
-        await _keeps(keeping, places)
+        await keeps(keeping, places)
 
     def then() -> None:
         keeping.bay = bay
@@ -150,7 +150,7 @@ def _all(names: Sequence[str]) -> str:
     return " and ".join([", ".join(names[:-1]), names[-1]] if len(names) > 1 else names)
 
 
-async def _keeps(keeping: Keeping, places: Places) -> None:
+async def keeps(keeping: Keeping, places: Places) -> None:
     """The journal's lines are read by them. (Names that nobody has do no harm.)"""
     state = keeping._opened.state
     if state is not None:

@@ -70,6 +70,7 @@ class Lab:
             "Watch": (self._channel.unary_stream, pb.StatusWish, pb.Bay),
             "Release": (self._channel.unary_unary, pb.ReleaseWish, pb.Released),
             "Apply": (self._channel.unary_unary, pb.ApplyWish, pb.Applied),
+            "Outage": (self._channel.unary_unary, pb.OutageWish, pb.Noted),
             "Hold": (self._channel.stream_stream, pb.Ask, pb.Told),
         }
         self._methods = {name: kind(SERVICE + name, wish.SerializeToString, answer.FromString) for name, (kind, wish, answer) in kinds.items()}
@@ -158,6 +159,14 @@ class Lab:
         because somebody holds or waits for what is gone, or the text is no bay."""
         wish = pb.ApplyWish(bay=bay, by=self.by, only_check=only_check)
         return tuple(self._run(self._unary("Apply", wish)).changes)
+
+    def disable(self, instrument: str, why: str = "") -> None:
+        """It is out of order: nobody comes to hold it any more, and whoever holds it goes on."""
+        self._run(self._unary("Outage", pb.OutageWish(instrument=instrument, why=why, by=self.by)))
+
+    def enable(self, instrument: str) -> None:
+        """It is in order again."""
+        self._run(self._unary("Outage", pb.OutageWish(instrument=instrument, by=self.by)))
 
     async def _unary(self, name: str, wish: Any, within: Optional[float] = ANSWER) -> Any:
         self._may_go_on()

@@ -53,7 +53,8 @@ def lines_of(status: dict[str, Any]) -> list[str]:
     rows = [["INSTRUMENT", "HELD BY", "FOR", "WAITING"]]
     for one in status["instruments"]:
         rows.append([one["name"], one["holder"] or "-", span(at - one["since"]) if one["holder"] else "", " ".join(one["waiting"])])
-    lines = [f"bay {plain(status['bay'])}, {counted(status['sessions'], 'session')} since {since}", *disk_of(status), "", *aligned(rows), ""]
+    outs = [out_of(it, at) for it in status["instruments"] if it.get("out") is not None]
+    lines = [f"bay {plain(status['bay'])}, {counted(status['sessions'], 'session')} since {since}", *disk_of(status), *outs, "", *aligned(rows), ""]
     rows = [["STATION", "", "FOR", "INSTRUMENTS", "BY"]]
     for one in status["stations"]:
         if one["state"] != "idle":
@@ -63,6 +64,11 @@ def lines_of(status: dict[str, Any]) -> list[str]:
     for one in status["in_line"]:
         rows.append([one["station"] or "a guest", "in line", span(at - one["since"]), " ".join(one["instruments"]), plain(one["by"] or "")])
     return [*lines, *(aligned(rows) if len(rows) > 1 else ["nobody holds or waits"])]
+
+
+def out_of(it: dict[str, Any], at: float) -> str:
+    why = f": {plain(it['out'])}" if it["out"] else ""
+    return f"{it['name']} is out of order for {span(at - it['out_since'])}{why} (says {plain(it['out_by'])})"
 
 
 def disk_of(status: dict[str, Any]) -> list[str]:
@@ -83,6 +89,29 @@ def add_release(parser: argparse.ArgumentParser) -> None:
 def run_release(args: argparse.Namespace) -> int:
     with lab_of(args, by=user()) as lab:
         print(f"{args.station} has let go of {' '.join(lab.release(args.station, args.session))}")
+    return 0
+
+
+def add_disable(parser: argparse.ArgumentParser) -> None:
+    parser.add_argument("instrument", metavar="INSTRUMENT", help="nobody comes to hold it any more; whoever holds it goes on")
+    parser.add_argument("why", metavar="WHY", nargs="?", default="", help="what is told to who asks for it, as \"calibration until Friday\"")
+    add_client(parser)
+
+
+def run_disable(args: argparse.Namespace) -> int:
+    with lab_of(args, by=user()) as lab:
+        lab.disable(args.instrument, args.why)
+    return 0
+
+
+def add_enable(parser: argparse.ArgumentParser) -> None:
+    parser.add_argument("instrument", metavar="INSTRUMENT", help="which is in order again")
+    add_client(parser)
+
+
+def run_enable(args: argparse.Namespace) -> int:
+    with lab_of(args, by=user()) as lab:
+        lab.enable(args.instrument)
     return 0
 
 
@@ -161,6 +190,8 @@ WORDS = (
     Word("status", "who holds what since when, and who waits for whom", add_status, run_status),
     Word("top", "the same, again whenever it has changed", add_status, run_top),
     Word("release", "ends the session of a station whose client doesn't come back", add_release, run_release),
+    Word("disable", "an instrument is out of order: nobody comes to hold it", add_disable, run_disable),
+    Word("enable", "it is in order again", add_enable, run_enable),
     Word("report", "what each station and instrument did, from a state folder", add_past, later("past", "run_report")),
     Word("gantt", "a picture of what was: who held what, and who waited, from a state folder", add_gantt, later("past", "run_gantt")),
     Word("table", "each session of a state folder, with times and notes", add_table, later("past", "run_table")),

@@ -14,7 +14,7 @@ import labrun
 from labrun import LabrunError, NotHeld
 from labrun.machine import GRACE, HOLDS, LAPSED, LIMIT, NEVER, NOT_WRITTEN, WAS_STOPPED, Machine, Refusal, Told
 
-from . import lasting, leases, turning, wishes
+from . import lasting, leases, outage, turning, wishes
 from .bay import Bay
 from .errors import BadWish
 from .errors import TimeoutError as TimedOut
@@ -24,7 +24,7 @@ from .opening import Opened
 from .records import News, Record
 from .shell import Shell
 from .standing import Owner, Session, Standings, free_label
-from .taking_up import takes_up
+from .taking_up import carries, takes_up
 from .wishes import Ended, Ends, Wish
 
 UNTOLD = "the session was taken away before its client was told that it holds"
@@ -69,15 +69,8 @@ class Keeping:
         asked = (record["session"] for record in it.recent if record.get("session"))
         self._next, self.opened_at = max(1, it.machine.next_number(), 1 + max(asked, default=0)), self._shell.now()
         takes_up(self, it)
-        self._carries()
+        carries(self)
         self._shell.pump()
-
-    def _carries(self) -> None:
-        """What goes on in a new file of the journal: whose each session is, and its last note; the records have the others."""
-        turns = self._shell.turns
-        turns.most, turns.records = self.most_bytes, self._news.file
-        turns.classes = lambda: self.places.classes(self.bay)
-        turns.notes = lambda: [(it.number, note) for it in self.by_number.values() if it.holds for note in it.in_a_new_file()]
 
     async def close(self) -> None:
         """Nobody comes to hold any more; what is held stays held, in the journal."""
@@ -126,6 +119,7 @@ class Keeping:
             if wish.comes_back:
                 raise self._ends.why(key)
             wishes.check(wish, self.bay)
+            wish = outage.going_round(wish, self.places.out)
             session = self._asks(wish, key, owner, held)
         except LabrunError:
             self.refusals += 1
@@ -158,22 +152,25 @@ class Keeping:
             # (its stream has ended, and that isn't seen here yet)
             before.owner = None
             self._leaves(before, Ended("TakenAway", ANOTHER))
-        number, now = self._next, self.now()
+        name, told = wish.station or free_label(self.by_number.values()), asyncio.get_running_loop().create_future()
+        session = Session(0, name, self.places.kind(wish.station), key, told, since=self.now())
+        session.owner, session.by, session.limit = owner, wish.by or None, lasting.limit_of(self.bay, wish)
+        self._asks_for(session, wish)
+        return session
+
+    def _asks_for(self, session: Session, wish: Wish) -> None:
+        number, sets = self._next, tuple(self.places.bits(choice) for choice in wish.choices)
         self._next += 1
-        kind, sets = self.places.kind(wish.station), tuple(self.places.bits(choice) for choice in wish.choices)
-        deadline = NEVER if wish.timeout is None else now + wishes.milliseconds(wish.timeout)
-        limit = lasting.limit_of(self.bay, wish)
+        deadline = NEVER if wish.timeout is None else session.since + wishes.milliseconds(wish.timeout)
+        limit = NEVER if session.limit is None else wishes.milliseconds(session.limit)
         try:
-            self._shell.machine.ask(number, key, kind, sets, deadline, NEVER if limit is None else wishes.milliseconds(limit), now)
+            self._shell.machine.ask(number, session.key, session.kind, sets, deadline, limit, self.now())
         except Refusal as it:
             raise LabrunError(f"the bay doesn't take it: {it}") from None
-        name, told = wish.station or free_label(self.by_number.values()), asyncio.get_running_loop().create_future()
-        session = Session(number, name, kind, key, told, wish, sets, since=now)
-        session.owner, session.by, session.instruments, session.limit = owner, wish.by or None, wish.names, limit
-        self.by_number[number] = self._by_key[key] = session
+        session.number, session.wish, session.sets, session.instruments = number, wish, sets, wish.names
+        self.by_number[number] = self._by_key[session.key] = session
         self._record("asked", session)
         self._shell.pump()
-        return session
 
     def _is_told(self, told: Told) -> None:
         """The machine says what became of an ask. (Of one that let go, or left, that is known here.)"""
@@ -375,8 +372,9 @@ class Keeping:
         """For how many seconds it has waited, or held, by a clock that doesn't jump."""
         return (self.now() - session.since) / 1000
 
-    def _record(self, what: str, session: Optional[Session] = None, text: str = "", **more: Any) -> None:
-        name, number, its, by = (None, None, (), None) if session is None else (session.name, session.number, session.instruments, session.by)
+    def _record(self, what: str, session: Optional[Session] = None, text: str = "", its: tuple[str, ...] = (), **more: Any) -> None:
+        name, number, by = (None, None, None) if session is None else (session.name, session.number, session.by)
+        its = its if session is None else session.instruments
         about = {"station": name, "session": number, "instruments": list(its), "by": by, "text": text}
         self._news.add({"t": round(time.time(), 6), "what": what, **about}, **more)
 

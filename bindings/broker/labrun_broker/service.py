@@ -20,6 +20,7 @@ from .bay import BadAddress
 from .door import Complaints, Door, Seldom, check_free
 from .errors import KINDS, BadWish
 from .keeping import Keeping
+from .outage import disable, enable
 from .sockets import for_the_group, give
 from .standing import Session, Standings
 from .wishes import Ended, Wish, check_form, wish_of
@@ -269,6 +270,13 @@ class Service:
         by = wish.by[: self.keeping.bay.limits.name] or "an operator"
         return pb.Applied(changes=await _answer(context, apply(self.keeping, wish.bay, by, wish.only_check)))
 
+    async def Outage(self, wish: Any, context: Any) -> Any:
+        await self._paces(context)
+        by = wish.by[: self.keeping.bay.limits.name] or "an operator"
+        does = disable(self.keeping, wish.instrument, wish.why, by) if wish.HasField("why") else enable(self.keeping, wish.instrument, by)
+        await _answer(context, does)
+        return pb.Noted()
+
 
 async def _answer(context: Any, work: Awaitable[Any]) -> Any:
     try:
@@ -315,6 +323,7 @@ def _methods(service: Service) -> Any:
             "Status": unary(service.Status, pb.StatusWish),
             "Release": unary(service.Release, pb.ReleaseWish),
             "Apply": unary(service.Apply, pb.ApplyWish),
+            "Outage": unary(service.Outage, pb.OutageWish),
         },
     )
 

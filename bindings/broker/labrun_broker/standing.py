@@ -223,7 +223,9 @@ class Standings:
     def _instrument(self, name: str, waiting: dict[int, list[str]]) -> dict[str, Any]:
         bit = self._keeping.places.instruments.index(name)
         holder, since = self._held.get(bit, (None, None))
-        return {"name": name, "holder": None if holder is None else holder.name, "since": self.when(since), "waiting": waiting.get(bit, [])}
+        row = {"name": name, "holder": None if holder is None else holder.name, "since": self.when(since), "waiting": waiting.get(bit, [])}
+        out = self._keeping.places.out.get(name)
+        return {**row, "out": None if out is None else out.why, "out_since": out and out.since, "out_by": out and out.by}
 
     def _rows(self) -> tuple[list[dict[str, Any]], list[dict[str, Any]]]:
         """A row for each station and guest; and those that wait for a place first."""

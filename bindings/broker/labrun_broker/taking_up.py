@@ -54,3 +54,11 @@ def _takes_up_one(keeping: Keeping, row: Standing, it: Left, gone: Optional[floa
     session.limit = None if it.limit is None else it.limit / 1000
     session.instruments, session.note = keeping.places.names(row.needs), it.notes[-1] if it.notes else None
     keeping.by_number[row.number] = keeping._by_key[row.owner] = session
+
+
+def carries(keeping: Keeping) -> None:
+    """What goes on in a new file of the journal: whose each session is, and its last note; the records have the others."""
+    turns = keeping._shell.turns
+    turns.most, turns.records = keeping.most_bytes, keeping._news.file
+    turns.classes = lambda: keeping.places.classes(keeping.bay)
+    turns.notes = lambda: [(it.number, note) for it in keeping.by_number.values() if it.holds for note in it.in_a_new_file()]

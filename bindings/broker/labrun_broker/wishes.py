@@ -112,6 +112,11 @@ def check(wish: Wish, bay: Bay) -> None:
             raise MayNotUse(wish.station or "a guest", name, may)
 
 
+def check_instrument(name: str, bay: Bay) -> None:
+    if name not in bay.instruments:
+        raise _no_such(name, bay)
+
+
 def _no_such(name: str, bay: Bay) -> NoInstrument:
     near = difflib.get_close_matches(name, bay.instruments, 1)
     return NoInstrument(f"{name} is no instrument of this bay: there are {', '.join(bay.instruments)}" + (f" (did you mean {near[0]}?)" if near else ""))
