@@ -66,7 +66,7 @@ class Limits(OnFolder):
         self.assertTrue(held.holds and quiet.holds, "nobody waits")
         [(text, seconds)] = owner.warnings
         self.assertEqual((text, silent.warnings), ("board may hold scope for 0.4 s, which is over in 0.0 s: then whoever waits for it gets it", []))
-        self.assertTrue(0 < seconds <= 0.04 + 0.001)
+        self.assertTrue(0 <= seconds <= 0.04 + 0.001)
         new = await keeping.hold(Wish(("scope",), timeout=LIMIT), other)
         why = "by the broker, because it held for longer than its limit of 0.4 s, and somebody waits for what it had"
         self.assertEqual((new.instruments, owner.told), (("scope",), [f"board: the session was taken away {why}: scope"]))
@@ -91,7 +91,7 @@ class Limits(OnFolder):
         with mock.patch.object(lasting, "SHARE", 1.0):
             await again.hold(Wish(ticket=TICKET, comes_back=True, wants_warning=True), owner)
             await asyncio.sleep(0.05)
-        self.assertRegex(owner.warnings[0][0], "^guest-1 may hold scope for 3 s, which is over in [0-2].[0-9] s:")
+        self.assertRegex(owner.warnings[0][0], "^guest-1 may hold scope for 3 s, which is over in [0-3].[0-9] s:")
         new = await again.hold(Wish(("scope",), timeout=LIMIT), Owner())
         self.assertGreater(new.number, held.number)
         self.assertRegex(owner.told[0], "longer than its limit of 3 s")
