@@ -163,6 +163,14 @@ uint32_t lab_bay_durable(struct lab_bay *bay, uint64_t position);
 /* A write failed, and the file was cut back to what is durable: the rest is handed out again by `lab_bay_journal`. 0; 7. */
 uint32_t lab_bay_failed(struct lab_bay *bay);
 
+/* The bay goes on in a new file, and from now on with these classes. Hands out how the new file begins: its head, and a line for each that holds. Write
+   that into a file of its own, behind it all that lab_bay_journal hands out from now on, and call none of it durable before that file stands, synced, in the
+   place of the old one: until then the old one says the same of who holds. Only while nothing is owed and all that was given is durable: 8 otherwise.
+   (Without a journal the text is empty, and only the classes change.) 0; 5; 6 with `written`, 7; 8; 22 if there are more than 32 classes; 24 if an ask that
+   holds or waits may not, by these classes (`*fault` is its number). If it isn't 0, nothing has changed. */
+uint32_t lab_bay_turn(struct lab_bay *bay, const struct lab_class *classes, size_t count, uint64_t now, uint8_t *text, size_t room, size_t *written,
+                      uint64_t *fault);
+
 /* What is told next, and to whom. It is told again until its serial number is given back as `done` (at first 0). 0; 8 if there is nothing; 7. */
 uint32_t lab_bay_tell(struct lab_bay *bay, uint64_t done, struct lab_outcome *outcome);
 

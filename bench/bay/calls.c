@@ -109,6 +109,7 @@ static void each_answers(uint32_t wanted) {
     IS(lab_bay_look(&bay, 0, &standing, &number) == wanted);
     IS(lab_bay_keeper(&bay, 1, 0, &standing) == wanted);
     IS(lab_bay_waits(&bay, 1, 0, &number, &passed) == wanted);
+    IS(lab_bay_turn(&bay, classes, 2, 0, text, 7, &written, &number) == wanted);
     IS(lab_bay_free(&bay) == wanted);
     IS(number == 77 && position == 77 && passed == 77 && written == 77 && memcmp(text, "1234567", 8) == 0);
     IS(memcmp(&outcome, &no_outcome, sizeof outcome) == 0);
@@ -1005,6 +1006,86 @@ static void comes_back(void) {
     freed();
 }
 
+/* ---- a new file, and other classes */
+
+static const char begins[] =
+    "8b62830104538674 bay " BAY_HASH " 000000000000010d 0000000000000007\n"
+    "ebddcf371a59d4b4 hold 0000000000000005 00000000 0000000000000003 00000000000000070000000000000009 0000000000000004 ---------------- 0000000000000004\n";
+#define GOES_ON                                                                                                                                      \
+    "ae717bb32b11796b end 0000000000000005 let_go 0000000000000009\n"                                                                                               \
+    "32286257e37ed0da hold 0000000000000006 00000000 0000000000000002 00000000000000000000000000000000 0000000000000009 ---------------- 0000000000000005\n"
+
+/* The bay doesn't turn, by so many such classes and with such a room, and tells nothing but this. */
+static void no_turn(unsigned line, struct lab_class class, size_t count, size_t room, uint32_t wanted, size_t size, uint64_t number) {
+    static uint8_t text[512], before[512];
+    struct lab_class many[33];
+    size_t written = 77;
+    uint64_t fault = 77;
+    for (size_t at = 0; at < count; at++) many[at] = class;
+    memset(text, POISON, sizeof text);
+    memset(before, POISON, sizeof before);
+    uint32_t status = lab_bay_turn(&bay, many, count, 6, text, room, &written, &fault);
+    expect(status == wanted && written == size && fault == number && memcmp(text, before, sizeof text) == 0, "line %u: status %u, %zu, %llu", line,
+           status, written, (unsigned long long)fault);
+}
+
+#define NO_TURN(uses, places, ...) no_turn(__LINE__, (struct lab_class){(uses), (places), 0}, __VA_ARGS__)
+
+/* 5 holds 0 and 1, and 6 waits for 1, or for 1 and 2. */
+static void turns(void) {
+    static uint8_t file[512];
+    struct lab_standing standing;
+    size_t written = 77, used = 77;
+    uint64_t fault = 77, next = 77;
+    opened(8, LAB_NEVER, LAB_NEVER, 64, 1);
+    NO_TURN(7, 2, 2, 500, LAB_NOT_YET, 77, 77); /* (the head wasn't handed out) */
+    IS(ask_as(7, 9, 5, 0, LAB_NEVER, LAB_NEVER, 4, SETS(3)) == LAB_DONE);
+    NO_TURN(7, 2, 2, 500, LAB_NOT_YET, 77, 77);
+    IS(lab_bay_journal(&bay, file, sizeof file, &written, &fault) == LAB_DONE && written == 269);
+    NO_TURN(7, 2, 2, 500, LAB_NOT_YET, 77, 77);
+    IS(lab_bay_durable(&bay, 269) == LAB_DONE);
+    IS(ask_as(0, 0, 6, 0, LAB_NEVER, LAB_NEVER, 5, SETS(2, 6)) == LAB_DONE);
+    TOLD(5, LAB_HOLDS, 3);
+    NO_TURN(6, 2, 2, 500, LAB_BAY_MAY_NOT, 77, 5);
+    NO_TURN(7, 0, 2, 500, LAB_BAY_MAY_NOT, 77, 5);
+    NO_TURN(7, 2, 0, 500, LAB_BAY_MAY_NOT, 77, 5);
+    NO_TURN(3, 2, 2, 500, LAB_BAY_MAY_NOT, 77, 6);
+    NO_TURN(7, 2, 33, 500, LAB_BAY_NO_CLASS, 77, 77);
+    NO_TURN(7, 2, 2, 268, LAB_NO_ROOM, 269, 77);
+    fault = 77;
+    IS(lab_bay_turn(&bay, classes, 2, 6, file, 269, &written, &fault) == LAB_DONE && written == 269 && fault == 77);
+    IS(memcmp(file, begins, 269) == 0 && sizeof begins == 270);
+    QUIET();
+    TEXT("", 538);
+    IS(lab_bay_let_go(&bay, 5, 9) == LAB_DONE);
+    TEXT(GOES_ON, 749);
+    QUIET();
+    IS(lab_bay_durable(&bay, 749) == LAB_DONE);
+    TOLD(5, LAB_LET_GO, 0);
+    TOLD(6, LAB_HOLDS, 2);
+    QUIET();
+    freed();
+
+    /* from the new file 6 comes back */
+    memcpy(file + 269, GOES_ON, sizeof GOES_ON - 1);
+    terms_are(8, LAB_NEVER, LAB_NEVER, 64, 1);
+    IS(lab_bay_resume(classes, 2, &terms, file, 480, 50, &bay, &used, &fault) == LAB_DONE && used == 480);
+    IS(lab_bay_look(&bay, 0, &standing, &next) == LAB_DONE && standing.number == 6 && standing.what == LAB_HOLDS && standing.needs == 2 && next == 7);
+    IS(lab_bay_look(&bay, 1, &standing, &next) == LAB_NOT_YET);
+    freed();
+
+    /* without a journal only the classes change; by wider ones 6 is let in */
+    opened(8, LAB_NEVER, LAB_NEVER, 64, 0);
+    IS(ask_one(5, 1, 4, 0) == LAB_DONE && ask_one(6, 1, 8, 0) == LAB_DONE);
+    TOLD(5, LAB_HOLDS, 4);
+    QUIET();
+    struct lab_class wider[2] = {{7, 2, 0}, {12, 2, 0}};
+    IS(lab_bay_turn(&bay, wider, 2, 0, file, 0, &written, &fault) == LAB_DONE && written == 0);
+    TOLD(6, LAB_HOLDS, 8);
+    QUIET();
+    freed();
+}
+
 int main(void) {
     handles();
     busy();
@@ -1029,5 +1110,6 @@ int main(void) {
     stops();
     journals();
     comes_back();
+    turns();
     return summary();
 }

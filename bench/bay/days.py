@@ -10,6 +10,7 @@ cut at a random byte at or behind what is durable, and the bay that comes back f
 M failed`."""
 
 import ctypes
+import dataclasses
 import os
 import random
 import sys
@@ -54,6 +55,66 @@ class Standing(ctypes.Structure):
 
 def moment(it):
     return NEVER if it is None else it
+
+
+class MayNot(model.Refused):
+    def __init__(self, number):
+        super().__init__("may_not_use")
+        self.number = number
+
+
+class Bay(model.Bay):
+    """The model, of which each file counts from its own start, with the places of all files; and it goes on in a new one."""
+
+    base = 0
+
+    @classmethod
+    def resumed(cls, rules, file, now):
+        it = super().resumed(rules, file, now)
+        it.base, least = (int(one, 16) for one in file.split(b"\n")[0].split(b" ")[3:5])
+        it.next = max(it.next, least)
+        return it
+
+    def note(self, number, text):
+        return self.base + super().note(number, text)
+
+    def journal(self):
+        text, place = super().journal()
+        return text, self.base + place
+
+    def durable(self, position):
+        super().durable(max(0, position - self.base))
+
+    def turn(self, classes, now):
+        for it in self.asks:
+            if not self.may_go_on(it, classes):
+                raise MayNot(it.number)
+        if self.rules.keeps and (self.durable_to < len(self.text) or any(model.DUE in (it.hold_line, it.end_line) for it in self.asks)):
+            raise model.Refused("not_now")
+        self.rules = dataclasses.replace(self.rules, classes=classes)
+        begins = self.begins() if self.rules.keeps else b""
+        self.time(now)
+        return begins
+
+    def begins(self):
+        """How the new file begins. What was durable stays so, wherever it stood."""
+        self.base += len(self.text)
+        self.text, self.sum, self.sent = b"", bytes(8), 0
+        self._line(f"bay {self.rules.head.hex()} {self.base:016x} {self.next:016x}")
+        for it in self.asks:
+            it.hold_line = model.DUE if it.stage == model.HOLDS else model.NONE if it.hold_line == model.NONE else 0
+            it.end_line = model.NONE if it.end_line == model.NONE else 0
+        super().journal()
+        self.durable_to = self.sent
+        return self.text
+
+    def may_go_on(self, it, classes):
+        if it.stage == model.OVER:
+            return True
+        uses, places = classes[it.kind] if it.kind < len(classes) else (0, 0)
+        if it.stage == model.WAITS:
+            return not any(needs & ~uses for needs, _ in self.waits(it.number))
+        return not it.needs & ~uses and sum(one.stage == model.HOLDS and one.kind == it.kind for one in self.asks) <= places
 
 
 class Machine:
@@ -123,6 +184,14 @@ class Machine:
         status = self.call("journal", text, ctypes.c_size_t(room), ctypes.byref(written), ctypes.byref(position))
         return status, text.raw[: written.value], position.value
 
+    def turn(self, classes, now, room=1 << 16):
+        made, text, written, fault = (Class * len(classes))(*((uses, places, 0) for uses, places in classes)), ctypes.create_string_buffer(room), ctypes.c_size_t(), ctypes.c_uint64()
+        status = self.call(
+            "turn", made, ctypes.c_size_t(len(classes)), ctypes.c_uint64(now), text, ctypes.c_size_t(room), ctypes.byref(written), ctypes.byref(fault))  # fmt: skip
+        if status == DONE:
+            self.classes = made
+        return status, text.raw[: written.value] if status == DONE else written.value, fault.value
+
     def tell(self, done):
         told = Outcome()
         status = self.call("tell", ctypes.c_uint64(done), ctypes.byref(told))
@@ -160,7 +229,7 @@ class Day:
         self.rules = model.Rules(
             kinds, most=dice.choice([0, 1, 2, 64]), limit=dice.choice([3, 20]), grace=dice.choice([None, 5]), disk=dice.choice([None, 3]),
             keeps=dice.random() < 0.7, head=dice.randbytes(32))  # fmt: skip
-        self.model, self.machine = model.Bay(self.rules), Machine(library, self.rules)
+        self.model, self.machine = Bay(self.rules), Machine(library, self.rules)
         self.durable = 0
         same("open", DONE, self.machine.open())
 
@@ -214,14 +283,30 @@ class Day:
         if not whole:
             same("no head", 27, self.machine.resume(file, self.now)[0])
             same("open", DONE, self.machine.open())
-            self.model = model.Bay(self.rules)
+            self.model = Bay(self.rules)
         else:
             same("resume", (DONE, len(whole), 0), self.machine.resume(file, self.now))
-            self.model = model.Bay.resumed(self.rules, file, self.now)
+            self.model = Bay.resumed(self.rules, file, self.now)
         lost = told - {it.number for it in self.model.asks}
         if lost:
             raise Differs(f"told that they hold, and not there any more: {lost}")
         self.number, self.done, self.durable = max(self.number, self.model.next), 0, self.model.durable_to
+
+    def turns(self):
+        """The bay goes on in a new file, and with classes that are wider or narrower; often nothing is owed."""
+        if self.dice.random() < 0.7:
+            _, position = self.model.journal()
+            same("journal", (DONE, position), self.machine.journal()[::2])
+            self.reaches(position)
+        change = lambda uses, places: (uses ^ self.dice.choice([0, 0, 1, 2, 32]), max(0, places + self.dice.choice([0, 0, 1, -1])))
+        classes = [change(*it) for it in self.model.rules.classes][: self.dice.choice([99, 99, 99, 1])] + [(63, 1)] * (self.dice.random() < 0.1)
+        try:
+            wanted = DONE, self.model.turn(classes, self.now), 0
+        except model.Refused as why:
+            wanted = WHY[why.why], 0, getattr(why, "number", 0)
+        else:
+            self.rules = self.model.rules
+        same(f"turn {classes}", wanted, self.machine.turn(classes, self.now))
 
     def notes(self):
         number, text = self.somebody(), bytes(self.dice.choice(b"abc 123") for _ in range(self.dice.randint(0, 9)))
@@ -283,7 +368,7 @@ class Day:
         same(f"what {number} waits for", self.model.waits(number), self.machine.waits(number))
 
     def goes(self, calls):
-        ways = [self.asks] * 4 + [self.acts] * 4 + [self.returns, self.crashes, self.notes, self.writes, self.writes, self.tells, self.tells, self.tells, self.passes, self.stops]
+        ways = [self.asks] * 4 + [self.acts] * 4 + [self.returns, self.crashes, self.notes, self.writes, self.writes, self.tells, self.tells, self.tells, self.passes, self.stops, self.turns]
         for _ in range(calls):
             self.dice.choice(ways)()
             self.model.check()

@@ -72,8 +72,8 @@ static uint8_t file[400000];            /* what the writer has */
 static size_t file_length, durable;
 static long allocations[MOST_CALLS];    /* how many a call has when none is refused */
 static int calls, at_call;              /* the call that an allocation is refused in; none if 0 */
-static long at_allocation, tried, met[5];
-static const char *const taking[5] = {"open", "ask", "note", "journal", "resume"};
+static long at_allocation, tried, met[6];
+static const char *const taking[6] = {"open", "ask", "note", "journal", "resume", "turn"};
 
 /* What shows of a bay without changing it: what is told, and when somebody is due. */
 struct shown {
@@ -223,6 +223,19 @@ static void reads(uint64_t number) {
     says("waits", needs, passed);
 }
 
+/* The bay goes on in a new file. */
+static void turns(void) {
+    static uint8_t text[100000];
+    uint32_t status;
+    size_t written = 77;
+    uint64_t fault = 77;
+    CALL(5, status, lab_bay_turn(&bay, classes, 3, now, text, sizeof text, &written, &fault));
+    expect(status == LAB_DONE && written >= 120 && fault == 77, "turn: status %u, %zu", status, written);
+    memcpy(file, text, written);
+    file_length = durable = written;
+    says("turn", written, fault);
+}
+
 static void frees(void) {
     uint32_t status;
     CALL(-1, status, lab_bay_free(&bay));
@@ -254,6 +267,7 @@ static void day(void) {
     expect(status == LAB_DONE, "open: status %u", status);
     part(1, NUMBERS / 2);
     writes(0);
+    turns();
     frees();
     expect(left == 0, "call %d, allocation %ld: %ld blocks are left at noon", at_call, at_allocation, left);
     done = 0;
@@ -291,8 +305,8 @@ int main(void) {
             day();
         }
     expect(tried > 0, "no allocation was refused");
-    for (int at = 0; at < 5; at++) expect(met[at] > 0, "no allocation of lab_bay_%s was refused", taking[at]);
-    printf("a day of %d calls, %zu bytes of journal; allocations refused: %ld, of open %ld, ask %ld, note %ld, journal %ld, resume %ld\n", most,
-           file_length, tried, met[0], met[1], met[2], met[3], met[4]);
+    for (int at = 0; at < 6; at++) expect(met[at] > 0, "no allocation of lab_bay_%s was refused", taking[at]);
+    printf("a day of %d calls, %zu bytes of journal; allocations refused: %ld, of open %ld, ask %ld, note %ld, journal %ld, resume %ld, turn %ld\n", most,
+           file_length, tried, met[0], met[1], met[2], met[3], met[4], met[5]);
     return summary();
 }

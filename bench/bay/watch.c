@@ -180,6 +180,21 @@ uint32_t lab_bay_durable(struct lab_bay *bay, uint64_t position) {
     return status;
 }
 
+/* All before the text of a new file is durable, so it is the next that has to be written and synced. */
+uint32_t lab_bay_turn(struct lab_bay *bay, const struct lab_class *classes, size_t count, uint64_t now, uint8_t *text, size_t room, size_t *written,
+                      uint64_t *fault) {
+    struct watched *it = enter(bay, "lab_bay_turn");
+    uint32_t status = ((uint32_t(*)(struct lab_bay *, const struct lab_class *, size_t, uint64_t, uint8_t *, size_t, size_t *, uint64_t *))real(
+        "lab_bay_turn"))(bay, classes, count, now, text, room, written, fault);
+    if (it && it->is_known && status == LAB_DONE) {
+        pthread_mutex_lock(&all);
+        if (*written <= STREAM) memcpy(it->text, text, *written), it->length = *written, it->written = it->synced = 0;
+        pthread_mutex_unlock(&all);
+    }
+    leave(it);
+    return status;
+}
+
 uint32_t lab_bay_failed(struct lab_bay *bay) {
     struct watched *it = enter(bay, "lab_bay_failed");
     if (it) {

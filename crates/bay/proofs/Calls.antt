@@ -48,12 +48,12 @@ stop_all now (suc n) old new a holds s h = stop_one now n s.0 new a holds s.2 (s
 
 -- ---- and then
 
-goes_on_holds : (now : ℕ) (mid : Core) (old new : RoomView) (a : Ask) → GoesOn now mid old new → is_holding a.stage ≡ true → Has mid.book.asks a
+pub goes_on_holds : (now : ℕ) (mid : Core) (old new : RoomView) (a : Ask) → GoesOn now mid old new → is_holding a.stage ≡ true → Has mid.book.asks a
     → HoldsOn old.classes old.terms new.moment new.book a
 goes_on_holds now mid old new a g holds h =
     steps_on old.classes old.terms new.moment g.follows.many mid (core_of new) a g.follows.steps holds (inl h)
 
-goes_on_waits : (now : ℕ) (mid : Core) (old new : RoomView) (a : Ask) → GoesOn now mid old new → a.stage ≡ Waits → Has mid.book.asks a
+pub goes_on_waits : (now : ℕ) (mid : Core) (old new : RoomView) (a : Ask) → GoesOn now mid old new → a.stage ≡ Waits → Has mid.book.asks a
     → WaitsOn old.classes old.terms new.moment new.book a
 goes_on_waits now mid old new a g waits h =
     steps_waits_on old.classes old.terms new.moment g.follows.many mid (core_of new) a g.follows.steps waits (inl h)

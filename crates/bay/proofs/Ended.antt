@@ -301,7 +301,7 @@ ended_after owed book book' log log' place (Some l) (Ok u) step is writes refuse
 
 -- ---- more is durable
 
-written_later : (durable later : ℕ) (m : Mark) → durable ≤ later → is_written durable m ≡ true → is_written later m ≡ true
+pub written_later : (durable later : ℕ) (m : Mark) → durable ≤ later → is_written durable m ≡ true → is_written later m ≡ true
 written_later durable later NoLine le h = refl
 written_later durable later Due le h = h
 written_later durable later (At position) le h = le-leb position later (omega (arith, leb-true position durable h, le))

@@ -30,7 +30,7 @@ use Rattle.bay.proofs.Members.{has_at, set_cases, append_cases}
 use Rattle.bay.proofs.Waited.{numbers_rise}
 
 -- each in the second was in the first, and heard as much
-abbrev AllHeard : List Ask → List Ask → Type 0
+abbrev pub AllHeard : List Ask → List Ask → Type 0
 AllHeard old new = (b : Ask) → Has new b → WasHeard old b
 
 all_same : (asks : List Ask) → AllHeard asks asks
@@ -63,7 +63,7 @@ all_steps classes terms now zero old new s = all_core old.book.asks new old s (a
 all_steps classes terms now (suc n) old new s =
     all_then old.book.asks s.0.book.asks new.book.asks (all_steps classes terms now n old s.0 s.1) (all_step classes terms now s.0 new s.2)
 
-all_goes : (now : ℕ) (mid : Core) (old new : RoomView) → GoesOn now mid old new → AllHeard mid.book.asks new.book.asks
+pub all_goes : (now : ℕ) (mid : Core) (old new : RoomView) → GoesOn now mid old new → AllHeard mid.book.asks new.book.asks
 all_goes now mid old new g = all_steps old.classes old.terms new.moment g.follows.many mid (core_of new) g.follows.steps
 
 -- ---- the calls
@@ -71,7 +71,7 @@ all_goes now mid old new g = all_steps old.classes old.terms new.moment g.follow
 as_before : (old new : RoomView) → AllHeard old.book.asks new.book.asks → HeardAsBefore old new
 as_before old new f b h = inl (f b h)
 
-mid_before : (old new : RoomView) (mid : List Ask) → AllHeard old.book.asks mid → AllHeard mid new.book.asks → HeardAsBefore old new
+pub mid_before : (old new : RoomView) (mid : List Ask) → AllHeard old.book.asks mid → AllHeard mid new.book.asks → HeardAsBefore old new
 mid_before old new mid f g = as_before old new (all_then old.book.asks mid new.book.asks f g)
 
 one_of : (a b : Ask) → Has (a ∷ []) b → a ≡ b

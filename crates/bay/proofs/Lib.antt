@@ -32,4 +32,7 @@ pub mod Ended
 pub mod Past
 pub mod Refused
 pub mod ComingBack
+pub mod NewFile
+pub mod Turned
 pub mod Whole
+pub mod TurnLaws

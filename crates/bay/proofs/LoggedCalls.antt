@@ -96,7 +96,7 @@ logged_steps classes terms now zero old new log s t = subst (λ (x : Core). IsLo
 logged_steps classes terms now (suc n) old new log s t =
     logged_step classes terms now s.0 new log s.2 (logged_steps classes terms now n old s.0 log s.1 t)
 
-goes_on : (now : ℕ) (mid : Core) (old new : RoomView) (log : LogView) → GoesOn now mid old new → IsLogged mid.book log → IsLogged new.book log
+pub goes_on : (now : ℕ) (mid : Core) (old new : RoomView) (log : LogView) → GoesOn now mid old new → IsLogged mid.book log → IsLogged new.book log
 goes_on now mid old new log g t = logged_steps old.classes old.terms new.moment g.follows.many mid (core_of new) log g.follows.steps t
 
 -- ---- the calls

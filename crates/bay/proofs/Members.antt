@@ -1,8 +1,16 @@
 -- Elements of lists that were changed.
-use Rattle.std.proofs.Common.{◌≡◌, ◌⊎◌, ℕ, zero, suc, ◌<◌, Bool, true, false, if◌then◌else◌, List, [], ◌∷◌, ◌++◌, length, get_or, set, refl, sym, ap, ◌∙◌, subst, ◌≢◌, ◌≤◌, inl, inr, arith}
-use Rattle.std.specs.List.{filter, AllPairs}
+use Rattle.std.proofs.Common.{◌≡◌, ◌⊎◌, ℕ, zero, suc, ◌<◌, Bool, true, false, if◌then◌else◌, List, [], ◌∷◌, ◌++◌, length, map, get_or, set, ◌||◌, refl, sym, ap, ◌∙◌, subst, ◌≢◌, ◌≤◌, inl, inr, arith}
+use Rattle.std.specs.List.{filter, list_any, AllPairs}
 use Rattle.std.proofs.lemmas.Bool.{cases_eq}
 use Rattle.bay.specs.Members.{Has}
+
+or_first : (a b : Bool) → (a || b) ≡ false → a ≡ false
+or_first true b h = h
+or_first false b h = refl
+
+or_second : (a b : Bool) → (a || b) ≡ false → b ≡ false
+or_second true b h = absurd (cc)
+or_second false b h = h
 
 pub has_at : {X : Type 0} (xs : List X) (i : ℕ) (d : X) → i < length xs → Has xs (get_or xs i d)
 has_at [] i d h = absurd (omega (arith, h))
@@ -80,6 +88,22 @@ append_second [] ys x h = h
 append_second (z ∷ zs) ys x h = inr (append_second zs ys x h)
 
 -- ---- each was changed
+
+pub map_cases : {X Y : Type 0} (f : X → Y) (xs : List X) (y : Y) → Has (map f xs) y → (x : X) × Has xs x × (f x ≡ y)
+map_cases f [] y h = absurd h
+map_cases f (x ∷ xs) y (inl is) = (x, inl refl, is)
+map_cases f (x ∷ xs) y (inr h) = let r = map_cases f xs y h in (r.0, inr r.1, r.2)
+
+pub map_has : {X Y : Type 0} (f : X → Y) (xs : List X) (x : X) → Has xs x → Has (map f xs) (f x)
+map_has f [] x h = absurd h
+map_has f (z ∷ xs) x (inl is) = inl (ap f is)
+map_has f (z ∷ xs) x (inr h) = inr (map_has f xs x h)
+
+-- none passes a test that none passes
+pub any_none : {X : Type 0} (p : X → Bool) (xs : List X) (x : X) → list_any p xs ≡ false → Has xs x → p x ≡ false
+any_none p [] x h has = absurd has
+any_none {X} p (z ∷ xs) x h (inl is) = subst (λ (v : X). p v ≡ false) is (or_first (p z) (list_any p xs) h)
+any_none p (z ∷ xs) x h (inr has) = any_none p xs x (or_second (p z) (list_any p xs) h) has
 
 -- ---- places
 

@@ -32,7 +32,10 @@ use Rattle.bay.proofs.Members.{has_at, place_of, set_cases, append_cases, filter
 use Rattle.bay.proofs.Tied.{same_ask}
 use Rattle.bay.proofs.Logged.{due_is}
 use Rattle.bay.proofs.Ended.{above_all, end_due, out_more}
-use Rattle.bay.proofs.Through.{IsKeptByChanges, through_asks, through_ends, through_leaves, through_goes, through_comes_back, through_passes, through_stops, through_tells}
+use Rattle.bay.specs.Cores.{core}
+use Rattle.bay.specs.Turning.{log_after, book_after, with_classes}
+use Rattle.bay.proofs.Turned.{past_turned}
+use Rattle.bay.proofs.Through.{IsKeptByChanges, goes_on, through_asks, through_ends, through_leaves, through_goes, through_comes_back, through_passes, through_stops, through_tells}
 
 -- ---- booleans
 
@@ -184,6 +187,12 @@ past_reach x lines number position t =
 abbrev Past : ℕ → BayView → Type 0
 Past number x = IsPast x.room.book x.log.lines number
 
+-- in a new file, if there is one
+past_after : (keeps : Bool) (number : ℕ) (book : BookView) (log : LogView) → IsPast book log.lines number
+    → IsPast (book_after keeps book log) (log_after keeps book log).lines number
+past_after true number book log t = past_turned book log number t
+past_after false number book log t = t
+
 pub past_stays_past : PastStaysPast
 past_stays_past old new number k (inl c) t =
     subst (λ (l : LogView). IsPast new.room.book l.lines number) (sym c.1) (elim c.0.1 [
@@ -201,7 +210,12 @@ past_stays_past old new number k (inr (inr (inr (inr (inl c))))) t = subst (Past
 past_stays_past old new number k (inr (inr (inr (inr (inr (inl c)))))) t =
     subst (λ (r : RoomView). IsPast r.book new.log.lines number) (sym c.1)
     (subst (λ (l : LogView). IsPast (reach old.room.book c.0) l.lines number) (sym c.2) (past_reach old.room.book old.log.lines number c.0 t))
-past_stays_past old new number k (inr (inr (inr (inr (inr (inr c)))))) t = subst (Past number) (sym c) t
+past_stays_past old new number k (inr (inr (inr (inr (inr (inr (inl c))))))) t = subst (Past number) (sym c) t
+past_stays_past old new number k (inr (inr (inr (inr (inr (inr (inr c))))))) t =
+    let x = old.room in let keeps = x.terms.keeps in let lines = (log_after keeps x.book old.log).lines in
+    subst (λ (l : LogView). IsPast new.room.book l.lines number) (sym c.3.log_is)
+    (goes_on (λ (b : BookView). IsPast b lines number) (with_classes x c.0) (past_kept keeps lines number) c.1 (core x.line (book_after keeps x.book old.log))
+    new.room c.3.changes (past_after keeps number x.book old.log t))
 
 -- ---- who is past
 

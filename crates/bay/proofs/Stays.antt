@@ -7,7 +7,7 @@ use Rattle.bay_book.specs.declared.ask.Ask.{Ask}
 use Rattle.bay_book.specs.Asks.{ask_at, no_ask, given, holds_class, is_holding}
 use Rattle.bay_book.specs.Books.{BookView, IsSound, give_one}
 use Rattle.bay_book.specs.Runs.{Call, IsAllowed, after_call}
-use Rattle.bay_book.specs.Runs.Call.{Add, Hold, Finish, SetGone, IsBack, Give, Reach, Tell, Purge}
+use Rattle.bay_book.specs.Runs.Call.{Add, Hold, Finish, SetGone, IsBack, Give, Turn, Reach, Tell, Purge}
 use Rattle.bay_book.proofs.Sound.{sound_set, sound_given}
 use Rattle.bay_log.specs.declared.line.Line.{Line}
 use Rattle.bay_log.specs.declared.line.Line.TheVariants.{Note}
@@ -36,6 +36,7 @@ after_a_call lines x (Finish place how now) s ok none w = written_over lines x p
 after_a_call lines x (SetGone place moment) s ok none w = written_gone lines x place moment s ok w
 after_a_call lines x (IsBack place) s ok none w = written_back lines x place s ok w
 after_a_call lines x (Give at) s ok none w = absurd none
+after_a_call lines x (Turn at) s ok none w = absurd none
 after_a_call lines x (Reach position) s ok none w = written_reach lines x position w
 after_a_call lines x (Tell place what) s ok none w = written_heard lines x place what s ok.0 w
 after_a_call lines x Purge s ok none w = written_purge lines x w

@@ -53,7 +53,7 @@ through_steps P terms k classes now zero old new s t = subst (λ (x : Core). P x
 through_steps P terms k classes now (suc n) old new s t =
     through_step P terms k classes now s.0 new s.2 (through_steps P terms k classes now n old s.0 s.1 t)
 
-goes_on : (P : BookView → Type 0) → (old : RoomView) → IsKeptByChanges old.terms.keeps P → (now : ℕ) (mid : Core) (new : RoomView) → GoesOn now mid old new → P mid.book → P new.book
+pub goes_on : (P : BookView → Type 0) → (old : RoomView) → IsKeptByChanges old.terms.keeps P → (now : ℕ) (mid : Core) (new : RoomView) → GoesOn now mid old new → P mid.book → P new.book
 goes_on P old k now mid new g t = through_steps P old.terms k old.classes new.moment g.follows.many mid (core_of new) g.follows.steps t
 
 -- ---- the calls

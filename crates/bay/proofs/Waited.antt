@@ -86,7 +86,7 @@ ended_waits now ask how place old new is g h =
     let b = left_before n ask old.line.wishes t.before in
     waits_first ask t.many old.line (leaving old.line n) new.line (inr (inr (n, b.1, refl))) t.waits
 
-same_waits : (now ask : ℕ) (book : BookView) (old new : RoomView) → NextIsLetIn → GoesOn now (core old.line book) old new → HasWish new.line.wishes ask
+pub same_waits : (now ask : ℕ) (book : BookView) (old new : RoomView) → NextIsLetIn → GoesOn now (core old.line book) old new → HasWish new.line.wishes ask
     → (n : ℕ) × Waits ask n old.line new.line
 same_waits now ask book old new is g h = let t = goes_times now ask (core old.line book) old new is g h in (t.many, t.waits)
 
@@ -144,7 +144,7 @@ steps_next : (classes : List Class) (terms : Terms) (now n : ℕ) (old new : Cor
 steps_next classes terms now zero old new s = ap (λ (x : Core). x.book.next) s
 steps_next classes terms now (suc n) old new s = in_next classes terms now s.0 new s.2 ∙ steps_next classes terms now n old s.0 s.1
 
-goes_next : (now : ℕ) (mid : Core) (old new : RoomView) → GoesOn now mid old new → new.book.next ≡ mid.book.next
+pub goes_next : (now : ℕ) (mid : Core) (old new : RoomView) → GoesOn now mid old new → new.book.next ≡ mid.book.next
 goes_next now mid old new g = steps_next old.classes old.terms new.moment g.follows.many mid (core_of new) g.follows.steps
 
 asks_next : (old new : RoomView) (sets : List ℕ) (r : Request) (now : ℕ) → Asks sets r now old new → (old.book.next ≤ r.number) × (r.number < new.book.next)

@@ -1,34 +1,37 @@
 -- The log says of the asks what the book does, and its lines are safe, whatever is called.
-use Rattle.std.proofs.Common.{◌≡◌, ℕ, ◌<◌, ◌≤◌, Bool, true, List, [], ◌∷◌, ◌++◌, append_assoc, Option, Some, refl, sym, ap, ◌∙◌, subst, inl, inr, arith}
+use Rattle.std.proofs.Common.{◌≡◌, ℕ, ◌<◌, ◌≤◌, Bool, true, List, [], ◌∷◌, ◌++◌, Option, Some, refl, sym, ap, ◌∙◌, subst, inl, inr, arith}
 use Rattle.std.proofs.lemmas.Bool.{false≢true}
-use Rattle.std.proofs.lemmas.List.{append-nil, append_cancel_left}
+use Rattle.std.proofs.lemmas.List.{append-nil}
 use Rattle.bay_book.specs.declared.ask.Mark.{Mark}
 use Rattle.bay_book.specs.declared.ask.Mark.TheVariants.{None as NoLine, At}
 use Rattle.bay_book.specs.declared.ask.Stage.TheVariants.{Holds}
 use Rattle.bay_book.specs.Asks.{ask_at, no_ask, is_over, holding, over, gone_since, back_again, hearing, IsSoundAt, IsSoundAsk}
-use Rattle.bay_book.specs.Books.{BookView, IsSound, reach, nobody}
-use Rattle.bay_book.proofs.Sound.{sound_set, sound_add, sound_holding, sound_over, sound_gone, sound_back, sound_hearing, sound_purge}
+use Rattle.bay_book.specs.Books.{BookView, IsSound, turn, reach, nobody}
+use Rattle.bay_book.proofs.Sound.{sound_set, sound_add, sound_holding, sound_over, sound_gone, sound_back, sound_hearing, sound_turn, sound_purge}
 use Rattle.bay_log.specs.declared.line.Entry.{Entry}
 use Rattle.bay_log.specs.declared.line.Line.{Line}
 use Rattle.bay_log.specs.declared.line.Line.TheVariants.{Head, Hold as HoldLine, Back, End as EndLine, Note}
 use Rattle.bay_log.specs.Lines.{AreLines}
 use Rattle.bay_log.specs.Logs.{LogView, beginning, end_of}
 use Rattle.bay_log.specs.Alive.{alive}
-use Rattle.bay_log.specs.Laws.{BeginsWith}
 use Rattle.bay.specs.declared.classes.Class.{Class}
 use Rattle.bay.specs.declared.telling.Told.{Told}
 use Rattle.bay.specs.Members.{Has}
 use Rattle.bay.specs.Written.{is_given, bound_of, IsWritten}
 use Rattle.bay.specs.Safe.{AreSafe, StaySafe}
 use Rattle.bay.specs.Pages.{entry_of, pages}
-use Rattle.bay.specs.Views.{RoomView}
+use Rattle.bay.specs.Cores.{core}
+use Rattle.bay.specs.Views.{RoomView, core_of}
+use Rattle.bay.specs.Turning.{Turns, Changes, IsQuiet, IsQuietIf, new_log, log_after, book_after, with_classes}
 use Rattle.bay.specs.Restoring.{after_line, IsBack}
 use Rattle.bay.specs.LineLaws.{IsCall}
 use Rattle.bay.specs.Rooms.{Stops, Tells}
 use Rattle.bay.specs.Bays.{BayView, IsKept, IsBayCall, IsWhole, StaysWhole}
 use Rattle.bay.proofs.Members.{place_of}
 use Rattle.bay.proofs.Ended.{above_all}
-use Rattle.bay.proofs.Through.{IsKeptByChanges, through_asks, through_ends, through_leaves, through_goes, through_comes_back, through_passes, through_stops, through_tells}
+use Rattle.bay.proofs.NewFile.{tied_by}
+use Rattle.bay.proofs.Turned.{written_turned, safe_turned, all_of_it}
+use Rattle.bay.proofs.Through.{IsKeptByChanges, goes_on, through_asks, through_ends, through_leaves, through_goes, through_comes_back, through_passes, through_stops, through_tells}
 use Rattle.bay.proofs.Written.{written_add, written_hold, written_over, written_gone, written_back, written_heard, written_purge, written_reach, written_fresh}
 use Rattle.bay.proofs.LogLines.{stands_now}
 use Rattle.bay.proofs.Stays.{stays_written}
@@ -152,6 +155,31 @@ whole_room old new log w r =
 book_of : (old : BayView) → IsKept old → IsWhole old → IsWholeBook old.log.lines old.room.book.durable old.room.book
 book_of old k w = record { sound = k.room.book; written = w.written; same = refl }
 
+-- in a new file
+whole_turns : (classes : List Class) (now : ℕ) (text : List ℕ) (old new : BayView) → IsKept old → old.room.terms.keeps ≡ true
+    → Turns classes now text old new → IsWhole old → IsWhole new
+whole_turns classes now text old new k keeps c w =
+    let x = old.room in let log = new_log x.book old.log in let at = end_of log in let mid = turn x.book at in let durable = mid.durable in
+    let quiet : IsQuiet x.book old.log = subst (λ (b : Bool). IsQuietIf b x.book old.log) keeps c.quiet in
+    let log_is : new.log ≡ log = subst (λ (b : Bool). new.log ≡ log_after b x.book old.log) keeps c.log_is in
+    let changes : Changes classes now mid x new.room = subst (λ (b : Bool). Changes classes now (book_after b x.book old.log) x new.room) keeps c.changes in
+    let P : BookView → Type 0 = IsWholeBook log.lines durable in
+    let kept : IsKeptByChanges x.terms.keeps P = subst (λ (b : Bool). IsKeptByChanges b P) (sym keeps) (whole_kept log.lines durable) in
+    let book = goes_on P (with_classes x classes) kept now (core x.line mid) new.room changes (record {
+      sound = sound_turn x.book at k.room.book;
+      written = written_turned x.book old.log k.room.book w.written quiet.0;
+      same = refl;
+    }) in
+    let same : log.lines ≡ new.log.lines = ap (λ (l : LogView). l.lines) (sym log_is) in
+    let classes_are : new.room.classes ≡ classes = ap (λ (r : RoomView). r.classes) changes.same in
+    record {
+      written = subst (λ (l : List Line). IsWritten l new.room.book) same book.written;
+      safe = subst (λ (d : ℕ). StaySafe new.room.classes new.log.lines d) (sym book.same)
+          (subst (λ (z : List Class). StaySafe z new.log.lines durable) (sym classes_are)
+          (subst (λ (l : List Line). StaySafe classes l durable) same
+          (safe_turned classes x.line x.book old.log k.room.book (tied_by x.classes classes (core_of x) c.may k.room.room.tied))));
+    }
+
 whole_calls : (old new : BayView) → IsKept old → IsKept new → old.room.terms.keeps ≡ true → IsBayCall old new → IsWhole old → IsWhole new
 whole_calls old new k kn keeps (inl c) w =
     whole_room old new c.1 w (elim c.0.1 [
@@ -188,20 +216,10 @@ whole_calls old new k kn keeps (inr (inr (inr (inr (inr (inl c)))))) w =
           (subst (λ (l : List Line). StaySafe old.room.classes l later.durable) lines
           (stays_safe.safe_later old.room.classes old.log.lines book.durable later.durable (omega arith) w.safe));
     }
-whole_calls old new k kn keeps (inr (inr (inr (inr (inr (inr c)))))) w = subst IsWhole (sym c) (record { written = w.written; safe = w.safe })
+whole_calls old new k kn keeps (inr (inr (inr (inr (inr (inr (inl c))))))) w = subst IsWhole (sym c) (record { written = w.written; safe = w.safe })
+whole_calls old new k kn keeps (inr (inr (inr (inr (inr (inr (inr c))))))) w = whole_turns c.0 c.1 c.2 old new k keeps c.3 w
 
 -- ---- a bay that comes back
-
-none_behind : (a b : List Line) → [] ≡ a ++ b → a ≡ []
-none_behind [] b h = refl
-none_behind (x ∷ a) b h = let no_ : ⊥ = cc in absurd no_
-
-all_of_it : (lines front : List Line) → BeginsWith lines front → BeginsWith front lines → lines ≡ front
-all_of_it lines front b from =
-    let both : lines ++ [] ≡ lines ++ (from.0 ++ b.0) =
-    append-nil lines ∙ (b.1 ∙ (ap (λ (l : List Line). l ++ b.0) from.1 ∙ append_assoc lines from.0 b.0)) in
-    let none = none_behind from.0 b.0 (append_cancel_left lines [] (from.0 ++ b.0) both) in
-    sym (from.1 ∙ (ap (λ (l : List Line). lines ++ l) none ∙ append-nil lines))
 
 at_isnt_none : (m : Mark) (p : ℕ) → m ≡ At p → m ≡ NoLine → ⊥
 at_isnt_none m p a b = cc

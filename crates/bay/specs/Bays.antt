@@ -34,6 +34,7 @@ use Rattle.bay.specs.Rooms.{IsOpened, with_book, Stops, Tells, reached, IsKept a
 use Rattle.bay.specs.LineLaws.{IsCall}
 use Rattle.bay.specs.Restoring.{IsOf, IsBack, IsThere}
 use Rattle.bay.specs.Pages.{entry_of, pages, Writes as WritesOwed}
+use Rattle.bay.specs.Turning.{Turns}
 pub use Rattle.bay.specs.BayViews.{BayView}
 
 abbrev pub with_log : BayView → LogView → BayView
@@ -121,6 +122,7 @@ IsBayCall old new =
     ⊎ (new ≡ with_log old (sending old.log))
     ⊎ ((position : ℕ) × (new.room ≡ reached old.room position) × (new.log ≡ reaching old.log position))
     ⊎ (new ≡ with_log old (failing old.log))
+    ⊎ ((classes : List Class) × (now : ℕ) × (text : List ℕ) × Turns classes now text old new)
 
 -- Whoever is past stays past, also when it isn't in the book any more
 abbrev pub PastStaysPast : Type 0

@@ -7,7 +7,7 @@ use Rattle.bay_book.specs.declared.ask.Stage.TheVariants.{Holds as StageHolds}
 use Rattle.bay_book.specs.Asks.{ask_at}
 use Rattle.bay_book.specs.Books.{BookView, IsSound}
 use Rattle.bay_book.specs.Runs.{Call, IsAllowed, after_call}
-use Rattle.bay_book.specs.Runs.Call.{Add, Hold, Finish, SetGone, IsBack, Give, Reach, Tell, Purge}
+use Rattle.bay_book.specs.Runs.Call.{Add, Hold, Finish, SetGone, IsBack, Give, Turn, Reach, Tell, Purge}
 use Rattle.bay_line.specs.Lines.{LineView}
 use Rattle.bay_log.specs.declared.line.Entry.{Entry}
 use Rattle.bay_log.specs.declared.line.Line.{Line}
@@ -37,6 +37,7 @@ GivesNone (Finish place how now) = Unit {0}
 GivesNone (SetGone place moment) = Unit {0}
 GivesNone (IsBack place) = Unit {0}
 GivesNone (Give at) = ⊥
+GivesNone (Turn at) = ⊥
 GivesNone (Reach position) = Unit {0}
 GivesNone (Tell place what) = Unit {0}
 GivesNone Purge = Unit {0}

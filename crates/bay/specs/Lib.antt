@@ -11,7 +11,9 @@ pub mod Rooms
 pub mod Laws
 pub mod Pages
 pub mod BayViews
+pub mod Turning
 pub mod Bays
+pub mod TurnLaws
 pub mod Restoring
 pub mod LineLaws
 pub mod HeardLaws

@@ -1,5 +1,5 @@
 //! The bay: the room and its log.
-ghost use Rattle.std.specs.Prelude.{◌≡◌, ◌<◌, length, ◌∷◌, ◌++◌, [], OnOk, OnErr, IfOk, IfErr};
+ghost use Rattle.std.specs.Prelude.{◌≡◌, ◌<◌, ◌≤◌, length, ◌∷◌, ◌++◌, [], OnOk, OnErr, IfOk, IfErr};
 ghost use Rattle.bay_book.specs.declared.ask.End.TheVariants.{LetGo as EndLetGo, TakenAway as EndTakenAway};
 ghost use Rattle.bay_log.specs.declared.line.Line.TheVariants.{Note as NoteLine};
 ghost use Rattle.bay_book.specs.Asks.{ask_at};
@@ -12,6 +12,7 @@ ghost use Rattle.bay.specs.Keepers.{IsKeeper};
 ghost use Rattle.bay.specs.Standings.{HoldsTold};
 ghost use Rattle.bay.specs.Views.{core_of};
 ghost use Rattle.bay.specs.Refusals.{IsWhyNoLines, IsWhyNotBack};
+ghost use Rattle.bay.specs.Turning.{Turns, IsWhyNotTurned};
 ghost use Rattle.bay.specs.Bays.{Resumes, with_log, IsKept, Writes, IsWhyNotOpened, IsWhyNotNoted};
 
 use crate::classes::Class;
@@ -20,6 +21,7 @@ use crate::restoring::{NotBack, is_of};
 use crate::room::Room;
 use crate::telling::Told;
 use crate::terms::Terms;
+use crate::turning::NotTurned;
 use bay_book::Ask;
 use bay_line::Wish;
 use bay_log::{Fault, Found, Line, Log, Text, is_text, read};
@@ -296,6 +298,37 @@ impl Bay {
             Ok(()) => Ok(self.log.position()),
             Err(_) => Err(NotNoted::NoMemory),
         }
+    }
+
+    /// The bay goes on in a new file, and from now on with these classes. Answers the text with which the new file begins, which has to stand there, and be
+    /// durable, before anything behind it is: it counts as durable from here on. If it would be longer than this, nothing changes. It takes memory.
+    pub fn turn(
+        &mut self,
+        alloc: Global,
+        classes: Vec<Class, Global>,
+        now: u64,
+        room: usize,
+    ) -> Result<Vec<u8, Global>, NotTurned>
+        ensures turns { IfOk result (λ text. Turns classes.items now text.items self.old self.new) }
+        ensures fits { IfOk result (λ text. length text.items ≤ room) }
+        ensures refused { OnErr result (self.new ≡ self.old) }
+        ensures why { IfErr result (λ why. IsWhyNotTurned classes.items self.old room why) }
+    {
+        if 32 < classes.len() {
+            return Err(NotTurned::Classes);
+        }
+        if let Some(number) = self.room.who_may_not(&classes) {
+            return Err(NotTurned::MayNot(number));
+        }
+        self.room.look();
+        if !self.room.keeps() {
+            self.room.change(classes, now);
+            return Ok(Vec::new(alloc));
+        }
+        let (log, text) = self.room.new_file(alloc, &self.log, room)?;
+        self.room.turn(classes, log.position(), now);
+        self.log = log;
+        Ok(text)
     }
 
     /// The position behind all that was added to the log.

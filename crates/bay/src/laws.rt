@@ -3,6 +3,7 @@ ghost use Rattle.bay.specs.Bays.{ToldIsKept, ToldComesBack, LetGoIsKept, PastSta
 ghost use Rattle.bay.specs.Keepers.{NobodyWaitsForNobody};
 ghost use Rattle.bay.specs.LineLaws.{CallsAreWaited, NobodyWaitsForNothing, NumbersRise};
 ghost use Rattle.bay.specs.HeardLaws.{TellsOnce};
+ghost use Rattle.bay.specs.TurnLaws.{TurnsKeep, FilesSayTheSame};
 ghost use Rattle.bay.specs.Laws.{IsWellHeld, WhoHoldsHoldsOn, WhoWaitsWaitsOn, AnswersInTime, WrittenIsInTime};
 
 use crate::bay::Bay;
@@ -85,6 +86,18 @@ pub fn calls_are_waited()
 {
     next_is_let_in();
 }
+
+/// In a new file, and with other classes, what was held stays held, and who waits goes on to wait.
+pub fn turns_keep()
+    ensures { TurnsKeep }
+{
+    next_is_let_in();
+}
+
+/// The old file and the new one say the same.
+pub fn files_say_the_same()
+    ensures { FilesSayTheSame }
+{}
 
 /// After each call, whoever is in line has a reason to wait: no place is free for it, or it leads to an instrument that somebody holds.
 pub fn nobody_waits_for_nothing()

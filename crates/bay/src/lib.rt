@@ -22,6 +22,7 @@ mod room;
 mod stopping;
 mod telling;
 mod terms;
+mod turning;
 mod writing;
 
 pub use bay::{Bay, NotNoted, NotOpened};
@@ -30,3 +31,4 @@ pub use request::{NotAsked, NotHeld, Request};
 pub use restoring::NotBack;
 pub use telling::Told;
 pub use terms::Terms;
+pub use turning::NotTurned;

@@ -13,6 +13,8 @@ ghost use Rattle.bay.specs.Standings.{HoldsTold};
 ghost use Rattle.bay.specs.Pages.{pages, Writes};
 ghost use Rattle.bay.specs.Ended.{AreInLog};
 ghost use Rattle.bay.specs.Refusals.{IsWhyNotRestored};
+ghost use Rattle.bay.specs.Turning.{IsWhoMayNot, IsNewFile, IsWhyNoFile, Changes};
+ghost use Rattle.bay_book.specs.Books.{turn};
 
 use crate::asking::{take, why_not};
 use crate::classes::Class;
@@ -25,6 +27,7 @@ use crate::restoring::{NotBack, restored_book};
 use crate::stopping::end_all_that_wait;
 use crate::telling::{Told, is_still_told, tell_next};
 use crate::terms::Terms;
+use crate::turning::{NotTurned, new_file, who_may_not};
 use crate::writing::write_owed;
 use bay_book::{Ask, Book, End};
 use bay_line::{Line as Waiting, Wish};
@@ -382,6 +385,69 @@ impl Room {
         ensures logged { AreInLog self.new.book log.new }
     {
         write_owed(&mut self.book, log)
+    }
+
+    /// Whether the bay keeps a log.
+    pub(crate) fn keeps(&self) -> bool
+        ensures { result ≡ self.now.terms.keeps }
+    {
+        self.terms.keeps
+    }
+
+    /// An ask that may not go on by these classes, if there is one.
+    pub(crate) fn who_may_not(&self, classes: &[Class]) -> Option<u64>
+        ensures { IsWhoMayNot classes.now (core_of self.now) result }
+    {
+        who_may_not(classes, &self.line, &self.book)
+    }
+
+    /// The log of a new file, and the text with which it begins.
+    pub(crate) fn new_file(
+        &self,
+        alloc: Global,
+        log: &Log,
+        room: usize,
+    ) -> Result<(Log, Vec<u8, Global>), NotTurned>
+        ensures new { IfOk result (λ r. IsNewFile self.now.book log.now r.0 r.1.items) }
+        ensures fits { IfOk result (λ r. length r.1.items ≤ room) }
+        ensures why { IfErr result (λ why. IsWhyNoFile self.now.book log.now room why) }
+    {
+        new_file(alloc, &self.book, log, room)
+    }
+
+    /// The room has these classes from now on.
+    pub(crate) fn change(&mut self, classes: Vec<Class, Global>, now: u64)
+        requires few { length classes.items ≤ 32 }
+        requires may { IsWhoMayNot classes.items (core_of self.old) None }
+        ensures { Changes classes.items now self.old.book self.old self.new }
+    {
+        self.classes = classes;
+        self.moment = self.moment.max(now);
+        follow(
+            &self.classes,
+            self.terms,
+            &mut self.line,
+            &mut self.book,
+            self.moment,
+        );
+    }
+
+    /// The log goes on in a new file, which is durable up to this position; and the room has these classes from now on.
+    pub(crate) fn turn(&mut self, classes: Vec<Class, Global>, at: u64, now: u64)
+        requires few { length classes.items ≤ 32 }
+        requires may { IsWhoMayNot classes.items (core_of self.old) None }
+        ensures { Changes classes.items now (turn self.old.book at) self.old self.new }
+    {
+        self.classes = classes;
+        self.moment = self.moment.max(now);
+        self.book.turn(at);
+        follow(
+            &self.classes,
+            self.terms,
+            &mut self.line,
+            &mut self.book,
+            self.moment,
+        );
     }
 
     /// What is told next. It stays to be told until its serial number is given back as done.

@@ -10,7 +10,7 @@ use bay_log::{Entry, How, Line, Log};
 use std::alloc::AllocError;
 
 /// What an ask holds, as the log says it.
-fn entry_of(ask: Ask) -> Entry
+pub(crate) fn entry_of(ask: Ask) -> Entry
     ensures { result ≡ entry_of ask }
 {
     Entry {

@@ -8,9 +8,9 @@ use Rattle.std.proofs.lemmas.List.Quantifiers.{all_pairs_push}
 use Rattle.std.proofs.lemmas.List.Kept.{AllPairs-filter}
 use Rattle.std.proofs.lemmas.List.Sums.{sum_by-set, sum_by_push, sum_by-cons}
 use Rattle.bay_book.specs.declared.ask.Ask.{Ask}
-use Rattle.bay_book.specs.Asks.{no_ask, ask_at, is_holding, holds_class, asker, holding, over, gone_since, back_again, given, hearing, is_done}
+use Rattle.bay_book.specs.Asks.{no_ask, ask_at, is_holding, holds_class, asker, holding, over, gone_since, back_again, given, turned, hearing, is_done}
 use Rattle.bay_book.specs.Moments.{common, is_past, sooner, until, kept_until, limit_due_at}
-use Rattle.bay_book.specs.Runs.Call.{Add, Hold, Finish, SetGone, IsBack, Give, Reach, Tell, Purge}
+use Rattle.bay_book.specs.Runs.Call.{Add, Hold, Finish, SetGone, IsBack, Give, Turn, Reach, Tell, Purge}
 use Rattle.bay_book.specs.Holding.{IsApart, AreApart, StaysApart, TakesAtMost, DueIsToCome, LimitIsToCome}
 use Rattle.bay_book.proofs.Least.{some_is, le_or}
 
@@ -65,6 +65,13 @@ apart_give asks at h i k d less within =
     subst (λ (p : Ask). IsApart p (get_or (map (given at) asks) k d)) (sym (get_or-map (given at) asks i d d in_i))
     (subst (λ (p : Ask). IsApart (given at (get_or asks i d)) p) (sym (get_or-map (given at) asks k d d in_k)) (λ x y. h i k d less in_k x y))
 
+apart_turn : (asks : List Ask) (at : ℕ) → AreApart asks → AreApart (map (turned at) asks)
+apart_turn asks at h i k d less within =
+    let in_k : k < length asks = omega (arith, within, length-map asks (turned at)) in
+    let in_i : i < length asks = omega (arith, in_k, less) in
+    subst (λ (p : Ask). IsApart p (get_or (map (turned at) asks) k d)) (sym (get_or-map (turned at) asks i d d in_i))
+    (subst (λ (p : Ask). IsApart (turned at (get_or asks i d)) p) (sym (get_or-map (turned at) asks k d d in_k)) (λ x y. h i k d less in_k x y))
+
 pub stays_apart : StaysApart
 stays_apart x (Add number class owner deadline limit now) ok free h =
     all_pairs_push IsApart x.asks (asker number class owner deadline limit now) h (λ k d inside. λ p q. absurd (false≢true q))
@@ -76,6 +83,7 @@ stays_apart x (SetGone place moment) inside free h =
 stays_apart x (IsBack place) inside free h =
     apart_set x.asks place (back_again (ask_at x.asks place)) inside (λ i other in_i p q. apart_either x.asks i place other in_i inside h p q) h
 stays_apart x (Give at) ok free h = apart_give x.asks at h
+stays_apart x (Turn at) ok free h = apart_turn x.asks at h
 stays_apart x (Reach position) ok free h = h
 stays_apart x (Tell place what) ok free h =
     apart_set x.asks place (hearing what (ask_at x.asks place)) ok.0 (λ i other in_i p q. apart_either x.asks i place other in_i ok.0 h p q) h
@@ -101,6 +109,13 @@ count_give class at (a ∷ asks) =
     let rest = count_give class at asks in
     omega (arith, rest, sum_by-cons f a asks, sum_by-cons f (given at a) (map (given at) asks))
 
+count_turn : (class at : ℕ) (asks : List Ask) → count_by (holds_class class) (map (turned at) asks) ≡ count_by (holds_class class) asks
+count_turn class at [] = refl
+count_turn class at (a ∷ asks) =
+    let f : Ask → ℕ = λ b. number_of (holds_class class b) in
+    let rest = count_turn class at asks in
+    omega (arith, rest, sum_by-cons f a asks, sum_by-cons f (turned at a) (map (turned at) asks))
+
 count_or_not : (p : Ask → Bool) (a : Ask) (asks kept : List Ask) → count_by p kept ≤ count_by p asks → (t : Bool)
     → count_by p (cond t (a ∷ kept) kept) ≤ count_by p (a ∷ asks)
 count_or_not p a asks kept few true =
@@ -125,6 +140,7 @@ takes_at_most x (SetGone place moment) inside class =
     count_set (holds_class class) x.asks place (gone_since moment (ask_at x.asks place)) 0 inside (omega arith)
 takes_at_most x (IsBack place) inside class = count_set (holds_class class) x.asks place (back_again (ask_at x.asks place)) 0 inside (omega arith)
 takes_at_most x (Give at) ok class = omega (arith, count_give class at x.asks)
+takes_at_most x (Turn at) ok class = omega (arith, count_turn class at x.asks)
 takes_at_most x (Reach position) ok class = omega arith
 takes_at_most x (Tell place what) ok class = count_set (holds_class class) x.asks place (hearing what (ask_at x.asks place)) 0 ok.0 (omega arith)
 takes_at_most x Purge ok class = let k = count_kept (holds_class class) (λ a. not (is_done a)) x.asks in omega (arith, k)

@@ -7,12 +7,12 @@ use Rattle.bay_book.specs.declared.ask.Ask.{Ask}
 use Rattle.bay_book.specs.declared.ask.End.{End}
 use Rattle.bay_book.specs.declared.ask.Outcome.{Outcome}
 use Rattle.bay_book.specs.declared.ask.Stage.TheVariants.{Waits}
-use Rattle.bay_book.specs.Asks.{no_ask, ask_at, is_over, asker, holding, over, gone_since, back_again, given, hearing, is_done}
+use Rattle.bay_book.specs.Asks.{no_ask, ask_at, is_over, asker, holding, over, gone_since, back_again, given, turned, hearing, is_done}
 use Rattle.bay_book.specs.Telling.{to_tell}
 use Rattle.bay_book.specs.Books.{BookView, IsSound, with_ask, add, purge}
 use Rattle.bay_book.specs.Runs.{Call, IsAllowed, after_call}
-use Rattle.bay_book.specs.Runs.Call.{Add, Hold, Finish, SetGone, IsBack, Give, Reach, Tell, Purge}
-use Rattle.bay_book.proofs.Sound.{sound_holding, sound_over, sound_gone, sound_back, sound_hearing, sound_set, sound_add, sound_give, sound_reach, sound_purge}
+use Rattle.bay_book.specs.Runs.Call.{Add, Hold, Finish, SetGone, IsBack, Give, Turn, Reach, Tell, Purge}
+use Rattle.bay_book.proofs.Sound.{sound_holding, sound_over, sound_gone, sound_back, sound_hearing, sound_set, sound_add, sound_give, sound_turn, sound_reach, sound_purge}
 
 -- ---- soundness
 
@@ -27,6 +27,7 @@ sound_call x (SetGone place moment) inside h =
 sound_call x (IsBack place) inside h =
     sound_set x place (back_again (ask_at x.asks place)) inside refl (sound_back x.durable (ask_at x.asks place) (h.each place no_ask inside)) h
 sound_call x (Give at) ok h = sound_give x at h
+sound_call x (Turn at) ok h = sound_turn x at h
 sound_call x (Reach position) ok h = sound_reach x position h
 sound_call x (Tell place what) ok h =
     sound_set x place (hearing what (ask_at x.asks place)) ok.0 refl
@@ -42,6 +43,7 @@ pub record ComesNot (Q : Ask → Type 0) : Type 0 where
   pub by_gone : (a : Ask) (moment : ℕ) → Q (gone_since moment a) → Q a
   pub by_back : (a : Ask) → Q (back_again a) → Q a
   pub by_give : (a : Ask) (at : ℕ) → Q (given at a) → Q a
+  pub by_turn : (a : Ask) (at : ℕ) → Q (turned at a) → Q a
   pub by_tell : (a : Ask) (durable : ℕ) (what : Outcome) → to_tell durable a ≡ Some what → Q (hearing what a) → Q a
 
 -- the ask with this number isn't there yet, or this is so of it
@@ -85,6 +87,14 @@ came_give Q number x at back (inr (j, within, same_number, q)) =
     let there : ask_at (map (given at) x.asks) j ≡ given at (ask_at x.asks j) = get_or-map (given at) x.asks j no_ask no_ask in_j in
     inr (j, in_j, ap (λ (b : Ask). b.number) (sym there) ∙ same_number, back (ask_at x.asks j) (subst Q there q))
 
+came_turn : (Q : Ask → Type 0) (number : ℕ) (x : BookView) (at : ℕ) → ((a : Ask) → Q (turned at a) → Q a) → May Q number (after_call x (Turn at))
+    → May Q number x
+came_turn Q number x at back (inl above) = inl above
+came_turn Q number x at back (inr (j, within, same_number, q)) =
+    let in_j : j < length x.asks = omega (arith, within, length-map x.asks (turned at)) in
+    let there : ask_at (map (turned at) x.asks) j ≡ turned at (ask_at x.asks j) = get_or-map (turned at) x.asks j no_ask no_ask in_j in
+    inr (j, in_j, ap (λ (b : Ask). b.number) (sym there) ∙ same_number, back (ask_at x.asks j) (subst Q there q))
+
 -- each that a filter leaves was there before
 abbrev pub IsThere : List Ask → Ask → Type 0
 IsThere asks a = (k : ℕ) × (k < length asks) × (ask_at asks k ≡ a)
@@ -120,6 +130,7 @@ came_before Q c number x (SetGone place moment) inside h =
 came_before Q c number x (IsBack place) inside h =
     came_set Q number x place (back_again (ask_at x.asks place)) inside refl (c.by_back (ask_at x.asks place)) h
 came_before Q c number x (Give at) ok h = came_give Q number x at (λ a. c.by_give a at) h
+came_before Q c number x (Turn at) ok h = came_turn Q number x at (λ a. c.by_turn a at) h
 came_before Q c number x (Reach position) ok h = h
 came_before Q c number x (Tell place what) ok h =
     came_set Q number x place (hearing what (ask_at x.asks place)) ok.0 refl (c.by_tell (ask_at x.asks place) x.durable what ok.1) h

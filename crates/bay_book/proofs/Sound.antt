@@ -15,9 +15,9 @@ use Rattle.bay_book.specs.declared.ask.Outcome.{Outcome}
 use Rattle.bay_book.specs.declared.ask.Outcome.TheVariants.{Holds as ToldHolds}
 use Rattle.bay_book.specs.declared.ask.Stage.{Stage}
 use Rattle.bay_book.specs.declared.ask.Stage.TheVariants.{Waits, Holds, Over}
-use Rattle.bay_book.specs.Asks.{no_ask, ask_at, is_owed, is_written, kept_mark, end_mark, given_mark, asker, holding, over, gone_since, back_again, given, heard_of, hearing, is_done, IsSoundAt, IsSoundAsk}
+use Rattle.bay_book.specs.Asks.{no_ask, ask_at, is_owed, is_written, kept_mark, end_mark, given_mark, turned_mark, asker, holding, over, gone_since, back_again, given, turned, heard_of, hearing, is_done, IsSoundAt, IsSoundAsk}
 use Rattle.bay_book.specs.Telling.{to_tell, to_tell_at, if_may}
-use Rattle.bay_book.specs.Books.{BookView, IsSound, with_ask, add, give, reach, purge}
+use Rattle.bay_book.specs.Books.{BookView, IsSound, with_ask, add, give, turn, reach, purge}
 
 -- ---- one ask
 
@@ -103,6 +103,18 @@ sound_later_at durable later a (Over how) le h = h
 pub sound_later : (durable later : ℕ) (a : Ask) → durable ≤ later → IsSoundAsk durable a → IsSoundAsk later a
 sound_later durable later a le h = sound_later_at durable later a a.stage le h
 
+-- the line of one that holds is in the new file
+sound_turned_at : (durable at : ℕ) (a : Ask) (s : Stage) → a.stage ≡ s → at ≤ durable → IsSoundAt durable a s → IsSoundAt durable (turned at a) s
+sound_turned_at durable at a Waits is le h = (h.0, h.1, ap (λ (t : Stage). turned_mark at t a.hold_line) is ∙ h.2, h.3)
+sound_turned_at durable at a Holds is le h =
+    (h.0, λ e. ap (λ (t : Stage). is_written durable (turned_mark at t a.hold_line)) is ∙ le-leb at durable le, h.2)
+sound_turned_at durable at a (Over how) is le h =
+    let same : turned_mark at a.stage a.hold_line ≡ a.hold_line = ap (λ (t : Stage). turned_mark at t a.hold_line) is in
+    (h.0, ap is_owed same ∙ h.1, λ e. h.2 (sym same ∙ e))
+
+pub sound_turned : (durable at : ℕ) (a : Ask) → at ≤ durable → IsSoundAsk durable a → IsSoundAsk durable (turned at a)
+sound_turned durable at a le h = sound_turned_at durable at a a.stage refl le h
+
 pub none_told : (o : Option Outcome) (what : Outcome) → o ≡ None → o ≡ Some what → ⊥
 none_told o what n e = cc
 
@@ -176,6 +188,25 @@ sound_give x at h = record {
   below = All-map (λ (b : Ask). b.number < x.next) (given at) x.asks h.below;
   each = All-map (IsSoundAsk x.durable) (given at) x.asks (λ k d inside. sound_given x.durable at (get_or x.asks k d) (h.each k d inside));
 }
+
+pub sound_turn : (x : BookView) (at : ℕ) → IsSound x → IsSound (turn x at)
+sound_turn x at h =
+    let durable = max x.durable at in
+    record {
+      rises = λ i k d less within.
+          let in_k : k < length x.asks = omega (arith, within, length-map x.asks (turned at)) in
+          let in_i : i < length x.asks = omega (arith, in_k, less) in
+          let before = h.rises i k d less in_k in
+          omega (
+            arith,
+            before,
+            ap (λ (b : Ask). b.number) (get_or-map (turned at) x.asks i d d in_i),
+            ap (λ (b : Ask). b.number) (get_or-map (turned at) x.asks k d d in_k),
+          );
+      below = All-map (λ (b : Ask). b.number < x.next) (turned at) x.asks h.below;
+      each = All-map (IsSoundAsk durable) (turned at) x.asks (λ k d inside.
+          sound_turned durable at (get_or x.asks k d) (omega arith) (sound_later x.durable durable (get_or x.asks k d) (omega arith) (h.each k d inside)));
+    }
 
 pub sound_reach : (x : BookView) (position : ℕ) → IsSound x → IsSound (reach x position)
 sound_reach x position h = record {

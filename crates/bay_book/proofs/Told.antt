@@ -17,7 +17,7 @@ use Rattle.bay_book.specs.Asks.{no_ask, ask_at, is_over, is_written, heard_of, h
 use Rattle.bay_book.specs.Telling.{to_tell, to_tell_at, may_say}
 use Rattle.bay_book.specs.Books.{BookView, IsSound}
 use Rattle.bay_book.specs.Runs.{Call, IsAllowed, after_call, after_calls, told_by, told, AreAllowed, is_told_to_hold, is_told_over, is_told, TellsOnce, OverIsLast, IsToldDurable, StaysToldDurable}
-use Rattle.bay_book.specs.Runs.Call.{Add, Hold, Finish, SetGone, IsBack, Give, Reach, Tell, Purge}
+use Rattle.bay_book.specs.Runs.Call.{Add, Hold, Finish, SetGone, IsBack, Give, Turn, Reach, Tell, Purge}
 use Rattle.bay_book.proofs.Sound.{none_told, may_is}
 use Rattle.bay_book.proofs.Going.{ComesNot, May, came_before, sound_call}
 
@@ -41,6 +41,7 @@ holds_not = record {
   by_gone = λ a moment q. record { goes_on = q.goes_on; silent = q.silent };
   by_back = λ a q. record { goes_on = q.goes_on; silent = q.silent };
   by_give = λ a at q. record { goes_on = q.goes_on; silent = q.silent };
+  by_turn = λ a at q. record { goes_on = q.goes_on; silent = q.silent };
   by_tell = λ a durable what t q. absurd (heard_something what q.silent);
 }
 
@@ -77,6 +78,7 @@ hears_not = record {
   by_gone = λ a moment q. q;
   by_back = λ a q. q;
   by_give = λ a at q. q;
+  by_turn = λ a at q. q;
   by_tell = λ a durable what t q. told_hears durable a what t;
 }
 
@@ -176,6 +178,7 @@ counts_call p Q number tells x (Finish place how now) h ok = counts_nothing p Q 
 counts_call p Q number tells x (SetGone place moment) h ok = counts_nothing p Q number x (SetGone place moment) refl
 counts_call p Q number tells x (IsBack place) h ok = counts_nothing p Q number x (IsBack place) refl
 counts_call p Q number tells x (Give at) h ok = counts_nothing p Q number x (Give at) refl
+counts_call p Q number tells x (Turn at) h ok = counts_nothing p Q number x (Turn at) refl
 counts_call p Q number tells x (Reach position) h ok = counts_nothing p Q number x (Reach position) refl
 counts_call p Q number tells x (Tell place what) h ok = counts_tell p Q number tells x place what h ok
 counts_call p Q number tells x Purge h ok = counts_nothing p Q number x Purge refl
@@ -230,6 +233,7 @@ none_by number x (Finish place how now) ok never = refl
 none_by number x (SetGone place moment) ok never = refl
 none_by number x (IsBack place) ok never = refl
 none_by number x (Give at) ok never = refl
+none_by number x (Turn at) ok never = refl
 none_by number x (Reach position) ok never = refl
 none_by number x (Tell place what) ok never =
     let n : ℕ = (ask_at x.asks place).number in

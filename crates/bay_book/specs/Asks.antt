@@ -139,6 +139,15 @@ back_again a = record a { gone = None }
 abbrev pub given : ℕ → Ask → Ask
 given at a = record a { hold_line = given_mark at a.hold_line; end_line = given_mark at a.end_line }
 
+-- if it holds, the line that says so ends there
+abbrev pub turned_mark : ℕ → Stage → Mark → Mark
+turned_mark at Waits mark = mark
+turned_mark at Holds mark = At at
+turned_mark at (Over how) mark = mark
+
+abbrev pub turned : ℕ → Ask → Ask
+turned at a = record a { hold_line = turned_mark at a.stage a.hold_line }
+
 -- what it has heard, once it was told this
 abbrev pub heard_of : Outcome → Heard
 heard_of ToldHolds = HeardHolds

@@ -3,7 +3,7 @@ use Rattle.std.specs.Prelude.{ℕ, ◌+◌, max, ◌<◌, Bool, not, List, [], �
 use Rattle.bay_book.specs.declared.ask.Ask.{Ask}
 use Rattle.bay_book.specs.declared.ask.End.{End}
 use Rattle.bay_book.specs.declared.ask.Outcome.{Outcome}
-use Rattle.bay_book.specs.Asks.{ask_at, asker, restored, holding, over, gone_since, back_again, given, hearing, is_done, IsSoundAsk}
+use Rattle.bay_book.specs.Asks.{ask_at, asker, restored, holding, over, gone_since, back_again, given, turned, hearing, is_done, IsSoundAsk}
 
 -- the asks in the order of their numbers; the least number that the next may have; and up to where the journal outlives a crash
 pub record BookView : Type 0 where
@@ -75,6 +75,10 @@ give_one x place at = with_ask x place (given at (ask_at x.asks place))
 -- the journal outlives a crash up to there, too
 abbrev pub reach : BookView → ℕ → BookView
 reach x position = record { asks = x.asks; next = x.next; durable = max x.durable position }
+
+-- the journal goes on in a new file, which says of each that holds that it does, and outlives a crash up to this position
+abbrev pub turn : BookView → ℕ → BookView
+turn x at = record { asks = map (turned at) x.asks; next = x.next; durable = max x.durable at }
 
 -- one was told this
 abbrev pub heard : BookView → ℕ → Outcome → BookView

@@ -7,7 +7,7 @@ use Rattle.bay_book.specs.Moments.{common, is_late, is_gone_too_long, is_over_li
 use Rattle.bay_book.specs.Finding.{IsFirst, IsLeast}
 use Rattle.bay_book.specs.Books.{BookView}
 use Rattle.bay_book.specs.Runs.{Call, IsAllowed, after_call}
-use Rattle.bay_book.specs.Runs.Call.{Add, Hold, Finish, SetGone, IsBack, Give, Reach, Tell, Purge}
+use Rattle.bay_book.specs.Runs.Call.{Add, Hold, Finish, SetGone, IsBack, Give, Turn, Reach, Tell, Purge}
 
 -- if both hold, they have no instrument in common
 abbrev pub IsApart : Ask → Ask → Type 0
@@ -25,6 +25,7 @@ IsFree x (Finish place how now) = Unit {0}
 IsFree x (SetGone place moment) = Unit {0}
 IsFree x (IsBack place) = Unit {0}
 IsFree x (Give at) = Unit {0}
+IsFree x (Turn at) = Unit {0}
 IsFree x (Reach position) = Unit {0}
 IsFree x (Tell place what) = Unit {0}
 IsFree x Purge = Unit {0}
@@ -41,6 +42,7 @@ places_taken class x (Finish place how now) = 0
 places_taken class x (SetGone place moment) = 0
 places_taken class x (IsBack place) = 0
 places_taken class x (Give at) = 0
+places_taken class x (Turn at) = 0
 places_taken class x (Reach position) = 0
 places_taken class x (Tell place what) = 0
 places_taken class x Purge = 0

@@ -9,7 +9,7 @@ use Rattle.bay_book.specs.declared.ask.Outcome.TheVariants.{Holds as ToldHolds, 
 use Rattle.bay_book.specs.declared.ask.Stage.TheVariants.{Waits, Holds}
 use Rattle.bay_book.specs.Asks.{ask_at, is_over, is_written}
 use Rattle.bay_book.specs.Telling.{IsNextToTell}
-use Rattle.bay_book.specs.Books.{BookView, IsSound, add, hold, end, set_gone, is_back, give, reach, heard, purge}
+use Rattle.bay_book.specs.Books.{BookView, IsSound, add, hold, end, set_gone, is_back, give, turn, reach, heard, purge}
 
 -- a call that changes the book; and at `Tell` the one that is next is told what it is to be told
 pub data Call : Type 0 where
@@ -19,6 +19,7 @@ pub data Call : Type 0 where
   SetGone : (place moment : ℕ) → Call
   IsBack : (place : ℕ) → Call
   Give : (at : ℕ) → Call
+  Turn : (at : ℕ) → Call
   Reach : (position : ℕ) → Call
   Tell : (place : ℕ) → (what : Outcome) → Call
   Purge : Call
@@ -31,6 +32,7 @@ IsAllowed x (Finish place how now) = (place < length x.asks) × (is_over (ask_at
 IsAllowed x (SetGone place moment) = place < length x.asks
 IsAllowed x (IsBack place) = place < length x.asks
 IsAllowed x (Give at) = Unit {0}
+IsAllowed x (Turn at) = Unit {0}
 IsAllowed x (Reach position) = Unit {0}
 IsAllowed x (Tell place what) = IsNextToTell x.asks x.durable (Some (place, what))
 IsAllowed x Purge = Unit {0}
@@ -43,6 +45,7 @@ after_call x (Finish place how now) = end x place how now
 after_call x (SetGone place moment) = set_gone x place moment
 after_call x (IsBack place) = is_back x place
 after_call x (Give at) = give x at
+after_call x (Turn at) = turn x at
 after_call x (Reach position) = reach x position
 after_call x (Tell place what) = heard x place what
 after_call x Purge = purge x
@@ -55,6 +58,7 @@ told_by x (Finish place how now) = []
 told_by x (SetGone place moment) = []
 told_by x (IsBack place) = []
 told_by x (Give at) = []
+told_by x (Turn at) = []
 told_by x (Reach position) = []
 told_by x (Tell place what) = ((ask_at x.asks place).number, what) ∷ []
 told_by x Purge = []

@@ -5,7 +5,7 @@ ghost use Rattle.bay_book.specs.Asks.{ask_at, is_over, holds_class};
 ghost use Rattle.bay_book.specs.Moments.{is_gone_too_long, is_over_limit, due_at, limit_due_at};
 ghost use Rattle.bay_book.specs.Finding.{IsPlaceOf, IsFirst, IsFirstLate, IsLeast, IsInUse};
 ghost use Rattle.bay_book.specs.Telling.{to_tell, IsNextToTell};
-ghost use Rattle.bay_book.specs.Books.{IsSound, nobody, add, restore, skip, hold, end, set_gone, is_back, give, give_one, reach, heard, purge};
+ghost use Rattle.bay_book.specs.Books.{IsSound, nobody, add, restore, skip, hold, end, set_gone, is_back, give, give_one, turn, reach, heard, purge};
 
 use crate::ask::{Ask, End, Outcome, Stage};
 use crate::finding::{
@@ -13,6 +13,7 @@ use crate::finding::{
 };
 use crate::making::{
     asker, back_again, give_all, given, gone_since, hearing, holding, is_done, over, restored,
+    turn_all,
 };
 use crate::telling::next_to_tell;
 use std::alloc::{AllocError, Global};
@@ -198,6 +199,14 @@ impl Book {
         ensures { self.new ≡ give_one self.old place at }
     {
         self.asks[place] = given(self.asks[place], at);
+    }
+
+    /// The journal goes on in a new file, which says of each that holds that it does, and outlives a crash up to this position.
+    pub fn turn(&mut self, at: u64)
+        ensures { self.new ≡ turn self.old at }
+    {
+        turn_all(&mut self.asks, at);
+        self.durable = self.durable.max(at);
     }
 
     /// The journal outlives a crash up to this position.

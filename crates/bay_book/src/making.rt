@@ -1,6 +1,6 @@
 //! What each call makes of an ask.
 ghost use Rattle.std.specs.Prelude.{◌≡◌, map};
-ghost use Rattle.bay_book.specs.Asks.{asker, restored, holding, over, gone_since, back_again, given_mark, given, hearing};
+ghost use Rattle.bay_book.specs.Asks.{asker, restored, holding, over, gone_since, back_again, given_mark, given, turned_mark, turned, hearing};
 ghost use Rattle.bay_book.specs.Asks.{is_over, is_holding, has_heard_end, has_left, is_owed, is_done};
 
 use crate::ask::{Ask, End, Heard, Mark, Outcome, Stage};
@@ -142,6 +142,36 @@ pub(crate) fn give_all(asks: &mut [Ask], at: u64)
 {
     for place in 0..asks.len() {
         asks[place] = given(asks[place], at);
+    }
+}
+
+/// If it holds, the line that says so ends there.
+fn turned_mark(at: u64, stage: Stage, mark: Mark) -> Mark
+    ensures { result ≡ turned_mark at stage mark }
+{
+    match stage {
+        Stage::Waits => mark,
+        Stage::Holds => Mark::At(at),
+        Stage::Over(_) => mark,
+    }
+}
+
+/// So it is with one ask.
+fn turned(ask: Ask, at: u64) -> Ask
+    ensures { result ≡ turned at ask }
+{
+    Ask {
+        hold_line: turned_mark(at, ask.stage, ask.hold_line),
+        ..ask
+    }
+}
+
+/// So it is with each ask.
+pub(crate) fn turn_all(asks: &mut [Ask], at: u64)
+    ensures { asks.new ≡ map (turned at) asks.old }
+{
+    for place in 0..asks.len() {
+        asks[place] = turned(asks[place], at);
     }
 }
 

@@ -16,6 +16,8 @@ use Rattle.bay.specs.declared.bay.NotNoted.{NotNoted}
 use Rattle.bay.specs.Bays.{BayView, with_log, Resumes, Writes, IsWhyNotNoted}
 use Rattle.bay.specs.declared.restoring.NotBack.{NotBack}
 use Rattle.bay.specs.Refusals.{IsWhyNotBack}
+use Rattle.bay.specs.declared.turning.NotTurned.{NotTurned}
+use Rattle.bay.specs.Turning.{Turns, IsWhyNotTurned}
 use Rattle.bay.specs.Standings.{HoldsTold}
 use Rattle.bay.specs.Following.{IsNextMoment}
 use Rattle.bay.specs.Keepers.{IsKeeper}
@@ -30,6 +32,7 @@ use Rattle.bay_c.specs.declared.told.BayOutcome.{BayOutcome}
 use Rattle.bay_c.specs.declared.told.BayStanding.{BayStanding}
 use Rattle.bay_c.specs.Telling.{class_of, terms_of, request_of, outcome_of, standing_of, number_of}
 use Rattle.bay_c.specs.Telling.{refusal_status, not_held_status, not_noted_status, not_back_status, not_back_number}
+use Rattle.bay_c.specs.Telling.{not_turned_status, not_turned_size, not_turned_number}
 
 -- ---- opening
 
@@ -235,3 +238,23 @@ IsDurable position a b told told' status = (status ≡ 0) × (b.log ≡ reaching
 -- what isn't durable is to be handed out again (0)
 abbrev pub HasFailed : BayView → BayView → Unit {0} → Unit {0} → ℕ → Type 0
 HasFailed a b told told' status = (status ≡ 0) × (b ≡ with_log a (failing a.log))
+
+-- ---- a new file
+
+-- the text with which a new file begins, and how long it is; and the number of an ask that may not go on
+pub record NewFile : Type 0 where
+  pub text : List ℕ
+  pub written : ℕ
+  pub fault : ℕ
+
+abbrev pub new_file : List ℕ → ℕ → ℕ → NewFile
+new_file text written fault = record { text = text; written = written; fault = fault }
+
+-- the bay goes on in a new file, and with these classes, and the text with which it begins is in the room (0); or it doesn't, and nothing changed, for this
+-- reason, of which the number is told
+abbrev pub GoesOnIn : List BayClass → ℕ → BayView → BayView → NewFile → NewFile → ℕ → Type 0
+GoesOnIn classes now a b told told' status =
+    ((status ≡ 0) × (text : List ℕ) × Turns (map class_of classes) now text a b × (length text ≤ length told.text)
+    × (told' ≡ new_file (text ++ drop (length text) told.text) (length text) told.fault))
+    ⊎ ((why : NotTurned) × (status ≡ not_turned_status why) × IsWhyNotTurned (map class_of classes) a (length told.text) why × (b ≡ a)
+    × (told' ≡ new_file told.text (not_turned_size told.written why) (not_turned_number told.fault why)))

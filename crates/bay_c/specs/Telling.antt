@@ -19,6 +19,8 @@ use Rattle.bay.specs.declared.bay.NotNoted.TheVariants.{NotHeld as NotNotedHeld,
 use Rattle.bay.specs.declared.restoring.NotBack.{NotBack}
 use Rattle.bay.specs.declared.restoring.NotBack.TheVariants.{NoMemory as NotBackMemory, NoPlace, Line, Another, Classes as NotBackClasses, MayNot}
 use Rattle.bay.specs.declared.telling.Told.{Told}
+use Rattle.bay.specs.declared.turning.NotTurned.{NotTurned}
+use Rattle.bay.specs.declared.turning.NotTurned.TheVariants.{Classes as NotTurnedClasses, NotYet, MayNot as MayNotGoOn, NoRoom, NoMemory as NotTurnedMemory}
 use Rattle.bay.specs.declared.terms.Terms.{Terms}
 use Rattle.bay_c.specs.declared.told.BayClass.{BayClass}
 use Rattle.bay_c.specs.declared.told.BayTerms.{BayTerms}
@@ -125,3 +127,26 @@ not_back_number (Line number) = number
 not_back_number Another = 0
 not_back_number NotBackClasses = 0
 not_back_number (MayNot ask) = ask
+
+abbrev pub not_turned_status : NotTurned → ℕ
+not_turned_status NotTurnedClasses = 22
+not_turned_status NotYet = 8
+not_turned_status (MayNotGoOn ask) = 24
+not_turned_status (NoRoom size) = 6
+not_turned_status NotTurnedMemory = 5
+
+-- how long the text is for which there is no room; else what was told before
+abbrev pub not_turned_size : ℕ → NotTurned → ℕ
+not_turned_size told NotTurnedClasses = told
+not_turned_size told NotYet = told
+not_turned_size told (MayNotGoOn ask) = told
+not_turned_size told (NoRoom size) = size
+not_turned_size told NotTurnedMemory = told
+
+-- the number of the ask that may not go on; else what was told before
+abbrev pub not_turned_number : ℕ → NotTurned → ℕ
+not_turned_number told NotTurnedClasses = told
+not_turned_number told NotYet = told
+not_turned_number told (MayNotGoOn ask) = ask
+not_turned_number told (NoRoom size) = told
+not_turned_number told NotTurnedMemory = told

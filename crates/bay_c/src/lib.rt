@@ -10,6 +10,7 @@ mod reading;
 mod slot;
 mod statuses;
 mod told;
+mod turning;
 mod writing;
 
 pub use handle::{BUSY, Handle, IN_USE, NOT_OPEN};

@@ -1,8 +1,9 @@
 //! The statuses.
 ghost use Rattle.std.specs.Prelude.{◌≡◌};
 ghost use Rattle.bay_c.specs.Telling.{refusal_status, not_held_status, not_opened_status, not_noted_status, not_back_status, not_back_number};
+ghost use Rattle.bay_c.specs.Telling.{not_turned_status, not_turned_size, not_turned_number};
 
-use bay::{NotAsked, NotBack, NotHeld, NotNoted, NotOpened};
+use bay::{NotAsked, NotBack, NotHeld, NotNoted, NotOpened, NotTurned};
 
 /// The status if there is no memory.
 pub(crate) const NO_MEMORY: u32 = 5;
@@ -88,5 +89,44 @@ pub(crate) fn not_back_number(why: NotBack) -> u64
         NotBack::Another => 0,
         NotBack::Classes => 0,
         NotBack::MayNot(ask) => ask,
+    }
+}
+
+/// The status that says why a bay doesn't go on in a new file.
+pub(crate) fn not_turned_status(why: NotTurned) -> u32
+    ensures { result ≡ not_turned_status why }
+{
+    match why {
+        NotTurned::Classes => 22,
+        NotTurned::NotYet => 8,
+        NotTurned::MayNot(_) => 24,
+        NotTurned::NoRoom(_) => NO_ROOM,
+        NotTurned::NoMemory => NO_MEMORY,
+    }
+}
+
+/// How long the text is for which there is no room; else what was told before.
+pub(crate) fn not_turned_size(told: usize, why: NotTurned) -> usize
+    ensures { result ≡ not_turned_size told why }
+{
+    match why {
+        NotTurned::Classes => told,
+        NotTurned::NotYet => told,
+        NotTurned::MayNot(_) => told,
+        NotTurned::NoRoom(size) => size,
+        NotTurned::NoMemory => told,
+    }
+}
+
+/// The number of the ask that may not go on; else what was told before.
+pub(crate) fn not_turned_number(told: u64, why: NotTurned) -> u64
+    ensures { result ≡ not_turned_number told why }
+{
+    match why {
+        NotTurned::Classes => told,
+        NotTurned::NotYet => told,
+        NotTurned::MayNot(ask) => ask,
+        NotTurned::NoRoom(_) => told,
+        NotTurned::NoMemory => told,
     }
 }

@@ -1,6 +1,7 @@
 -- For readers: what those in line want, all together.
-use Rattle.std.specs.Prelude.{◌≡◌, ℕ, ◌<◌, ◌≤◌, nat_le, if◌then◌else◌, true, false, List, length, Option, Some, None}
+use Rattle.std.specs.Prelude.{◌≡◌, ℕ, ◌<◌, ◌≤◌, ◌==◌, nat_le, Bool, ◌&&◌, not, if◌then◌else◌, true, false, List, length, Option, Some, None}
 use Rattle.std.specs.Int.{bit_at}
+use Rattle.std.specs.Int.Bits.{bit_and}
 use Rattle.bay_line.specs.declared.wish.Wish.{Wish}
 use Rattle.bay_line.specs.Wishes.{wish_at, common, is_past}
 use Rattle.bay_line.specs.Lines.{IsLate}
@@ -19,6 +20,10 @@ AreWanted wishes all = IsAllOf (λ w. w.needs) wishes (length wishes) all
 -- the classes of places that somebody in line may take
 abbrev pub AreClasses : List Wish → ℕ → Type 0
 AreClasses wishes all = IsAllOf (λ w. w.classes) wishes (length wishes) all
+
+-- the wish is this ask's, and has more than these instruments
+abbrev pub leaves : ℕ → ℕ → Wish → Bool
+leaves ask uses w = w.ask == ask && not (bit_and w.needs uses == w.needs)
 
 -- the one that is earlier, if there is one
 abbrev pub sooner : Option ℕ → Option ℕ → Option ℕ

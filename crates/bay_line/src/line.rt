@@ -1,8 +1,9 @@
 //! The line.
 ghost use Rattle.std.specs.Prelude.{◌≡◌, ◌<◌, ◌≤◌, length, OnErr, OnOk, IfErr};
+ghost use Rattle.std.specs.List.{list_any};
 ghost use Rattle.bay_line.specs.Lines.{nobody, Below, IsInOrder, asking, IsWhyNot, leaving, gone, TakesLate, IsChosen, LetsIn};
 ghost use Rattle.bay_line.specs.InLine.{SaysInLine};
-ghost use Rattle.bay_line.specs.Wanted.{AreWanted, AreClasses, IsFirstDeadline};
+ghost use Rattle.bay_line.specs.Wanted.{AreWanted, AreClasses, IsFirstDeadline, leaves};
 ghost use Rattle.bay_line.specs.Keepers.{IsKeeper, IsWishFor};
 
 use crate::appending::append;
@@ -66,6 +67,13 @@ impl Line {
         ensures { SaysInLine self.now.wishes ask result }
     {
         wanting::waits(&self.wishes, ask)
+    }
+
+    /// Whether this ask wants more than these instruments, by one of its sets that is in line.
+    pub fn leaves(&self, ask: u64, uses: u64) -> bool
+        ensures { result ≡ list_any (leaves ask uses) self.now.wishes }
+    {
+        wanting::leaves(&self.wishes, ask, uses)
     }
 
     /// The instruments that somebody in line wants.

@@ -1,7 +1,8 @@
 //! What those in line want, all together.
 ghost use Rattle.std.specs.Prelude.{◌≡◌, length};
+ghost use Rattle.std.specs.List.{list_any};
 ghost use Rattle.bay_line.specs.InLine.{SaysInLine};
-ghost use Rattle.bay_line.specs.Wanted.{AreWanted, AreClasses, IsFirstDeadline, sooner};
+ghost use Rattle.bay_line.specs.Wanted.{AreWanted, AreClasses, IsFirstDeadline, leaves, sooner};
 
 use crate::wish::Wish;
 
@@ -37,6 +38,15 @@ pub(crate) fn waits(wishes: &[Wish], ask: u64) -> bool
         }
     }
     false
+}
+
+/// Whether a wish of this ask has more than these instruments.
+pub(crate) fn leaves(wishes: &[Wish], ask: u64, uses: u64) -> bool
+    ensures { result ≡ list_any (leaves ask uses) wishes.now }
+{
+    wishes
+        .iter()
+        .any(|wish| wish.ask == ask && wish.needs & uses != wish.needs)
 }
 
 /// The one that is earlier, if there is one.

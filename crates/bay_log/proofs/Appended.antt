@@ -3,7 +3,7 @@ use Rattle.std.proofs.Common.{◌≡◌, ℕ, zero, suc, ◌+◌, ◌-◌, ◌�
 use Rattle.std.specs.Prelude.{◌&&◌}
 use Rattle.bay_log.specs.declared.line.Line.{Line}
 use Rattle.bay_log.specs.declared.line.Line.TheVariants.{Head, Hold, Back, End, Note}
-use Rattle.bay_log.specs.Lines.{body, sum_of, line_text, sum_after, text_after, no_sum, last_sum, log_text, Fits, is_head, is_none, AreLinesFrom, base_of}
+use Rattle.bay_log.specs.Lines.{body, sum_of, line_text, sum_after, text_after, no_sum, last_sum, log_text, Fits, is_head, is_none, AreLinesFrom, base_of, bay_of}
 use Rattle.bay_log.specs.Kept.{Keeps}
 
 pub sum_both : (s : List ℕ) (a b : List Line) → sum_after s (a ++ b) ≡ sum_after (sum_after s a) b
@@ -96,3 +96,13 @@ keeps_more lines text base sent sum line k fits later room =
         (λ i. k.text i ++ line_text (k.sum i) line)
         ∙ (sym (drop_within (base - base_of lines) (log_text lines) (line_text (last_sum lines) line) (omega (arith, k.within, k.base)))
         ∙ λ i. drop (base - sym b i) (sym t i))
+
+-- ---- the bay
+
+pub bay_more : (lines : List Line) (line : Line) → is_none lines ≡ false → bay_of (lines ++ line ∷ []) ≡ bay_of lines
+bay_more [] line h = cc h
+bay_more (Head bay base next ∷ lines) line h = refl
+bay_more (Hold ask entry ∷ lines) line h = refl
+bay_more (Back from to ∷ lines) line h = refl
+bay_more (End ask how at ∷ lines) line h = refl
+bay_more (Note ask text ∷ lines) line h = refl

@@ -2,7 +2,7 @@
 use Rattle.std.specs.Prelude.{◌≡◌, ℕ, ◌+◌, ◌-◌, ◌≤◌, ◌<◌, ◌^◌, false, List, length, drop}
 use Rattle.bay_log.specs.declared.line.Line.{Line}
 use Rattle.bay_log.specs.declared.log.Log.TheInside.{Inside}
-use Rattle.bay_log.specs.Lines.{AreLines, log_text, last_sum, base_of, is_none}
+use Rattle.bay_log.specs.Lines.{AreLines, log_text, last_sum, base_of, bay_of, is_none}
 
 -- of these lines: the text that is kept is the end of the text of all lines
 pub record Keeps (all : List Line) (kept : List ℕ) (from handed : ℕ) (last : List ℕ) : Type 0 where
@@ -15,5 +15,7 @@ pub record Keeps (all : List Line) (kept : List ℕ) (from handed : ℕ) (last :
   pub sent : handed ≤ length kept
   pub sum : last ≡ last_sum all
 
-abbrev pub IsLog : Inside → Type 0
-IsLog l = Keeps l.past.lines l.text.items l.base l.sent l.sum
+-- and it is the log of this bay
+pub record IsLog (l : Inside) : Type 0 where
+  pub keeps : Keeps l.past.lines l.text.items l.base l.sent l.sum
+  pub bay : bay_of l.past.lines ≡ l.bay

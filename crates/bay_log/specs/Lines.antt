@@ -104,6 +104,11 @@ abbrev pub is_none : List Line → Bool
 is_none [] = true
 is_none (line ∷ lines) = false
 
+-- the first line is a head
+abbrev pub has_head : List Line → Bool
+has_head [] = false
+has_head (line ∷ lines) = is_head line
+
 -- each line fits; the first of a file, and no other, is its head
 abbrev pub AreLinesFrom : Bool → List Line → Type 0
 AreLinesFrom first [] = Unit {0}
@@ -116,3 +121,8 @@ AreLines lines = AreLinesFrom true lines
 abbrev pub base_of : List Line → ℕ
 base_of (Head bay base next ∷ lines) = base
 base_of lines = 0
+
+-- the hash of the bay, by the head
+abbrev pub bay_of : List Line → List ℕ
+bay_of (Head bay base next ∷ lines) = bay
+bay_of lines = []

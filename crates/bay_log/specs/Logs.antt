@@ -3,7 +3,7 @@ use Rattle.std.specs.Prelude.{◌≡◌, ℕ, ◌+◌, ◌-◌, ◌≤◌, ◌<�
 use Rattle.bay_log.specs.declared.line.Line.{Line}
 use Rattle.bay_log.specs.declared.line.Line.TheVariants.{Head}
 use Rattle.bay_log.specs.declared.reading.Found.{Found}
-use Rattle.bay_log.specs.Lines.{AreLines, log_text, base_of, is_none}
+use Rattle.bay_log.specs.Lines.{AreLines, log_text, base_of, bay_of, is_none}
 
 -- Positions count the bytes of all files from the first: this one begins at the base of its head.
 pub record LogView : Type 0 where
@@ -25,6 +25,10 @@ unsent_of log = drop (log.sent - base_of log.lines) (log_text log.lines)
 abbrev pub beginning : List ℕ → ℕ → ℕ → LogView
 beginning bay base next = record { lines = Head bay base next ∷ []; durable = base; sent = base }
 
+-- the log of a new file that goes on from this one, of the same bay
+abbrev pub turning : LogView → ℕ → LogView
+turning log next = beginning (bay_of log.lines) (end_of log) next
+
 -- behind what was read
 abbrev pub resumed : Found → LogView
 resumed found = (let place = base_of found.lines.items + found.used in record { lines = found.lines.items; durable = place; sent = place })
@@ -41,6 +45,10 @@ sending log = record log { sent = end_of log }
 -- no further than what was handed out
 abbrev pub reaching : LogView → ℕ → LogView
 reaching log position = record log { durable = max log.durable (min position log.sent) }
+
+-- all of it was handed out, and is durable
+abbrev pub settled : LogView → LogView
+settled log = record log { durable = end_of log; sent = end_of log }
 
 -- what isn't durable is handed out again
 abbrev pub failing : LogView → LogView

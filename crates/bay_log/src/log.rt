@@ -1,7 +1,7 @@
 //! The journal as it is written.
-ghost use Rattle.std.specs.Prelude.{◌≡◌, ◌+◌, ◌<◌, ◌^◌, ◌∷◌, [], true, false, length, IfOk, OnOk, OnErr, IfSome, IsNone, ◌↔◌};
-ghost use Rattle.bay_log.specs.Lines.{log_text, base_of, is_head, is_none, Fits};
-ghost use Rattle.bay_log.specs.Logs.{end_of, unsent_of, beginning, resumed, HasNoPlace, adding, sending, reaching, failing, IsStanding};
+ghost use Rattle.std.specs.Prelude.{◌≡◌, ◌+◌, ◌<◌, ◌^◌, ◌∷◌, [], true, false, None, length, IfOk, OnOk, OnErr, IfSome, IsNone, ◌↔◌};
+ghost use Rattle.bay_log.specs.Lines.{log_text, base_of, bay_of, has_head, is_head, is_none, Fits};
+ghost use Rattle.bay_log.specs.Logs.{end_of, unsent_of, beginning, turning, resumed, HasNoPlace, adding, sending, reaching, settled, failing, IsStanding};
 ghost use Rattle.bay_log.specs.Reads.{IsSound};
 
 use crate::line::Line;
@@ -23,6 +23,8 @@ pub struct Log {
     sent: usize,
     /// The sum of the last line.
     sum: [u8; 8],
+    /// The hash of the bay.
+    bay: [u8; 32],
     /// All lines, for contracts alone.
     past: Past,
 }
@@ -50,6 +52,17 @@ fn base_of(lines: &[Line]) -> u64
     }
 }
 
+/// The hash of the bay, if the first line is a head.
+fn bay_of(lines: &[Line]) -> Option<[u8; 32]>
+    ensures some { IfSome result (λ bay. bay_of lines.now ≡ bay) }
+    ensures none { result ≡ None → has_head lines.now ≡ false }
+{
+    match lines.first() {
+        Some(Line::Head { bay, .. }) => Some(*bay),
+        _ => None,
+    }
+}
+
 impl Log {
     /// The log of a new file: its head alone, of a bay with this hash, behind so many bytes of the files before it.
     pub fn begin(alloc: Global, bay: [u8; 32], base: u64, next: u64) -> Result<Log, AllocError>
@@ -66,8 +79,16 @@ impl Log {
             base,
             sent: 0,
             sum,
+            bay,
             past: Past::of(&head),
         })
+    }
+
+    /// The log of a new file that goes on from this one: its head alone, of the same bay.
+    pub fn turn(&self, alloc: Global, next: u64) -> Result<Log, AllocError>
+        ensures { IfOk result (λ log. log ≡ turning self.now next) }
+    {
+        Log::begin(alloc, self.bay, self.position(), next)
     }
 
     /// The log goes on behind what was read of its file, which is durable up to there. None, if no line was read, or if there is no room for a
@@ -77,9 +98,10 @@ impl Log {
         ensures log { IfSome result (λ log. log ≡ resumed found.now) }
         ensures none { IsNone result ↔ HasNoPlace found.now }
     {
+        let bay = bay_of(&found.lines)?;
         let base = base_of(&found.lines);
         let used = found.used as u64;
-        if found.lines.is_empty() || used > u64::MAX - base {
+        if used > u64::MAX - base {
             return None;
         }
         Some(Log {
@@ -87,6 +109,7 @@ impl Log {
             base: base + used,
             sent: 0,
             sum: found.sum,
+            bay,
             past: Past::read(found),
         })
     }
@@ -149,6 +172,15 @@ impl Log {
         self.text.drain(..many);
         self.base += many as u64;
         self.sent -= many;
+    }
+
+    /// All lines so far are in the file, and durable.
+    pub fn settle(&mut self)
+        ensures { self.new ≡ settled self.old }
+    {
+        let position = self.position();
+        self.send();
+        self.reach(position);
     }
 
     /// The file couldn't be written: what isn't durable is handed out again.

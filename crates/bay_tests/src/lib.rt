@@ -12,3 +12,5 @@ mod lines;
 mod logs;
 #[cfg(test)]
 mod rows;
+#[cfg(test)]
+mod turns;

@@ -1,0 +1,16 @@
+use Rattle.std.proofs.Common.{◌∙◌, List, map, max, ap, sym, subst}
+use Rattle.std.proofs.lemmas.List.{with_items_is}
+use Rattle.bay_book.specs.declared.ask.Ask.{Ask}
+use Rattle.bay_book.specs.Asks.{turned}
+use Rattle.bay_book.specs.Books.{IsSound}
+use Rattle.bay_book.proofs.Sound.{sound_turn}
+use Rattle.bay_book.proofs.book.Book.turn.Goals as goal
+
+pub invariant_of-self : goal.invariant_of-self
+invariant_of-self c =
+    let x = c.self.inside in let at = c.args.at in
+    let items = with_items_is x.asks c.turn_all.new.asks (c.turn_all.auto.asks ∙ c.deref_mut.ensures.len) in
+    subst (λ (z : List Ask). IsSound (record { asks = z; next = x.next; durable = c.max-self-inside.result }))
+    (sym (items ∙ (c.turn_all.ensures ∙ ap (map (turned at)) c.deref_mut.ensures.value)))
+    (subst (λ n. IsSound (record { asks = map (turned at) x.asks.items; next = x.next; durable = n })) (sym c.max-self-inside.ensures)
+    (sound_turn (record { asks = x.asks.items; next = x.next; durable = x.durable }) at c.self.invariant))
