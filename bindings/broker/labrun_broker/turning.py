@@ -78,9 +78,10 @@ class Turns:
 
     async def turn(self, classes: Classes, then: Callable[[], None]) -> None:
         """The bay goes on with these classes; `then` is called at that moment. Refusal: the machine doesn't take them. JournalError: the bay
-        isn't quiet, and nothing has changed; or all has, and isn't on the disk yet."""
-        while self._wish is not None or self.is_under_way:
-            await (asyncio.sleep(0.01) if self._wish is not None else self.stands())
+        isn't quiet, and nothing has changed; or all has, and isn't on the disk yet. One at a time may call it."""
+        await self.stands()
+        if self.is_under_way:
+            raise JournalError(self._shell.path, f"{self._shell.is_wrong()}: nothing has changed")
         wish = self._wish = Wish(classes, then)
         try:
             self._hushes()

@@ -15,6 +15,8 @@ from unittest import mock
 import grpc
 import labrun
 from labrun_broker import broker_pb2 as pb
+from labrun_broker.applying import apply
+from labrun_broker.errors import CantChange
 from tests import day_checks as checks
 from tests import day_model as rules
 from tests.day_checks import Wrong
@@ -44,6 +46,7 @@ class Day:
         self.before: list[dict[str, Any]] = []
         self.kept_grace: Optional[int] = 0
         self.read_to, self.read_of = 0, b""
+        self.applying: Optional[tuple[Any, rules.File]] = None
         self.counts: Counter[str] = Counter()
         self.power = True, 0.5
         self.rules: Optional[Rules] = None
@@ -220,7 +223,37 @@ class Day:
     # ---- what happens
 
     def same(self) -> None:
+        if self.applying is not None and self.life.keeping.bay is not self.applying[0]:
+            self.file, self.applying = self.applying[1], None
+            self.rules.applies(self.file)
         checks.same(self)
+
+    def applies(self, file: rules.File) -> None:
+        """An operator changes the bay; nobody asks anything before that is answered."""
+        # (where a sync takes most of a second, no moment may be quiet in time)
+        before, is_sound, task = self.life.keeping.bay, self.disk.mode == "sound" and self.disk.latency < 100, None
+        was_in_the_way = self.rules.is_in_the_way(file)
+        self.applying = before, file
+        with contextlib.suppress(Killed):
+            task = self.life.loop.create_task(apply(self.life.keeping, file.text(), "eve", False))
+        end = self.halves + 4 * rules.DISK
+        self._comes(self.halves)
+        while not self.disk.is_dead and task is not None and not task.done():
+            if self.halves > end:
+                raise Wrong(7, f"a bay isn't changed: {task}")
+            self._comes(max(self.life.loop.next_moment(), self.halves + 1))
+        self.applying = None
+        if self.disk.is_dead or task is None:
+            return
+        fault, has_changed = task.exception(), self.life.keeping.bay is not before
+        self.counts["changes" if has_changed else "changes refused"] += 1
+        if isinstance(fault, CantChange):
+            if has_changed or not (was_in_the_way or self.rules.is_in_the_way(file)):
+                raise Wrong(9, f"nobody is in the way, and it is refused: {fault}")
+        elif fault is not None and (is_sound and self.disk.mode == "sound" or not isinstance(fault, labrun.JournalError)):
+            raise Wrong(9, f"it isn't changed: {fault!r}")
+        elif fault is None and was_in_the_way and self.rules.is_in_the_way(file):
+            raise Wrong(9, "somebody is in the way, and it has changed")
 
     def goes(self, does: Callable[[], None], says: Callable[[], None]) -> None:
         """Somebody does something; what the rules say of it; and whether it is the same."""

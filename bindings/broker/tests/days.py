@@ -13,7 +13,8 @@ What clients, operators, the disk and the clock do is drawn beforehand, and so a
  5. No record is without its end, and none is there twice.
  6. Whoever waits isn't passed more often than the bay says, and of those that want the same who asked first is served first.
  7. Nothing hangs: each ask is answered once the instruments are free and the broker is up.
- 8. Status shows who holds, who waits for whom, and who is gone since when, as it is."""
+ 8. Status shows who holds, who waits for whom, and who is gone since when, as it is.
+ 9. A bay that changes while it runs does so as a whole, or not at all, and only if nobody is in the way."""
 
 from __future__ import annotations
 
@@ -61,8 +62,8 @@ def wish_by(dice: random.Random, client: int) -> Step:
 def step_by(dice: random.Random) -> Step:
     client = dice.randrange(CLIENTS)
     kind = dice.choices(
-        ["wish", "burst", "note", "let_go", "ping", "cut", "ends", "release", "race", "passes", "disk", "kill", "stops", "wall"],
-        [14, 3, 5, 12, 4, 6, 2, 3, 8, 14, 5, 5, 1.5, 0.5],
+        ["wish", "burst", "note", "let_go", "ping", "cut", "ends", "release", "race", "passes", "disk", "kill", "stops", "wall", "applies"],
+        [14, 3, 5, 12, 4, 6, 2, 3, 8, 14, 5, 5, 1.5, 0.5, 2],
     )[0]  # fmt: skip
     if kind == "race":
         first, second = dice.sample(range(CLIENTS), 2)
@@ -78,7 +79,9 @@ def step_by(dice: random.Random) -> Step:
     if kind == "kill":
         how = dice.choice(["callbacks", "callbacks", "before", "middle", "behind"])
         return kind, how, dice.choice([0, 1, 2, 3, 4, 5, 7, 10, 20]), dice.random() < 0.6, dice.random(), dice.random() < 0.3
-    return (kind, dice.random() < 0.5) if kind == "stops" else (kind, dice.choice([-10**9, -5000, 5000, 10**9]))
+    if kind in ("stops", "applies"):
+        return kind, dice.random() < 0.5
+    return kind, dice.choice([-10**9, -5000, 5000, 10**9])
 
 
 def one_by(dice: random.Random, client: int) -> Step:
@@ -237,6 +240,10 @@ class Doing:
 
     def stops(self, is_other: bool) -> None:
         self.day.stops(self.next_file(is_other))
+
+    def applies(self, is_last: bool) -> None:
+        """The bay gets another of the day's files, while it runs."""
+        self.day.applies(self.files[-1 if is_last else (self.at + 1) % len(self.files)])
 
     def wall(self, jump: int) -> None:
         self.day.wall += jump

@@ -11,6 +11,7 @@ from typing import Optional
 from unittest import mock
 
 from labrun import JournalError
+from labrun.store import FileStore
 from labrun_broker.applying import apply, changes
 from labrun_broker.bay import bay_of
 from labrun_broker.errors import BadWish, CantChange, NoInstrument
@@ -180,6 +181,30 @@ class Applied(OnApplied):
             self.assertEqual(keeping.bay.guests, 4)
             may.set()
             await holds
+        await apply(keeping, MORE, "eve", False)
+        self.assertEqual(keeping.bay.guests, 6)
+
+
+    async def test_while_a_new_file_fails(self) -> None:
+        """Nothing more changes before it stands, and that is said at once."""
+        keeping, is_bad = await self.opened(self.folder()), True
+        real = FileStore.anew
+
+        def fails(store: FileStore, text: bytes) -> None:
+            if is_bad:
+                raise OSError(28, "No space left on device")
+            real(store, text)
+
+        with mock.patch.object(FileStore, "anew", fails):
+            await apply(keeping, BAY.replace("count = 4", "count = 5"), "eve", False)
+            self.assertEqual(keeping.bay.guests, 5)
+            async with asyncio.timeout(5):
+                with self.assertRaisesRegex(JournalError, "a write failed .No space left on device.: nothing has changed"):
+                    await apply(keeping, MORE, "eve", False)
+            self.assertEqual(keeping.bay.guests, 5)
+            is_bad = False
+            while keeping._shell.turns.is_under_way:
+                await asyncio.sleep(0.01)
         await apply(keeping, MORE, "eve", False)
         self.assertEqual(keeping.bay.guests, 6)
 

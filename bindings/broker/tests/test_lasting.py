@@ -124,7 +124,7 @@ class Clients(OnBroker):
             bay = BAY if not words else BAY.replace('"north"', '"north"\ngone = "release"')
             with self.subTest(words):
                 broker = self.broker(bay, *words)
-                holds = broker.started("hold", "scope", "--limit", "6s", "--", "sleep", "60")
+                holds = broker.started("hold", "scope", "--limit", "12s", "--", "sleep", "60")
                 other = self.lab(broker)
                 with other.hold("supply"):
                     pass
@@ -134,8 +134,8 @@ class Clients(OnBroker):
                     pass
                 _, said = holds.communicate(timeout=LIMIT)
                 self.assertEqual(holds.returncode, 76)
-                self.assertRegex(said, r"labrun-broker: guest-1 may hold scope for 6 s, which is over in 0.[3-6] s")
-                self.assertRegex(said, r"taken away by the broker, because it held for longer than its limit of 6 s, .*; the command is ended")
+                self.assertRegex(said, r"labrun-broker: guest-1 may hold scope for 12 s, which is over in [01].[0-9] s")
+                self.assertRegex(said, r"taken away by the broker, because it held for longer than its limit of 12 s, .*; the command is ended")
 
 
 if __name__ == "__main__":
