@@ -5,6 +5,8 @@ Whether it can be is for the bay's machine to say; here stands only why not."""
 
 from __future__ import annotations
 
+import asyncio
+import builtins
 import functools
 from dataclasses import replace
 from typing import TYPE_CHECKING, Iterator, Optional, Sequence
@@ -17,6 +19,7 @@ from .errors import BadWish, CantChange
 from .places import Places
 from .standing import Standings
 from .texts import span
+from .turning import STANDS
 
 if TYPE_CHECKING:
     from .keeping import Keeping
@@ -155,7 +158,10 @@ async def keeps(keeping: Keeping, places: Places) -> None:
     state = keeping._opened.state
     if state is not None:
         try:
-            await keeping._shell.runs(functools.partial(state.keeps, places))
+            async with asyncio.timeout(STANDS):
+                await keeping._shell.runs(functools.partial(state.keeps, places))
+        except builtins.TimeoutError:
+            raise JournalError(state.store.path, f"the disk doesn't answer for {STANDS:g} s, and what was to be written may be there later") from None
         except OSError as fault:
             raise JournalError(state.store.path, f"the bay's names couldn't be written: {fault.strerror or fault}") from None
     keeping.places = places

@@ -129,7 +129,7 @@ class Turns:
             at = shell.written
             shell.works(records.syncs, lambda fault: self._is_recorded(at, fault))
         else:
-            self._opens(f"{records.path} couldn't be written, and would lose what the journal has: nothing has changed")
+            self._opens(f"{records.path} couldn't be written, and would lose what the journal has, until the broker begins again")
 
     def _is_recorded(self, at: int, fault: Optional[Exception]) -> None:
         if fault is None:

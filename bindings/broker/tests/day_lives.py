@@ -231,7 +231,8 @@ class Day:
     def applies(self, file: rules.File) -> None:
         """An operator changes the bay; nobody asks anything before that is answered."""
         # (where a sync takes most of a second, no moment may be quiet in time)
-        before, is_sound, task = self.life.keeping.bay, self.disk.mode == "sound" and self.disk.latency < 100, None
+        is_slow = self.disk.latency > 100 or any(end > self.halves + 200 for end, _ in self.life.loop._ends)
+        before, is_sound, task = self.life.keeping.bay, self.disk.mode == "sound" and not is_slow and not self.has_bad_disk, None
         was_in_the_way = self.rules.is_in_the_way(file)
         self.applying = before, file
         with contextlib.suppress(Killed):
@@ -242,6 +243,8 @@ class Day:
             if self.halves > end:
                 raise Wrong(7, f"a bay isn't changed: {task}")
             self._comes(max(self.life.loop.next_moment(), self.halves + 1))
+        if not self.disk.is_dead and self.halves % 2:
+            self._comes(self.halves + 1)
         self.applying = None
         if self.disk.is_dead or task is None:
             return

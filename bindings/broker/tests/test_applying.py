@@ -177,6 +177,8 @@ class Applied(OnApplied):
             holds = asyncio.create_task(keeping.hold(Wish(("scope",)), owner))
             await asyncio.sleep(0.05)
             with self.assertRaisesRegex(JournalError, "the bay has no quiet moment, or the disk doesn't answer: nothing has changed"):
+                await apply(keeping, BAY.replace("count = 4", "count = 5"), "eve", False)
+            with mock.patch("labrun_broker.applying.STANDS", 0.1), self.assertRaisesRegex(JournalError, "the disk doesn't answer for 0.1 s"):
                 await apply(keeping, MORE, "eve", False)
             self.assertEqual(keeping.bay.guests, 4)
             may.set()
