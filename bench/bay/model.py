@@ -201,12 +201,16 @@ class Bay:
             self._line(f"end {it.number:016x} {it.how} {it.since:016x}")
             it.end_line = len(self.text)
         for it in [it for it in self.asks if it.hold_line == DUE]:
-            limit = "-" * 16 if it.limit is None else f"{it.limit:016x}"
-            its = f"{it.owner:032x} {it.since:016x} {limit} {it.asked:016x} {it.token:016x}"
-            self._line(f"hold {it.number:016x} {it.kind:08x} {it.needs:016x} {its}")
+            self.writes_hold(it)
             it.hold_line = len(self.text)
         text, self.sent = self.text[self.sent :], len(self.text)
         return text, len(self.text)
+
+
+    def writes_hold(self, it: Ask) -> None:
+        limit = "-" * 16 if it.limit is None else f"{it.limit:016x}"
+        its = f"{it.owner:032x} {it.since:016x} {limit} {it.asked:016x} {it.token:016x}"
+        self._line(f"hold {it.number:016x} {it.kind:08x} {it.needs:016x} {its}")
 
     def durable(self, position: int) -> None:
         self.durable_to = max(self.durable_to, min(position, self.sent))

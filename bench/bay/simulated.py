@@ -4,11 +4,12 @@ without a library, as `./preview broker` has it. It is slow where many wait, and
 from __future__ import annotations
 
 import hashlib
+from dataclasses import replace
 from typing import Any, Callable, Optional, Sequence
 
 from labrun import machine
 from labrun.machine import ANOTHER, MAY_NOT, NEVER, UNSOUND, Refusal, Standing, Terms, Told
-from model import HOLDS, OVER, Ask, Bay, Refused, Rules
+from model import DUE, HOLDS, NONE, OVER, Ask, Bay, Refused, Rules
 
 STATUS = {
     "number": machine.NUMBER,
@@ -23,7 +24,8 @@ STATUS = {
 }
 # in the order of their numbers
 WHAT = ["holds", "let_go", "left", "lapsed", "not_written", "limit", "grace", "taken_away", "replaced", "stopped", "waits"]
-MOST_BYTES = 500  # of a note
+MOST_BYTES, MOST_CLASSES = 500, 32  # of a note
+_NEXT = slice(103, 119)  # of a head
 
 
 class Machine:
@@ -33,18 +35,48 @@ class Machine:
 
     def __init__(self, classes: Sequence[tuple[int, int]], terms: Terms, journal: bytes = b"", now: int = 0) -> None:
         rules = Rules(list(classes), terms.overtakes, terms.line, _moment(terms.grace), _moment(terms.disk), terms.keeps, terms.bay)
-        self.used = journal.rfind(b"\n") + 1
+        self.used, self.base = journal.rfind(b"\n") + 1, machine.base_of(journal)
         if journal:
             _is_sound(journal[: self.used], rules)
         self._bay = Bay.resumed(rules, journal, now) if journal else Bay(rules)
+        if journal:
+            self._bay.next = max(self._bay.next, int(journal[_NEXT], 16))
         self._allows(rules)
 
     def _allows(self, rules: Rules) -> None:
+        """Those that hold, and those that wait."""
         held = [it for it in self._bay.asks if it.stage == HOLDS]
-        for it in held:
+        for it in self._bay.asks:
             uses, places = rules.classes[it.kind] if it.kind < len(rules.classes) else (0, 0)
-            if it.needs & ~uses or sum(one.kind == it.kind and one.number <= it.number for one in held) > places:
+            wanted = [it.needs] if it.stage == HOLDS else [one.needs for one in self._bay.line if one.ask == it.number]
+            if any(needs & ~uses for needs in wanted):
                 raise Refusal(MAY_NOT, it.number)
+            if it.stage == HOLDS and sum(one.kind == it.kind and one.number <= it.number for one in held) > places:
+                raise Refusal(MAY_NOT, it.number)
+
+    def turn(self, classes: Sequence[tuple[int, int]], now: int) -> bytes:
+        bay, rules = self._bay, replace(self._bay.rules, classes=list(classes))
+        if len(classes) > MOST_CLASSES:
+            raise Refusal(machine.NO_CLASS)
+        if rules.keeps and (bay.durable_to < len(bay.text) or any(DUE in (it.hold_line, it.end_line) for it in bay.asks)):
+            raise Refusal(machine.NOT_NOW)
+        self._allows(rules)
+        bay.rules = rules
+        if rules.keeps:
+            self._turns(bay)
+        bay.time(now)
+        return bay.text if rules.keeps else b""
+
+    def _turns(self, bay: Bay) -> None:
+        self.base += len(bay.text)
+        bay.text, bay.sum = b"", bytes(8)
+        bay._line(f"bay {bay.rules.head.hex()} {self.base:016x} {bay.next:016x}")
+        for it in bay.asks:
+            if it.stage == HOLDS:
+                bay.writes_hold(it)
+            # (what was durable is, wherever it stood)
+            it.hold_line, it.end_line = (NONE if one == NONE else 0 for one in (it.hold_line, it.end_line))
+        bay.sent = bay.durable_to = len(bay.text)
 
     def free(self) -> None:
         pass
@@ -77,7 +109,7 @@ class Machine:
     def note(self, number: int, text: bytes) -> int:
         if len(text) > MOST_BYTES or b"\n" in text or b"\r" in text:
             raise Refusal(MAY_NOT)
-        return int(self._calls(self._bay.note, number, text))
+        return self.base + int(self._calls(self._bay.note, number, text))
 
     def _calls(self, call: Callable[..., Any], *given: Any) -> Any:
         try:
@@ -95,10 +127,11 @@ class Machine:
         self._bay.stop(now)
 
     def journal(self) -> tuple[bytes, int]:
-        return self._bay.journal()
+        text, position = self._bay.journal()
+        return text, self.base + position
 
     def durable(self, position: int) -> None:
-        self._bay.durable(position)
+        self._bay.durable(max(0, position - self.base))
 
     def failed(self) -> None:
         self._bay.failed()

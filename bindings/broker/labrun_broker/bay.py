@@ -3,6 +3,7 @@
     bay = "north"
     instruments = ["scope", "supply", "load-1", "load-2"]
     gone = "keep"                       # or "release": what becomes of a session whose client is gone for longer than the grace
+    limit = "8h"                        # for how long a session may hold once others wait for what it has; without, for ever
     overtakes = 16                      # so many sessions may go before one that asks; without, as many as there are stations and guests
 
     [stations]
@@ -12,6 +13,10 @@
     [guests]
     count = 8                           # so many hold at once; more may wait
     may_use = ["scope", "supply"]       # without this line: all
+    limit = "30min"                     # of guests; without, the bay's
+
+    [station_limits]
+    radio = "3d"                        # of this station; without, the bay's
 
     [tags]                              # `tag:precise` is one of these, `2 of tag:precise` two
     precise = ["scope", "load-1"]
@@ -34,13 +39,17 @@ import tomllib
 from dataclasses import dataclass, field
 from typing import Any, Optional, Union
 
+from .texts import span_of
+
 # what the library can take (the guests are a class, as each station is one, of 32); of guests, as many as a status can show
 MOST_STATIONS, MOST_INSTRUMENTS, MOST_GUESTS, NAME_LENGTH = 31, 64, 1000, 64
 MOST_NUMBER = 1000000
 LABEL_LENGTH = 200
+MOST_SECONDS = 1e9
 A_NAME = f"up to {NAME_LENGTH} letters, digits, `-`, `_` and `.`, first a letter"
 
 GONE = ("keep", "release")
+KEYS = ("bay", "instruments", "gone", "limit", "overtakes", "stations", "guests", "station_limits", "limits", "tags", "labels")
 
 Path = Union[str, "os.PathLike[str]"]
 
@@ -68,6 +77,10 @@ class Bay:
     overtakes: Optional[int] = None
     tags: dict[str, tuple[str, ...]] = field(default_factory=dict)
     labels: dict[str, str] = field(default_factory=dict)
+    # for how many seconds a session may hold while others wait for what it has: the bay's, and those of whom it isn't for
+    limit: Optional[float] = None
+    guests_limit: Optional[float] = None
+    station_limits: dict[str, float] = field(default_factory=dict)
 
     @property
     def guest_names(self) -> tuple[str, ...]:
@@ -136,7 +149,7 @@ class _Reader:
         self.given, self.faults = given, list[str]()
 
     def bay(self) -> Bay:
-        self.knows("", self.given, ("bay", "instruments", "gone", "overtakes", "stations", "guests", "limits", "tags", "labels"))
+        self.knows("", self.given, KEYS)
         name = self.given.get("bay", "bay")
         if not isinstance(name, str) or not re.fullmatch(r"[\w.-]{1,64}", name):
             self.fault("bay", "a name of up to 64 letters, digits, `-`, `_` or `.` is wanted")
@@ -150,7 +163,8 @@ class _Reader:
             self.fault("gone", '"keep" or "release" is wanted')
         overtakes = self.number("overtakes", self.given["overtakes"], 0) if "overtakes" in self.given else None
         tags, labels = self.tags(instruments), self.labels(instruments)
-        bay = Bay(str(name), instruments, stations, guests, guests_use, str(gone), self.limits(), overtakes, tags, labels)
+        its = name, instruments, stations, guests, guests_use, gone, self.limits(), overtakes, tags, labels
+        bay = Bay(*its, *self.spans(stations))
         self.fits(bay)
         return bay
 
@@ -203,7 +217,7 @@ class _Reader:
 
     def guests(self, instruments: tuple[str, ...]) -> tuple[int, tuple[str, ...]]:
         table = self.table("guests")
-        self.knows("guests.", table, ("count", "may_use"))
+        self.knows("guests.", table, ("count", "may_use", "limit"))
         count = self.number("guests.count", table.get("count", 0), 0, MOST_GUESTS)
         uses = self.uses("guests.may_use", table["may_use"], instruments) if "may_use" in table else instruments
         return count, uses
@@ -221,6 +235,23 @@ class _Reader:
             else:
                 found[name] = label
         return found
+
+    def spans(self, stations: dict[str, tuple[str, ...]]) -> tuple[Optional[float], Optional[float], dict[str, float]]:
+        """The bay's limit, the guests', and the stations'."""
+        of = self.table("station_limits")
+        for name in of:
+            if name not in stations:
+                self.fault(f"station_limits.{name}", "there is no such station")
+        its = {name: span for name, given in of.items() if (span := self.span(f"station_limits.{name}", given)) is not None}
+        return self.span("limit", self.given.get("limit")), self.span("guests.limit", self.table("guests").get("limit")), its
+
+    def span(self, key: str, given: object) -> Optional[float]:
+        if given is None:
+            return None
+        if isinstance(given, bool) or not isinstance(given, (int, str)) or not 0 < (span := span_of(str(given)) or 0) <= MOST_SECONDS:
+            self.fault(key, 'a span is wanted, as "30min", "2h" or "3d", or so many seconds')
+            return None
+        return span
 
     def number(self, key: str, given: object, least: int, most: int = MOST_NUMBER) -> int:
         # (of one that is too large for the library `fits` says more)

@@ -69,6 +69,8 @@ class Lab:
             "Status": (self._channel.unary_unary, pb.StatusWish, pb.Bay),
             "Watch": (self._channel.unary_stream, pb.StatusWish, pb.Bay),
             "Release": (self._channel.unary_unary, pb.ReleaseWish, pb.Released),
+            "Apply": (self._channel.unary_unary, pb.ApplyWish, pb.Applied),
+            "Outage": (self._channel.unary_unary, pb.OutageWish, pb.Noted),
             "Hold": (self._channel.stream_stream, pb.Ask, pb.Told),
         }
         self._methods = {name: kind(SERVICE + name, wish.SerializeToString, answer.FromString) for name, (kind, wish, answer) in kinds.items()}
@@ -90,10 +92,12 @@ class Lab:
 
     def hold(
         self, *instruments: str, timeout: Optional[float] = None, any_of: Iterable[Union[str, Iterable[str]]] = (), station: Optional[str] = None,
-        waits: Optional[Callable[[str], None]] = None,
+        waits: Optional[Callable[[str], None]] = None, limit: Optional[float] = None, warns: Optional[Callable[[str], None]] = None,
     ) -> Held:
         """A session of these instruments, or of one of the sets `any_of`: `with lab.hold("scope", "supply"):`, or `async with`. After `timeout`
-        seconds TimeoutError says who keeps it waiting, and it is given up. `waits` is called with a line whenever it is known for whom it waits."""
+        seconds TimeoutError says who keeps it waiting, and it is given up. `waits` is called with a line whenever it is known for whom it waits. With a
+        `limit` it may be taken away once it has held for so many seconds and somebody waits for what it has; `warns` is called with a line before
+        the limit is over, be it this one or the bay's, on another thread."""
         if timeout is not None and not timeout >= 0:
             raise BadWish(f"a timeout of {timeout:g} s; it is 0 or more")
         if any_of and isinstance(any_of, str):
@@ -101,11 +105,16 @@ class Lab:
         choices = [pb.Instruments(names=(it,) if isinstance(it, str) else tuple(it)) for it in any_of]
         wish = pb.Wish(instruments=instruments, any_of=choices, station=self.station if station is None else station, by=self.by)
         wish.wants_waits, wish.pings = waits is not None, True
-        return Held(self, wish, timeout, waits)
+        if limit is not None:
+            wish.limit = limit
+        wish.wants_warning = True
+        held = Held(self, wish, timeout, waits)
+        held.on_warning = warns
+        return held
 
     def _resumed(self, of: Quick, ticket: str, waits: bool) -> Held:
         """A session that holds on a stream which is of another client, or was cut."""
-        held = Held(self, pb.Wish(instruments=of.instruments, ticket=ticket, by=self.by), None, None)
+        held = Held(self, pb.Wish(instruments=of.instruments, ticket=ticket, by=self.by, wants_warning=True), None, None)
         held.station, held.number, held.token = of.station, of.number, of.token
         self._run(held._resumes(waits))
         return held
@@ -144,6 +153,20 @@ class Lab:
         """Ends the session that a station holds, for its owner; with a number, no other one. First see that nobody is at the instruments."""
         wish = pb.ReleaseWish(station=station, by=self.by, session=session)
         return tuple(self._run(self._unary("Release", wish)).instruments)
+
+    def apply(self, bay: str, only_check: bool = False) -> tuple[str, ...]:
+        """The bay goes on as this text has it, a TOML file's, while sessions hold and wait; what has changed, or would. BrokerError: nothing has,
+        because somebody holds or waits for what is gone, or the text is no bay."""
+        wish = pb.ApplyWish(bay=bay, by=self.by, only_check=only_check)
+        return tuple(self._run(self._unary("Apply", wish)).changes)
+
+    def disable(self, instrument: str, why: str = "") -> None:
+        """It is out of order: nobody comes to hold it any more, and whoever holds it goes on."""
+        self._run(self._unary("Outage", pb.OutageWish(instrument=instrument, why=why, by=self.by)))
+
+    def enable(self, instrument: str) -> None:
+        """It is in order again."""
+        self._run(self._unary("Outage", pb.OutageWish(instrument=instrument, by=self.by)))
 
     async def _unary(self, name: str, wish: Any, within: Optional[float] = ANSWER) -> Any:
         self._may_go_on()

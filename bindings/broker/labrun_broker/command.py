@@ -54,7 +54,8 @@ def lines_of(status: dict[str, Any]) -> list[str]:
     for one in status["instruments"]:
         held_for = span(at - one["since"]) if one["holder"] else ""
         rows.append([one["name"], one["holder"] or "-", held_for, " ".join(one["waiting"]), plain(one.get("label", ""))])
-    lines = [f"bay {plain(status['bay'])}, {counted(status['sessions'], 'session')} since {since}", *disk_of(status), "", *aligned(rows), ""]
+    outs = [out_of(it, at) for it in status["instruments"] if it.get("out") is not None]
+    lines = [f"bay {plain(status['bay'])}, {counted(status['sessions'], 'session')} since {since}", *disk_of(status), *outs, "", *aligned(rows), ""]
     rows = [["STATION", "", "FOR", "INSTRUMENTS", "BY"]]
     for one in status["stations"]:
         if one["state"] != "idle":
@@ -64,6 +65,11 @@ def lines_of(status: dict[str, Any]) -> list[str]:
     for one in status["in_line"]:
         rows.append([one["station"] or "a guest", "in line", span(at - one["since"]), " ".join(one["instruments"]), plain(one["by"] or "")])
     return [*lines, *(aligned(rows) if len(rows) > 1 else ["nobody holds or waits"])]
+
+
+def out_of(it: dict[str, Any], at: float) -> str:
+    why = f": {plain(it['out'])}" if it["out"] else ""
+    return f"{it['name']} is out of order for {span(at - it['out_since'])}{why} (says {plain(it['out_by'])})"
 
 
 def disk_of(status: dict[str, Any]) -> list[str]:
@@ -87,9 +93,35 @@ def run_release(args: argparse.Namespace) -> int:
     return 0
 
 
+def add_disable(parser: argparse.ArgumentParser) -> None:
+    parser.add_argument("instrument", metavar="INSTRUMENT", help="nobody comes to hold it any more; whoever holds it goes on")
+    parser.add_argument("why", metavar="WHY", nargs="?", default="", help="what is told to who asks for it, as \"calibration until Friday\"")
+    add_client(parser)
+
+
+def run_disable(args: argparse.Namespace) -> int:
+    with lab_of(args, by=user()) as lab:
+        lab.disable(args.instrument, args.why)
+    return 0
+
+
+def add_enable(parser: argparse.ArgumentParser) -> None:
+    parser.add_argument("instrument", metavar="INSTRUMENT", help="which is in order again")
+    add_client(parser)
+
+
+def run_enable(args: argparse.Namespace) -> int:
+    with lab_of(args, by=user()) as lab:
+        lab.enable(args.instrument)
+    return 0
+
+
 def add_bay(parser: argparse.ArgumentParser) -> None:
-    parser.add_argument("what", choices=("check",), help="names every fault of the file")
+    what = "check: names every fault of the file; apply: the bay that a broker keeps goes on as the file has it, whoever holds or waits"
+    parser.add_argument("what", choices=("check", "apply"), help=what)
     parser.add_argument("bay", metavar="BAY", help="the TOML file")
+    parser.add_argument("--check", action="store_true", help="of apply: nothing is changed, but what would be is said, and who is in the way")
+    add_client(parser)
 
 
 def run_bay(args: argparse.Namespace) -> int:
@@ -100,7 +132,16 @@ def run_bay(args: argparse.Namespace) -> int:
     except BayFault as fault:
         print(fault, file=sys.stderr)
         return 1
+    if args.what == "apply":
+        return apply_bay(args)
     print(f"ok bay {bay.name}: {len(bay.instruments)} instruments, {len(bay.stations)} stations, {bay.guests} guests, gone = {bay.gone}")
+    return 0
+
+
+def apply_bay(args: argparse.Namespace) -> int:
+    with open(args.bay, encoding="utf-8") as file, lab_of(args, by=user()) as lab:
+        changes = lab.apply(file.read(), args.check)
+    print("\n".join(changes) or "nothing changes: the bay is as the file has it")
     return 0
 
 
@@ -150,10 +191,12 @@ WORDS = (
     Word("status", "who holds what since when, and who waits for whom", add_status, run_status),
     Word("top", "the same, again whenever it has changed", add_status, run_top),
     Word("release", "ends the session of a station whose client doesn't come back", add_release, run_release),
+    Word("disable", "an instrument is out of order: nobody comes to hold it", add_disable, run_disable),
+    Word("enable", "it is in order again", add_enable, run_enable),
     Word("report", "what each station and instrument did, from a state folder", add_past, later("past", "run_report")),
     Word("gantt", "a picture of what was: who held what, and who waited, from a state folder", add_gantt, later("past", "run_gantt")),
     Word("table", "each session of a state folder, with times and notes", add_table, later("past", "run_table")),
-    Word("bay", "bay check: is the bay's file sound", add_bay, run_bay),
+    Word("bay", "bay check: is the bay's file sound; bay apply: the bay goes on as the file has it, without a restart", add_bay, run_bay),
     Word("manual", "writes the man page and the completions", add_help, run_help),
 )
 

@@ -61,6 +61,14 @@ class NoInstrument(BadWish):
     """The bay has no instrument of this name."""
 
 
+class CantChange(labrun.LabrunError):
+    """The bay can't be as the file has it: somebody is in the way."""
+
+
+class OutOfOrder(_Told, labrun.LabrunError):
+    """The instrument is out of order, as somebody says who looks after the bay."""
+
+
 KINDS: dict[str, Callable[[str], Exception]] = {
     "TimeoutError": TimeoutError,
     "TakenAway": TakenAway,
@@ -71,6 +79,7 @@ KINDS: dict[str, Callable[[str], Exception]] = {
     "Stopped": Stopped,
     "BadWish": BadWish,
     "NoInstrument": NoInstrument,
+    "OutOfOrder": OutOfOrder,
 }
 
 

@@ -54,6 +54,8 @@ class Held:
         self._returns: Optional[asyncio.Task[None]] = None
         # it is called, on another thread, if the session was taken away while its owner works
         self.on_taken: Optional[Callable[[Exception], None]] = None
+        # and if its limit is over soon
+        self.on_warning: Optional[Callable[[str], None]] = None
 
     @property
     def held(self) -> bool:
@@ -265,7 +267,7 @@ class Held:
     async def _comes_back(self, loop: asyncio.AbstractEventLoop) -> None:
         """The session goes on to hold, on another stream, or is over. It is tried while the broker keeps the session, or for so long as an
         owner waits who asked for something."""
-        wish = pb.Wish(ticket=self._wish.ticket, by=self._wish.by, comes_back=True, pings=True)
+        wish = pb.Wish(ticket=self._wish.ticket, by=self._wish.by, comes_back=True, pings=True, wants_warning=self._wish.wants_warning)
         while True:
             stream, sent = Stream(self.lab), clock()
             stream.session = self

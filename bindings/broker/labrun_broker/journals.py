@@ -34,6 +34,7 @@ class Left:
     taken: str = ""
     how: str = ""
     until: Optional[int] = None
+    limit: Optional[int] = None
     _word: str = ""
 
     def take(self, word: str, text: str) -> None:
@@ -71,9 +72,10 @@ def sessions_of(journal: bytes) -> dict[int, Left]:
     for line in journal.split(b"\n")[:-1]:
         word, _, rest = line[FIRST_WORD:].partition(b" ")
         if word == b"hold":
-            *its, _, asked, token = rest.split()
+            *its, limit, asked, token = rest.split()
             number, kind, needs, owner, since = (int(it, 16) for it in its)
             found[number] = Left(number, kind, needs, divmod(owner, 1 << 64), int(asked, 16), since, int(token, 16))
+            found[number].limit = None if limit.startswith(b"-") else int(limit, 16)
         elif word == b"end" and (of := found.get(int(rest[:16], 16))):
             how, at = rest[17:].split()
             of.how, of.until = how.decode(), int(at, 16)

@@ -12,18 +12,19 @@ from typing import Any, AsyncIterator, Callable, Optional
 
 import labrun
 from labrun import LabrunError, NotHeld
-from labrun.machine import GRACE, HOLDS, LAPSED, NEVER, NOT_WRITTEN, WAS_STOPPED, Machine, Refusal, Standing, Told
+from labrun.machine import GRACE, HOLDS, LAPSED, LIMIT, NEVER, NOT_WRITTEN, WAS_STOPPED, Machine, Refusal, Told
 
-from . import leases, mending, wishes
+from . import lasting, leases, outage, turning, wishes
 from .bay import Bay
 from .errors import BadWish
 from .errors import TimeoutError as TimedOut
 from .folder import Folder, State
-from .journals import Left, notes_of
+from .journals import notes_of
 from .opening import Opened
 from .records import News, Record
 from .shell import Shell
 from .standing import Owner, Session, Standings, free_label
+from .taking_up import carries, takes_up
 from .wishes import Ended, Ends, Wish
 
 UNTOLD = "the session was taken away before its client was told that it holds"
@@ -43,12 +44,17 @@ class Keeping:
         # what is to be told to whoever looks after the broker, as it begins, and later
         self.complaints: list[str] = []
         self.says: Callable[[str], None] = lambda text: None
+        # from which size on the journal begins anew
+        self.most_bytes = turning.MOST_BYTES
         self.by_number: dict[int, Session] = {}
         self.idle_since: dict[str, int] = {}
         self._opens, self._syncs = opens, syncs
         self._by_key: dict[tuple[int, int], Session] = {}
         self._ends = Ends()
         self._is_closed = False
+        # one after another (applying.py)
+        self.changing = asyncio.Lock()
+        self.tasks = set[asyncio.Future[None]]()
 
     # ---- from the start to the end
 
@@ -62,38 +68,9 @@ class Keeping:
         # (who only waited is in the records alone)
         asked = (record["session"] for record in it.recent if record.get("session"))
         self._next, self.opened_at = max(1, it.machine.next_number(), 1 + max(asked, default=0)), self._shell.now()
-        self._takes_up(it)
+        takes_up(self, it)
+        carries(self)
         self._shell.pump()
-
-    def _takes_up(self, it: Opened) -> None:
-        """What was held is held, and its clients are awaited."""
-        mending.names_them(it.left, it.recent)
-        for one in it.left.values():
-            if one.how == "let_go" or one.what == "taken":
-                self._ends.add(one.owner, "" if one.how == "let_go" else f"by {one.taken or 'the broker'}")
-        rows = {row.number: row for row in self.machine.standings() if row.what == HOLDS}
-        names = {number: self.places.station(row.kind) or it.left[number].station for number, row in rows.items()}
-        # (those whose names are known come first, so that no other gets one of them)
-        # (where a grace ends they are gone from now on: it begins anew)
-        gone = mending.gone_since(it.recent) if math.isinf(self.grace) else {}
-        for number in sorted(rows, key=lambda number: (not names[number], number)):
-            of = it.left[number]
-            of.station = names[number] or free_label(self.by_number.values())
-            self._takes_up_one(rows[number], of, of.station, gone.get(number))
-        for record in mending.missing(it.left, it.recent, self.places):
-            self._news.add(record)
-        self._record("opened", text="as it was left" if it.left else "")
-        for number, session in self.by_number.items():
-            if number not in gone:
-                self._record("gone", session)
-
-    def _takes_up_one(self, row: Standing, it: Left, name: str, gone: Optional[float]) -> None:
-        told: asyncio.Future[None] = asyncio.get_running_loop().create_future()
-        told.set_result(None)
-        session = Session(row.number, name, row.kind, row.owner, told, state="gone", since=row.since, token=row.token, by=it.by or None)
-        session.gone_at = self.now() - (0 if gone is None else max(0, wishes.milliseconds(time.time() - gone)))
-        session.instruments, session.note = self.places.names(row.needs), it.notes[-1] if it.notes else None
-        self.by_number[row.number] = self._by_key[row.owner] = session
 
     async def close(self) -> None:
         """Nobody comes to hold any more; what is held stays held, in the journal."""
@@ -102,6 +79,7 @@ class Keeping:
         self._is_closed = True
         for session in self.by_number.values():
             session.stops_looking()
+            lasting.stops(session)
         self._shell.machine.stop(self.now())
         self._shell.pump()
         self._record("closed")
@@ -134,13 +112,14 @@ class Keeping:
         try:
             wishes.check_form(wish, self.bay)
             key = wishes.owner_of(wish.ticket)
+            await self._shell.turns.may_go_on()
             held = await self._session_of(key)
             if held is not None and held.holds:
                 return self._comes_back(held, wish, owner)
             if wish.comes_back:
                 raise self._ends.why(key)
             wishes.check(wish, self.bay)
-            wish = wishes.resolved(wish, self.bay)
+            wish = outage.going_round(wishes.resolved(wish, self.bay), self.places.out)
             session = self._asks(wish, key, owner, held)
         except LabrunError:
             self.refusals += 1
@@ -173,21 +152,25 @@ class Keeping:
             # (its stream has ended, and that isn't seen here yet)
             before.owner = None
             self._leaves(before, Ended("TakenAway", ANOTHER))
-        number, now = self._next, self.now()
+        name, told = wish.station or free_label(self.by_number.values()), asyncio.get_running_loop().create_future()
+        session = Session(0, name, self.places.kind(wish.station), key, told, since=self.now())
+        session.owner, session.by, session.limit = owner, wish.by or None, lasting.limit_of(self.bay, wish)
+        self._asks_for(session, wish)
+        return session
+
+    def _asks_for(self, session: Session, wish: Wish) -> None:
+        number, sets = self._next, tuple(self.places.bits(choice) for choice in wish.choices)
         self._next += 1
-        kind, sets = self.places.kind(wish.station), tuple(self.places.bits(choice) for choice in wish.choices)
-        deadline = NEVER if wish.timeout is None else now + wishes.milliseconds(wish.timeout)
+        deadline = NEVER if wish.timeout is None else session.since + wishes.milliseconds(wish.timeout)
+        limit = NEVER if session.limit is None else wishes.milliseconds(session.limit)
         try:
-            self._shell.machine.ask(number, key, kind, sets, deadline, NEVER, now)
+            self._shell.machine.ask(number, session.key, session.kind, sets, deadline, limit, self.now())
         except Refusal as it:
             raise LabrunError(f"the bay doesn't take it: {it}") from None
-        name, told = wish.station or free_label(self.by_number.values()), asyncio.get_running_loop().create_future()
-        session = Session(number, name, kind, key, told, wish, sets, since=now)
-        session.owner, session.by, session.instruments = owner, wish.by or None, wish.names
-        self.by_number[number] = self._by_key[key] = session
+        session.number, session.wish, session.sets, session.instruments = number, wish, sets, wish.names
+        self.by_number[number] = self._by_key[session.key] = session
         self._record("asked", session)
         self._shell.pump()
-        return session
 
     def _is_told(self, told: Told) -> None:
         """The machine says what became of an ask. (Of one that let go, or left, that is known here.)"""
@@ -217,6 +200,7 @@ class Keeping:
             session.told.set_result(None)
         if session.owner is not None:
             self.heard(session, session.owner, session.wish.pings)
+            lasting.begins(self, session, session.wish.wants_warning)
 
     def _fails(self, session: Session, what: str, fault: LabrunError) -> None:
         self._over(session, what, str(fault))
@@ -224,7 +208,7 @@ class Keeping:
             session.told.set_exception(fault)
 
     def _is_taken(self, session: Session, how: int) -> None:
-        what = f"by {session.taken_by or 'the broker'}" + (f", because its client was gone for {self.grace:g} s" if how == GRACE else "")
+        what = f"by {session.taken_by or 'the broker'}" + (f", because its client was gone for {self.grace:g} s" if how == GRACE else lasting.why(session) if how == LIMIT else "")
         owner, held = session.owner, ", ".join(session.instruments)
         self.says(f"session {session.number} of {session.name} was taken away {what}: {held}")
         self._over(session, "taken", what)
@@ -247,6 +231,7 @@ class Keeping:
 
     def _over(self, session: Session, what: str, text: str) -> None:
         session.stops_looking()
+        lasting.stops(session)
         session.state = "over"
         self.by_number.pop(session.number, None)
         if self._by_key.get(session.key) is session:
@@ -261,6 +246,7 @@ class Keeping:
 
     async def let_go(self, session: Session, owner: Owner, failed: Optional[str] = None) -> None:
         """Who waits comes to hold, and is told once both are on the disk. `failed` is what the client says of work that failed."""
+        await self._shell.turns.may_go_on()
         self._is_of(session, owner)
         if failed is not None:
             self._notes(session, "failed", failed)
@@ -272,9 +258,11 @@ class Keeping:
         self._ends.add(session.key)
         self._shell.pump()
         self._news.write()
+        await self._shell.turns.stands()
 
     async def note(self, session: Session, owner: Owner, text: str) -> None:
         """It is on the disk then."""
+        await self._shell.turns.may_go_on()
         self._is_of(session, owner)
         wishes.check_note(text, self.bay)
         position = self._notes(session, "note", text)
@@ -293,6 +281,7 @@ class Keeping:
 
     async def release(self, station: str, by: str, number: int = 0) -> tuple[str, ...]:
         """Ends the session that a station holds, for its owner; its instruments. With its number, no other session of the station."""
+        await self._shell.turns.may_go_on()
         if station not in self.bay.jobs and all(it.name != station for it in self.by_number.values()):
             raise BadWish(f"{station} is no station of this bay: there are {', '.join(self.bay.jobs)}")
         session, needs = next(((it, bits) for it, bits, _ in Standings(self).holders if it.name == station), (None, 0))
@@ -374,6 +363,7 @@ class Keeping:
         session.stops_looking()
         session.owner, session.heard_at, session.back_at = owner, None, asyncio.get_running_loop().time()
         self.heard(session, owner, wish.pings)
+        lasting.begins(self, session, wish.wants_warning)
         return session
 
     # ---- what is told
@@ -382,8 +372,9 @@ class Keeping:
         """For how many seconds it has waited, or held, by a clock that doesn't jump."""
         return (self.now() - session.since) / 1000
 
-    def _record(self, what: str, session: Optional[Session] = None, text: str = "", **more: Any) -> None:
-        name, number, its, by = (None, None, (), None) if session is None else (session.name, session.number, session.instruments, session.by)
+    def _record(self, what: str, session: Optional[Session] = None, text: str = "", its: tuple[str, ...] = (), **more: Any) -> None:
+        name, number, by = (None, None, None) if session is None else (session.name, session.number, session.by)
+        its = its if session is None else session.instruments
         about = {"station": name, "session": number, "instruments": list(its), "by": by, "text": text}
         self._news.add({"t": round(time.time(), 6), "what": what, **about}, **more)
 

@@ -2,12 +2,14 @@
 
 from __future__ import annotations
 
-from typing import Iterable, Optional
+import re
+from typing import Iterable, Iterator, Optional
 
 from .journals import Left
 from .places import Places
 from .records import Record
 from .sessions import ENDS
+from .wishes import digits_of
 
 AS_IT_IS = "as the journal has it"
 MANY = 1000  # records
@@ -31,6 +33,17 @@ def gone_since(records: Iterable[Record]) -> dict[int, float]:
     return found
 
 
+def ends_of(records: Iterable[Record]) -> Iterator[tuple[tuple[int, int], str]]:
+    """The owners of those that let go, or whose sessions were taken away, and how that was."""
+    owners: dict[Optional[int], tuple[int, int]] = {}
+    for it in records:
+        number, digits = it.get("session"), str(it.get("ticket") or "")
+        if it["what"] == "held" and re.fullmatch("[0-9a-f]{32}", digits):
+            owners[number] = int(digits[:16], 16), int(digits[16:], 16)
+        elif it["what"] in ("let_go", "failed", "taken") and number in owners:
+            yield owners[number], (it.get("text") or "by the broker") if it["what"] == "taken" else ""
+
+
 def missing(left: dict[int, Left], records: list[Record], places: Places) -> list[Record]:
     """The records that aren't there, of sessions that held; `left` has them as they came to hold."""
     held = {it["session"] for it in records if it["what"] == "held"}
@@ -41,7 +54,7 @@ def missing(left: dict[int, Left], records: list[Record], places: Places) -> lis
         about = _About(it, places)
         # (one that is over, and never held by the records, gave up before its client was told)
         if it.number not in held and not (it.how and it.number in over):
-            found.append(about.record("held", it.since / 1000))
+            found.append({**about.record("held", it.since / 1000), "ticket": digits_of(it.owner)})
         found += [about.record("note", it.since / 1000, text) for text in it.notes if (it.number, text) not in noted]
         if it.how and it.number not in over:
             found.append(about.record(it.what, (it.until or 0) / 1000))
@@ -50,10 +63,12 @@ def missing(left: dict[int, Left], records: list[Record], places: Places) -> lis
 
 def _since_the_first(left: list[Left], held: set[Optional[int]], count: int) -> list[Left]:
     """Those that came to hold since the first of the records, of which only the last were read. (If so many say of none that it holds,
-    those of the others were before.)"""
+    those of the others were before. Of a journal that began anew all may have come later than the last record of a hold.)"""
     if not held:
         return left if count < MANY else []
-    return left[next((at for at, it in enumerate(left) if it.number in held), len(left)) :]
+    first = next((at for at, it in enumerate(left) if it.number in held), None)
+    last = max(it or 0 for it in held)
+    return left[first:] if first is not None else [it for it in left if it.number > last]
 
 
 class _About:

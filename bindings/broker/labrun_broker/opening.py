@@ -4,6 +4,7 @@ from __future__ import annotations
 
 import math
 import time
+from dataclasses import replace
 from typing import Callable, Optional
 
 import labrun
@@ -49,7 +50,7 @@ class Opened:
         if any(not it.how for it in self.left.values()):
             grace = self._keeps_longer(grace, before.grace)
         self.grace = math.inf if grace is None else grace / 1000
-        self.places = Places(before.instruments, before.stations, grace).with_bay(self.bay)
+        self.places = replace(before, grace=grace).with_bay(self.bay)
         # (moments go on where the journal's end, wherever the clock on the wall is by now)
         self.first = max([int(time.time() * 1000), *(1 + it.since for it in self.left.values())])
         self.machine = self._machine(text, grace)

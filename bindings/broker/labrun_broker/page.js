@@ -104,6 +104,7 @@ function rowOf(it, long) {
   if (it.label) row.append(make("span", "line label", make("bdi", "", it.label)));
   if (it.waiting.length) row.append(make("span", "line", it.waiting.length === 1 ? "waits: " : `${it.waiting.length} wait: `, ...list(it.waiting)));
   if (holder && holder.note) row.append(make("span", "line of-note", make("bdi", "note", holder.note)));
+  if (it.out != null) row.append(make("span", "line of-note", "out of order", it.out && ": ", make("bdi", "note", it.out), " (says ", make("bdi", "", it.out_by), ")"));
   return row;
 }
 function links(why, seen) {

@@ -8,7 +8,7 @@ from __future__ import annotations
 
 import hashlib
 import json
-from dataclasses import dataclass, replace
+from dataclasses import dataclass, field, replace
 from typing import Any, Iterable, Optional, Sequence
 
 from .bay import MOST_INSTRUMENTS, MOST_STATIONS, Bay, BayFault
@@ -17,12 +17,22 @@ GUESTS = 0
 
 
 @dataclass(frozen=True)
+class Out:
+    """Why an instrument is out of order, who says so, and since when, in seconds of Unix."""
+
+    why: str
+    by: str
+    since: float
+
+
+@dataclass(frozen=True)
 class Places:
-    """`grace` is the longest that a client may have been told of a session that holds, in milliseconds; None: for ever."""
+    """`out` has what is out of order. `grace` is the longest that a client may have been told of a session that holds, in milliseconds; None: for ever."""
 
     instruments: tuple[str, ...] = ()
     stations: tuple[str, ...] = ()
     grace: Optional[int] = 0
+    out: dict[str, Out] = field(default_factory=dict)
 
     def with_bay(self, bay: Bay) -> Places:
         """The same, and places for what is new in the bay. BayFault: there are none left."""
@@ -52,7 +62,8 @@ class Places:
         return self.stations[kind - 1] if 0 < kind <= len(self.stations) else ""
 
     def text(self) -> str:
-        return json.dumps({"instruments": self.instruments, "stations": self.stations, "grace": self.grace}) + "\n"
+        out = {"out": {name: vars(it) for name, it in self.out.items()}} if self.out else {}
+        return json.dumps({"instruments": self.instruments, "stations": self.stations, "grace": self.grace, **out}) + "\n"
 
 
 def bits_of(bits: int) -> list[int]:
@@ -72,7 +83,14 @@ def places_of(text: str) -> Places:
     grace = given.get("grace")
     if grace is not None and (not isinstance(grace, int) or grace < 0):
         raise ValueError("a grace is a number of milliseconds, or null")
-    return Places(tuple(given["instruments"]), tuple(given["stations"]), grace)
+    return Places(tuple(given["instruments"]), tuple(given["stations"]), grace, _out_of(given.get("out", {})))
+
+
+def _out_of(given: Any) -> dict[str, Out]:
+    try:
+        return {str(name): Out(str(it["why"]), str(it["by"]), float(it["since"])) for name, it in given.items()}
+    except (AttributeError, KeyError, TypeError) as fault:
+        raise ValueError(f"what is out of order: {fault!r}") from None
 
 
 def _are_names(given: Any) -> bool:

@@ -29,7 +29,7 @@ DATA, HEADERS, RESET, SETTINGS, PING, WINDOW = 0, 1, 3, 4, 6, 8
 ACK, STREAM_ENDS, HEADERS_END, PADDED = 1, 1, 4, 8
 # the fields of Ask and of Told
 WISH, LET_GO = 1, 3
-HELD, WAITS, GONE, FAULT, TAKEN = 1, 2, 4, 5, 6
+HELD, WAITS, GONE, FAULT, TAKEN, WARNING = 1, 2, 4, 5, 6, 8
 LEASE, TOKEN = 6, 7  # fields of Held
 
 Fields = dict[int, list[Any]]
@@ -52,6 +52,7 @@ class Wish(NamedTuple):
     station: str
     by: str
     timeout: Optional[float]
+    limit: Optional[float] = None
 
 
 class Odd(Exception):
@@ -83,6 +84,7 @@ class Quick:
     ) -> None:
         self.instruments, self.station, self.number, self.token = wish.instruments, wish.station, 0, 0
         self.on_taken: Optional[Callable[[Any], None]] = None
+        self.on_warning: Optional[Callable[[str], None]] = None
         self.is_released_if_gone = False
         self.wire = Wire()
         self._path, self._wish, self._waits, self._connects, self._begins = path, wish, waits, connects, begins
@@ -178,6 +180,8 @@ class Quick:
                 while (told := self.wire.told())[0] != TAKEN:
                     if told[0] in (GONE, FAULT):
                         self._answers.put(told)
+                    elif told[0] == WARNING:
+                        self._is_warned(_text_of(told[1], 1))
                 self._is_taken(_fault(told[1]))
             except Odd:
                 if not self._is_over:
@@ -191,9 +195,14 @@ class Quick:
         if self.on_taken is not None:
             self.on_taken(fault)
 
+    def _is_warned(self, text: str) -> None:
+        if self.on_warning is not None:
+            self.on_warning(text)
+
     def _comes_back(self, waits: bool) -> None:
         self._whole = self._connects(True)._resumed(self, self.ticket, waits)
         self._whole.on_taken, self.is_released_if_gone = self._is_taken, self._whole.is_released_if_gone
+        self._whole.on_warning = self._is_warned
 
 
 class Wire:
@@ -303,8 +312,9 @@ def _frame(kind: int, flags: int, stream: int, payload: bytes) -> bytes:
 
 def _wish(it: Wish, ticket: str, wants_waits: bool) -> bytes:
     parts = [_text(1, name) for name in it.instruments] + [_field(2, b"".join(_text(1, name) for name in names)) for names in it.any_of]
-    parts += [_text(3, it.station), _text(4, it.by), _text(6, ticket), bytes([8 << 3, wants_waits, 9 << 3, 1])]
-    return b"".join(parts) + (b"" if it.timeout is None else b"\x29" + struct.pack("<d", it.timeout))
+    parts += [_text(3, it.station), _text(4, it.by), _text(6, ticket), bytes([8 << 3, wants_waits, 9 << 3, 1, 11 << 3, 1])]
+    parts += [bytes([at << 3 | 1]) + struct.pack("<d", span) for at, span in ((5, it.timeout), (10, it.limit)) if span is not None]
+    return b"".join(parts)
 
 
 def _text(at: int, text: str) -> bytes:

@@ -25,6 +25,8 @@ class Records:
         self.file = os.open(path, os.O_RDWR | os.O_CREAT | os.O_APPEND | os.O_CLOEXEC, 0o640)
         self._waiting = bytearray()
         self._is_synced, self._is_due = True, False
+        # nothing was lost: each record is in the file, or will be
+        self.is_whole = True
         self._again: Optional[asyncio.TimerHandle] = None
         size = os.fstat(self.file).st_size
         if size and os.pread(self.file, 1, size - 1) != b"\n":
@@ -33,6 +35,7 @@ class Records:
 
     def add(self, record: Record) -> None:
         if len(self._waiting) > MOST_WAITING:
+            self.is_whole = False
             return
         if not self._is_due:
             self._is_due = True
@@ -55,12 +58,25 @@ class Records:
             self._again.cancel()
             self._again = None
 
+    @property
+    def is_written(self) -> bool:
+        """Whether all that was added is in the file."""
+        return not self._waiting and self.is_whole
+
     def sync(self) -> None:
         """What was written is on the disk, as far as that can be. Another thread may call it."""
+        with contextlib.suppress(OSError):
+            self.syncs()
+
+    def syncs(self) -> None:
+        """The same. OSError: it isn't, or wasn't once, and then nobody knows what is."""
         if self._syncs and not self._is_synced:
             self._is_synced = True
-            with contextlib.suppress(OSError):
+            try:
                 os.fdatasync(self.file)
+            except OSError:
+                self.is_whole = False
+                raise
 
     def close(self) -> None:
         self.write()

@@ -13,7 +13,7 @@ from typing import TYPE_CHECKING, Callable, Iterator, Optional, TypeVar, Union
 
 from .family import Family, adopting, ends
 from .quick import DEFAULT, Absent, Odd, Quick, Silent, Wish, user
-from .texts import plain, seconds
+from .texts import last, plain, seconds
 from .words import CANT_RUN, NOT_FOUND, PROGRAM, TAKEN, USAGE, add_client, lab_of, say
 
 if TYPE_CHECKING:
@@ -30,6 +30,8 @@ STARTING = 5.0  # seconds that a broker may take to begin
 def add_hold(parser: argparse.ArgumentParser) -> None:
     parser.add_argument("instruments", metavar="INSTRUMENT", nargs="+", help="what the command needs, all at once; 'load-*' and tag:precise are one that is like that, '2 of load-*' two")
     parser.add_argument("--timeout", metavar="SECONDS", type=seconds, help="how long to wait for them at most")
+    limit = "for how long it may hold once others wait for what it has, as 90, 30min, 2h: then it is taken away; before that a line is said"
+    parser.add_argument("--limit", metavar="SPAN", type=last, help=limit)
     parser.add_argument("-n", "--no-wait", dest="timeout", action="store_const", const=0.0, help="take what is free, as with --timeout 0")
     parser.add_argument("--any", action="store_true", help="one of these is enough; with a comma, as in load-1,load-2, a choice has several")
     parser.add_argument("--station", metavar="NAME", default="", help="as which station; a guest without")
@@ -49,7 +51,7 @@ def run_hold(args: argparse.Namespace) -> int:
     any_of = tuple(tuple(it.split(",")) for it in its) if args.any else ()
     if not looks_around(args, any_of or (its,)):
         return USAGE
-    wish = Wish(() if any_of else its, any_of, args.station, args.by or f"{user()} {os.getpid()} {what}"[:64], args.timeout)
+    wish = Wish(() if any_of else its, any_of, args.station, args.by or f"{user()} {os.getpid()} {what}"[:64], args.timeout, args.limit)
     waits: Waits = None if args.quiet else lambda text: say(f"waits: {plain(text)}")
     with passing_on() as signals, adopting(), contextlib.ExitStack() as ends:
         held = holds(args, wish, waits, signals, ends)
@@ -152,7 +154,7 @@ def holds(args: argparse.Namespace, wish: Wish, waits: Waits, signals: Signals, 
         except Odd:
             was_there, ticket = tried[0].wire.was_there, tried[0].ticket
     lab = ends.enter_context(connects(was_there))
-    held = lab.hold(*wish.instruments, any_of=wish.any_of, waits=waits)
+    held = lab.hold(*wish.instruments, any_of=wish.any_of, waits=waits, limit=wish.limit)
 
     def wholly() -> Held:
         # (it may hold by now, and the broker's word be lost)
@@ -178,7 +180,7 @@ def runs(command: list[str], held: Union[Quick, Held], signals: Signals, address
         say(f"{plain(fault)}; the command is ended")
         signals.send(signal.SIGTERM)
 
-    held.on_taken = is_taken
+    held.on_taken, held.on_warning = is_taken, lambda text: say(plain(text))
     if not held.held and not taken:
         is_taken("the session is over")
     status = signals.wait()

@@ -12,9 +12,11 @@ import socket
 import sys
 from typing import TYPE_CHECKING, Any, Awaitable, Callable
 
+import labrun
+
 from .bay import BadAddress, read_bay
 from .quick import DEFAULT
-from .texts import counted, plain, seconds
+from .texts import counted, mebibytes, plain, seconds
 from .words import USAGE, say
 
 if TYPE_CHECKING:
@@ -27,6 +29,8 @@ MOST_TOLD = 2000  # characters of a line: a pipe that can take any takes as much
 def add_serve(parser: argparse.ArgumentParser) -> None:
     parser.add_argument("bay", metavar="BAY", help="the bay, a TOML file; see `bay check`")
     parser.add_argument("--state", metavar="DIR", help="keep the journal and the records there: a broker that is killed goes on where it was")
+    size = "of the state: from so many MiB on the bay's journal begins anew; 4 without"
+    parser.add_argument("--journal-size", metavar="MIB", type=mebibytes, default=mebibytes("4"), help=size)
     parser.add_argument("--listen", metavar="ADDR", action="append", help=f"unix:PATH or HOST:PORT, as often as wanted; {DEFAULT} without")
     parser.add_argument("--group", metavar="GROUP", help="whose members may use the Unix sockets, which have the mode 0660")
     grace = "with gone = \"release\": for how long a session is kept whose client says nothing, 60 without"
@@ -59,6 +63,7 @@ async def serve(args: argparse.Namespace) -> int:
     its_door = door.Door(tuple(args.listen or (DEFAULT,)), args.tls_certificate, args.tls_key, args.token_file, args.group)
     its_door.check()
     keeping = Keeping(bay, args.state, args.grace, args.sync == "data")
+    keeping.most_bytes = args.journal_size
     # (at first stands which bay it is, and where)
     begins = list[str]()
     keeping.says = begins.append
@@ -75,10 +80,31 @@ async def serve(args: argparse.Namespace) -> int:
             say(plain(it))
         keeping.says = lambda text: say(plain(text)[:MOST_TOLD]) if door.is_read() else None
         tell_systemd("READY=1")
+        asyncio.get_running_loop().add_signal_handler(signal.SIGHUP, lambda: hears(keeping, args.bay))
         await until_the_end()
         return 0
     finally:
         await ends.aclose()
+
+
+def hears(keeping: Keeping, path: str) -> None:
+    """SIGHUP: the bay goes on as its file has it by now."""
+    task = asyncio.ensure_future(applies(keeping, path))
+    keeping.tasks.add(task)
+    task.add_done_callback(keeping.tasks.discard)
+
+
+async def applies(keeping: Keeping, path: str) -> None:
+    from .applying import apply
+
+    try:
+        with open(path, encoding="utf-8") as file:
+            text = file.read()
+        if not await apply(keeping, text, "a signal", False):
+            keeping.says(f"{path}: nothing has changed")
+    except (labrun.LabrunError, OSError, ValueError) as fault:
+        for line in str(fault).split("\n"):
+            keeping.says(f"{path}: {line}")
 
 
 async def web(args: argparse.Namespace, keeping: Keeping) -> list[Any]:

@@ -15,10 +15,12 @@ import grpc
 import labrun
 
 from . import broker_pb2 as pb
+from .applying import apply
 from .bay import BadAddress
 from .door import Complaints, Door, Seldom, check_free
 from .errors import KINDS, BadWish
 from .keeping import Keeping
+from .outage import disable, enable
 from .sockets import for_the_group, give
 from .standing import Session, Standings
 from .wishes import Ended, Wish, check_form, wish_of
@@ -130,6 +132,9 @@ class Client:
         self.session = None
         self._starts(self._tell(pb.Told(taken=pb.Fault(kind="TakenAway", text=why))))
 
+    def warned(self, text: str, seconds: float) -> None:
+        self._starts(self._tell(pb.Told(warning=pb.Warning(text=text, seconds=seconds))))
+
     # ---- what it asks
 
     async def _wish(self, asked: Any) -> None:
@@ -177,7 +182,12 @@ class Client:
         if self._waiting is not None:
             return await self._give_up(self._waiting)
         failed = asked.failed[: self.keeping.bay.limits.note] if asked.HasField("failed") else None
-        await self.keeping.let_go(self._held(), self, failed)
+        try:
+            await self.keeping.let_go(self._held(), self, failed)
+        except labrun.JournalError:
+            # (it is over all the same)
+            self.session = None
+            raise
         self.session = None
         await self._tell(GONE)
 
@@ -255,6 +265,19 @@ class Service:
         return pb.Released(instruments=await _answer(context, self.keeping.release(wish.station, by, wish.session)))
 
 
+    async def Apply(self, wish: Any, context: Any) -> Any:
+        await self._paces(context)
+        by = wish.by[: self.keeping.bay.limits.name] or "an operator"
+        return pb.Applied(changes=await _answer(context, apply(self.keeping, wish.bay, by, wish.only_check)))
+
+    async def Outage(self, wish: Any, context: Any) -> Any:
+        await self._paces(context)
+        by = wish.by[: self.keeping.bay.limits.name] or "an operator"
+        does = disable(self.keeping, wish.instrument, wish.why, by) if wish.HasField("why") else enable(self.keeping, wish.instrument, by)
+        await _answer(context, does)
+        return pb.Noted()
+
+
 async def _answer(context: Any, work: Awaitable[Any]) -> Any:
     try:
         return await work
@@ -299,6 +322,8 @@ def _methods(service: Service) -> Any:
             "Watch": grpc.unary_stream_rpc_method_handler(service.Watch, pb.StatusWish.FromString, _bytes),
             "Status": unary(service.Status, pb.StatusWish),
             "Release": unary(service.Release, pb.ReleaseWish),
+            "Apply": unary(service.Apply, pb.ApplyWish),
+            "Outage": unary(service.Outage, pb.OutageWish),
         },
     )
 

@@ -15,6 +15,8 @@ from labrun import JournalError
 from labrun.machine import NEVER, Machine, Told
 from labrun.store import Store
 
+from .turning import Turns
+
 # what nobody waits for is on the disk after so many seconds (in a busy bay with a hold that comes before that); the records are, at least as
 # often as the second says
 SOON, NOW_AND_THEN = 0.05, 1.0
@@ -38,14 +40,15 @@ class Shell:
         self._first = first - int(self._loop.time() * 1000)
         self._serial, self._wakes_at = 0, NEVER
         self._timer: Optional[asyncio.TimerHandle] = None
-        # how far the journal is written, and on the disk; and who waits for that
-        self._written = self._durable = machine.used
+        # how far the journal is written, and on the disk, with all files before this one; and who waits for that
+        self.base = machine.base
+        self._written = self._durable = machine.base + machine.used
         self._waiting: list[tuple[int, bool, asyncio.Future[None]]] = []
         self._thread = ThreadPoolExecutor(1, "journal")
         self._sync_timer: Optional[asyncio.TimerHandle] = None
         self._is_syncing = self._is_urgent = self._takes_all = self._is_closed = False
         self._took_all_at = self._loop.time()
-        self._path = "" if store is None else store.path
+        self.path = "" if store is None else store.path
         # why a write failed, until that is mended; and the same until all is written; and how many did
         self.fault: Optional[Exception] = None
         self._last_fault: Optional[Exception] = None
@@ -56,6 +59,7 @@ class Shell:
         self.wrong_since: Optional[int] = None
         self._pause = AGAIN
         self._mending: Optional[asyncio.Task[None]] = None
+        self.turns = Turns(self)
 
     def now(self) -> int:
         """The moment, in milliseconds, by a clock that doesn't jump."""
@@ -68,6 +72,7 @@ class Shell:
         self._tell()
         self._sleeps_until(next_moment)
         self._writes()
+        self.turns.looks(self._written - self.base)
 
     def _tell(self) -> None:
         while (told := self.machine.tell(self._serial)) is not None:
@@ -91,14 +96,14 @@ class Shell:
     # ---- the disk
 
     def _writes(self) -> None:
-        if self._store is None or self.fault is not None:
+        if self._store is None or self.fault is not None or self.turns.is_under_way:
             return
         text, position = self.machine.journal()
         if text:
             try:
                 self._store.write(text)
             except OSError as fault:
-                return self._fails(fault)
+                return self.fails(fault)
             self._written = position
             # (who asks is told only once the line is on the disk)
             self._is_urgent = self._is_urgent or b" hold " in text
@@ -120,8 +125,11 @@ class Shell:
         self._is_syncing, self._is_urgent, self._takes_all = True, False, False
         if takes_all:
             self._took_all_at = self._loop.time()
-        self._slow_timer = self._loop.call_later(SLOW, self._takes_long)
+        self._is_timed()
         self._thread.submit(self._sync, self._written, takes_all)
+
+    def _is_timed(self) -> None:
+        self._slow_timer = self._loop.call_later(SLOW, self._takes_long)
 
     def _sync(self, position: int, takes_all: bool) -> None:
         """On the thread. Who holds is told before what is beside is synced, too."""
@@ -144,7 +152,7 @@ class Shell:
         if not self._is_slow:
             self._is_slow = True
             self._is_wrong_since(self.now() - int(SLOW * 1000))
-            self._says(f"{self._path}: {self._because()}: nobody is told that it holds until it does")
+            self._says(f"{self.path}: {self._because()}: nobody is told that it holds until it does")
 
     def _is_synced(self, position: int, took_all: bool = False) -> None:
         if self._slow_timer is not None:
@@ -154,21 +162,73 @@ class Shell:
         self._durable, self._pause = position, AGAIN
         if (self._last_fault is not None or self._is_slow) and self.fault is None:
             self._last_fault, self._is_slow, self.wrong_since = None, False, None
-            self._says(f"{self._path}: all is written")
+            self._says(f"{self.path}: all is written")
         self.machine.durable(position)
         for upto, wants_all, one in self._waiting:
             if upto <= position and took_all >= wants_all and not one.done():
                 one.set_result(None)
         self.pump()
 
+    # a new file in the place of the journal's (turning.py)
+
+    @property
+    def is_quiet(self) -> bool:
+        """Whether all that was written is on the disk, and nothing is to be done there."""
+        is_idle = not self._is_syncing and self._sync_timer is None and self.fault is None and not self._is_closed
+        return is_idle and self._written == self._durable
+
+    @property
+    def written(self) -> int:
+        return self._written
+
+    async def runs(self, does: Callable[[], None]) -> None:
+        """Something is done on the thread; what it raises is raised here."""
+        await self._loop.run_in_executor(self._thread, does)
+
+    def works(self, does: Callable[[], None], ends: Callable[[Optional[Exception]], None]) -> None:
+        """Something is done on the thread, as long as a sync may take; then `ends` is told, also why it failed."""
+        self._is_syncing = True
+        self._is_timed()
+        self._thread.submit(self._work, does, ends)
+
+    def _work(self, does: Callable[[], None], ends: Callable[[Optional[Exception]], None]) -> None:
+        fault: Optional[Exception] = None
+        try:
+            does()
+        except Exception as it:
+            fault = it
+        self._to_loop(self._has_worked, ends, fault)
+
+    def _has_worked(self, ends: Callable[[Optional[Exception]], None], fault: Optional[Exception]) -> None:
+        self._is_syncing = False
+        if self._slow_timer is not None:
+            self._slow_timer.cancel()
+        if not self._is_closed:
+            ends(fault)
+
+    def is_sound(self) -> None:
+        """The disk has answered."""
+        self._is_synced(self._durable)
+
+    def has_file(self, base: int, text: bytes) -> None:
+        """A new file stands, with this text; what was handed out meanwhile is handed out again, and written behind it."""
+        self.base, position = base, base + len(text)
+        self._written = self._durable = position
+        self.machine.durable(position)
+        self.machine.failed()
+        self._is_urgent = True
+        self.pump()
+        if self._written == position:
+            self._is_synced(position)
+
     def _is_through(self, position: int, took_all: bool, fault: Optional[Exception]) -> None:
         self._is_syncing = False
         if fault is None:
             self._is_synced(position, took_all)
         elif not self._is_closed:
-            self._fails(fault)
+            self.fails(fault)
 
-    def _fails(self, fault: Exception) -> None:
+    def fails(self, fault: Exception) -> None:
         self.failures += 1
         for it in (self._sync_timer, self._slow_timer):
             if it is not None:
@@ -179,26 +239,39 @@ class Shell:
             is_new, self.fault, self._last_fault = self._last_fault is None, fault, fault
             self._is_wrong_since(self.now())
             if is_new:
-                self._says(f"{self._path}: {self._because()}, and is tried again: nobody is told that it holds until then")
+                self._says(f"{self.path}: {self._because()}, and is tried again: nobody is told that it holds until then")
             self._mending = self._loop.create_task(self._mends())
 
     async def _mends(self) -> None:
-        """The store is cut back to what is durable, and the rest is written again, after a pause."""
-        assert self._store is not None
+        """The store is cut back to what is durable, and the rest is written again, after a pause; or a new file is made again."""
         is_cut = False
         while not is_cut:
             while self._is_syncing:
                 await asyncio.sleep(AGAIN)
             try:
-                await self._loop.run_in_executor(self._thread, self._store.cut, self._durable)
+                await self._loop.run_in_executor(self._thread, self._cuts)
                 is_cut = True
             except OSError:
                 pass
             await asyncio.sleep(self._pause)
             self._pause = min(2 * self._pause, LATEST)
         self._written, self._is_urgent, self.fault = self._durable, True, None
+        if self.turns.is_under_way:
+            return self.turns.is_made()
         self.machine.failed()
         self.pump()
+
+    def _cuts(self) -> None:
+        assert self._store is not None
+        if self.turns.is_under_way:
+            self.turns.makes()
+        else:
+            self._store.cut(self._durable - self.base)
+
+    def puts(self, text: bytes) -> None:
+        """On the thread: only this text is in the store."""
+        assert self._store is not None
+        self._store.anew(text)
 
     async def durable(self, position: Optional[int] = None, takes_all: bool = False) -> None:
         """Returns once all that was given is on the disk, or all up to a position; with `takes_all` so is what is synced beside.
@@ -206,8 +279,8 @@ class Shell:
         if self._store is None:
             return
         if position is None:
-            # (while a write fails: what is handed out here is handed out again)
-            position = self._written if self.fault is None else self.machine.journal()[1]
+            # (while a write fails, or a new file is made: what is handed out here is handed out again)
+            position = self._written if self.fault is None and not self.turns.is_under_way else self.machine.journal()[1]
         if position <= self._durable and not takes_all:
             return
         one = position, takes_all, self._loop.create_future()
@@ -224,7 +297,7 @@ class Shell:
 
     def why(self) -> JournalError:
         """Why something isn't on the disk."""
-        return JournalError(self._path, f"it isn't on the disk after {DISK:g} s: {self._because()}")
+        return JournalError(self.path, f"it isn't on the disk after {DISK:g} s: {self._because()}")
 
     def _because(self) -> str:
         it = self._last_fault

@@ -14,6 +14,7 @@ from typing import TYPE_CHECKING, Any, Iterable, Optional, Protocol
 
 from labrun.machine import HOLDS, WAITS
 
+from .journals import notes_of
 from .places import bits_of
 from .texts import span
 from .wishes import Wish
@@ -33,6 +34,9 @@ class Owner(Protocol):
 
     def taken(self, why: str) -> None:
         """The session was ended for its owner, or is another's now."""
+
+    def warned(self, text: str, seconds: float) -> None:
+        """Its limit is over in so many seconds."""
 
 
 @dataclass(eq=False)
@@ -61,6 +65,9 @@ class Session:
     heard_at: Optional[int] = None
     back_at: float = -math.inf
     timer: Optional[asyncio.TimerHandle] = None
+    # for how long it may hold while others wait for what it has, in seconds; and when its client is warned of the end
+    limit: Optional[float] = None
+    warning: Optional[asyncio.TimerHandle] = None
 
     @property
     def holds(self) -> bool:
@@ -70,6 +77,11 @@ class Session:
     def chosen(self, needs: int) -> tuple[str, ...]:
         """Of the sets that it asked for, the one that it holds."""
         return next((tuple(dict.fromkeys(it)) for it, bits in zip(self.wish.choices, self.sets) if bits == needs), self.instruments)
+
+    def in_a_new_file(self) -> list[bytes]:
+        """What the journal's next file has to say of it, for it holds."""
+        by = notes_of("by", f"{self.name} {self.by or ''}")
+        return by if self.note is None else [*by, *notes_of("note", self.note)]
 
     def stops_looking(self) -> None:
         """Whether its client is silent doesn't matter any more."""
@@ -183,6 +195,9 @@ class Standings:
     def _for(self, since: int) -> str:
         return span((self._now - since) / 1000, 1)
 
+    def span_since(self, moment: int) -> str:
+        return self._for(moment)
+
     # the whole
 
     def status(self) -> dict[str, Any]:
@@ -209,8 +224,10 @@ class Standings:
     def _instrument(self, name: str, waiting: dict[int, list[str]]) -> dict[str, Any]:
         bit = self._keeping.places.instruments.index(name)
         holder, since = self._held.get(bit, (None, None))
-        about = {"label": self._keeping.bay.labels.get(name, ""), "tags": [tag for tag, its in self._keeping.bay.tags.items() if name in its]}
-        return {"name": name, **about, "holder": None if holder is None else holder.name, "since": self.when(since), "waiting": waiting.get(bit, [])}
+        bay, out = self._keeping.bay, self._keeping.places.out.get(name)
+        row = {"name": name, "label": bay.labels.get(name, ""), "tags": [tag for tag, its in bay.tags.items() if name in its]}
+        row |= {"holder": None if holder is None else holder.name, "since": self.when(since), "waiting": waiting.get(bit, [])}
+        return {**row, "out": None if out is None else out.why, "out_since": out and out.since, "out_by": out and out.by}
 
     def _rows(self) -> tuple[list[dict[str, Any]], list[dict[str, Any]]]:
         """A row for each station and guest; and those that wait for a place first."""

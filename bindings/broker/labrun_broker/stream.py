@@ -141,11 +141,19 @@ class Stream:
                 self.session._waits_for(told.text)
             except Exception as fault:
                 self.ends(fault)
+        elif kind == "warning":
+            self._is_warned(told.text)
         elif kind == "pong" and told.at != self._asked_at:
             if self.session is not None and told.holds:
                 self.session._is_sure(told.at)
         else:
             self._answers.put_nowait((kind, told))
+
+    def _is_warned(self, text: str) -> None:
+        tells = None if self.session is None else self.session.on_warning
+        if tells is not None:
+            # (what it does is its own business)
+            asyncio.get_running_loop().run_in_executor(None, tells, text)
 
     def ends(self, fault: Exception) -> None:
         """Whoever asks gets this fault."""

@@ -4,6 +4,7 @@ from __future__ import annotations
 
 import argparse
 import re
+from typing import Optional
 
 
 def plain(text: object) -> str:
@@ -43,9 +44,22 @@ def seconds(text: str) -> float:
     return value
 
 
+def mebibytes(text: str) -> int:
+    """So many MiB, in bytes."""
+    value = float(text)
+    if not 0.001 <= value <= 1 << 20:
+        raise argparse.ArgumentTypeError(f"{text} is no number of MiB from 0.001 to {1 << 20}")
+    return int(value * (1 << 20))
+
+
 def last(text: str) -> float:
     """A span of the past: 90, 30s, 15min, 4h, 2d."""
-    found = re.fullmatch(r"(\d{1,9}(?:\.\d{1,3})?)\s*(s|m|min|h|d)?", text)
-    if not found:
+    if (found := span_of(text)) is None:
         raise argparse.ArgumentTypeError(f"{text!r} is no span: write 90, 30s, 15min, 4h or 2d")
-    return float(found[1]) * {None: 1, "s": 1, "m": 60, "min": 60, "h": 3600, "d": 86400}[found[2]]
+    return found
+
+
+def span_of(text: str) -> Optional[float]:
+    """In seconds; None: it is none."""
+    found = re.fullmatch(r"(\d{1,9}(?:\.\d{1,3})?)\s*(s|m|min|h|d)?", text)
+    return float(found[1]) * {None: 1, "s": 1, "m": 60, "min": 60, "h": 3600, "d": 86400}[found[2]] if found else None

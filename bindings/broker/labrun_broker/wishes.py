@@ -12,11 +12,10 @@ from typing import Any, Optional, Sequence
 from labrun import MayNotUse, NotHeld
 from labrun.picks import NoSuch, TooFew, TooMany, is_plain, sets_of
 
-from .bay import Bay
+from .bay import MOST_SECONDS, Bay
 from .errors import BadWish, NoInstrument
 
 MOST_CHOICES, LEAST_TICKET = 100, 16
-MOST_SECONDS = 1e9
 KEPT_IN_MEMORY = 1000  # ends
 
 
@@ -59,6 +58,9 @@ class Wish:
     ticket: str = ""
     comes_back: bool = False
     pings: bool = False
+    # in seconds; and whether its client wants to be warned before that
+    limit: Optional[float] = None
+    wants_warning: bool = False
 
     @property
     def choices(self) -> tuple[tuple[str, ...], ...]:
@@ -75,7 +77,9 @@ def wish_of(asked: Any) -> Wish:
     any_of = tuple(tuple(it.names) for it in asked.any_of)
     timeout = float(asked.timeout) if asked.HasField("timeout") else None
     ticket = asked.ticket or secrets.token_urlsafe()
-    return Wish(tuple(asked.instruments), any_of, asked.station, asked.by, timeout, ticket, asked.comes_back, asked.pings)
+    limit = float(asked.limit) if asked.HasField("limit") else None
+    its = timeout, ticket, asked.comes_back, asked.pings, limit, asked.wants_warning
+    return Wish(tuple(asked.instruments), any_of, asked.station, asked.by, *its)
 
 
 def check_form(wish: Wish, bay: Bay) -> None:
@@ -87,6 +91,8 @@ def check_form(wish: Wish, bay: Bay) -> None:
         raise BadWish(f"{len(wish.any_of)} choices; {MOST_CHOICES} are the most")
     if wish.timeout is not None and not 0 <= wish.timeout < MOST_SECONDS:
         raise BadWish(f"a timeout of {wish.timeout:g} s; it is 0 or more, and below 1000000000")
+    if wish.limit is not None and not 0 < wish.limit < MOST_SECONDS:
+        raise BadWish(f"a limit of {wish.limit:g} s; it is more than 0, and below 1000000000")
     if wish.ticket and len(wish.ticket) < LEAST_TICKET:
         raise BadWish(f"a ticket has {LEAST_TICKET} characters or more")
 
@@ -105,6 +111,11 @@ def check(wish: Wish, bay: Bay) -> None:
             raise _no_such(name, bay)
         if name not in may:
             raise MayNotUse(wish.station or "a guest", name, may)
+
+
+def check_instrument(name: str, bay: Bay) -> None:
+    if name not in bay.instruments:
+        raise _no_such(name, bay)
 
 
 def _may_use(wish: Wish, bay: Bay) -> tuple[str, ...]:

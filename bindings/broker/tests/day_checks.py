@@ -7,7 +7,7 @@ from typing import TYPE_CHECKING, Any, Optional
 
 import labrun
 from tests import day_model as rules
-from tests.day_journal import Left, lines_of
+from tests.day_journal import Left
 from tests.day_world import Killed
 
 if TYPE_CHECKING:
@@ -62,7 +62,7 @@ def gone_before(records: list[dict[str, Any]], number: int) -> Optional[float]:
 
 def same(day: Day) -> None:
     disk = day.disk
-    durable = lines_of(disk.acked)
+    durable = disk.durable
     day.rules.line.reads(disk.tried, durable)
     day.rules.follows()
     for stream in day.life.streams:
@@ -100,12 +100,25 @@ def same_words(day: Day, stream: Stream) -> None:
             day.rules.heard(it)
         elif now > until:
             raise Wrong(7, f"a note isn't answered: {text}")
+    if it.leaving is not None:
+        same_let_go(day, stream, it.leaving[1])
     if sorted(map(repr, it.told)) == sorted(map(repr, stream.got)) and [one for one in it.told if one[0] != "taken"] == [one for one in stream.got if one[0] != "taken"]:
         # (that it was taken away is told by a task of its own, and so may be behind the answer to what came just then)
         it.told = list(stream.got)
     differ(4, f"words to {it.ticket}", it.told, stream.got)
     if stream.task.done():
         raise Wrong(7, f"the stream of {it.ticket} ended: {stream.task}")
+
+
+def same_let_go(day: Day, stream: Stream, until: int) -> None:
+    """It is answered at once, but while a new file is made: then once that stands, or when it isn't in time."""
+    it = stream.rules
+    word = next((word for at, word in enumerate(stream.got) if at >= len(it.told) or it.told[at] != word), None)
+    if word == ("gone",) or word == ("fault", "JournalError") and day.rules.now >= until:
+        it.told.insert(next(at for at, one in enumerate(stream.got) if at >= len(it.told) or it.told[at] != one), word)
+        it.leaving = None
+    elif day.rules.now > until or not day.life.keeping._shell.turns.is_under_way:
+        raise Wrong(7, f"a let-go of {it.ticket} isn't answered")
 
 
 def same_releases(day: Day, durable: set[tuple[bytes, int]]) -> None:
@@ -161,7 +174,7 @@ def same_records(it: rules.Rules, history: list[dict[str, Any]]) -> None:
 def same_lines(day: Day) -> None:
     """The journal says of each session what the rules do."""
     text = day.disk.journal()
-    if len(text) < day.read_to:
+    if not text.startswith(day.read_of):
         day.read_to = 0
     for line in text[day.read_to : text.rfind(b"\n") + 1].split(b"\n")[:-1]:
         word, *its = line[17:].decode().split(" ")
@@ -172,3 +185,4 @@ def same_lines(day: Day) -> None:
             differ(2, f"whose {number} is", f"{rules.owner_of(it.ticket):032x}", its[3])
             differ(2, f"since when {number} holds, and asked", [day.rules.line._find(number).since, day.rules.line._find(number).asked], [int(its[4], 16), int(its[6], 16)])
     day.read_to = text.rfind(b"\n") + 1
+    day.read_of = text[: day.read_to]

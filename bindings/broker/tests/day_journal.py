@@ -8,7 +8,7 @@ from dataclasses import dataclass, field
 from typing import Any, Optional
 
 from tests import day_model as rules
-from tests.day_world import JOURNAL, PLACES, RECORDS, Disk
+from tests.day_world import PLACES, RECORDS, Disk
 
 ENDS = ("let_go", "gave_up", "taken", "failed")
 TICKETS = tuple(f"the ticket of client {at}" for at in range(6)) + ("a ticket of nobody",)
@@ -43,12 +43,6 @@ class Left:
         return {"left": "gave_up", "lapsed": "gave_up", "stopped": "gave_up", "not_written": "failed"}.get(self.how, "taken")
 
 
-def lines_of(text: bytes) -> set[tuple[bytes, int]]:
-    """Words and numbers of its whole lines about holds and ends."""
-    rows = [line[17:].split(b" ", 2) for line in text.split(b"\n")[:-1]]
-    return {(row[0], int(row[1], 16)) for row in rows if row[0] in (b"hold", b"end")}
-
-
 def left_in(disk: Disk) -> dict[int, Left]:
     text, found = disk.journal(), dict[int, Left]()
     places = json.loads(disk.names[PLACES].cache) if PLACES in disk.names and disk.names[PLACES].cache else {}
@@ -64,6 +58,12 @@ def left_in(disk: Disk) -> dict[int, Left]:
         elif word == "note":
             _takes(found[int(its[0], 16)], its[1], its[2:])
     return found
+
+
+def next_in(disk: Disk) -> int:
+    """The number below which all were given when the file began."""
+    head = disk.journal().split(b"\n")[0].split(b" ")
+    return int(head[4], 16) if len(head) == 5 and len(head[4]) == 16 else 0
 
 
 def _takes(it: Left, word: str, words: list[str]) -> None:
@@ -86,6 +86,24 @@ def records_in(disk: Disk) -> list[dict[str, Any]]:
     return found
 
 
+def ends_in(records: list[dict[str, Any]]) -> dict[str, str]:
+    """What became of the last session of each ticket, if it let go or was taken away."""
+    tickets: dict[Optional[int], str] = {}
+    found = dict[str, str]()
+    for it in records:
+        if it["what"] == "held" and it.get("ticket"):
+            tickets[it["session"]] = TICKET_OF.get(int(it["ticket"], 16), "?")
+        elif it["what"] in ("let_go", "failed", "taken") and it["session"] in tickets:
+            found[tickets[it["session"]]] = "taken" if it["what"] == "taken" else "let_go"
+    return found
+
+
+def notes_in(records: list[dict[str, Any]], it: Left) -> list[str]:
+    """Those of a session: of the last ones, which the journal has, not all may be in the records."""
+    noted = [one["text"] for one in records if one["what"] == "note" and one["session"] == it.number]
+    return noted[: noted.index(it.notes[0])] + it.notes if it.notes and it.notes[0] in noted else noted + it.notes
+
+
 def wrong_records(records: list[dict[str, Any]], left: dict[int, Left], told: set[int], undone: set[int]) -> list[str]:
     """Each session whose client was told that it holds is there, once, and each end behind it, and no other; `undone` are those whose let-go was
     lost by a power cut, or by a disk that failed."""
@@ -99,6 +117,10 @@ def wrong_records(records: list[dict[str, Any]], left: dict[int, Left], told: se
         if it["what"] == "held" and it["session"] in over - undone:
             wrong.append(f"{it['session']} is over, and holds behind that")
         over |= {it["session"]} if it["what"] in ENDS else set()
+    for number in told - undone - set(left):
+        # (its lines were in a file before this one)
+        if count[number, "held"] != 1 or not ends[number]:
+            wrong.append(f"{number} isn't in the journal any more; it held {count[number, 'held']} times, and ended {ends[number]} times")
     for one in left.values():
         if one.number in told - undone and count[one.number, "held"] != 1:
             wrong.append(f"{one.number} held {count[one.number, 'held']} times")

@@ -18,6 +18,9 @@ if TYPE_CHECKING:
     from tests.day_lives import Day
 
 
+SIZE = 900  # bytes
+
+
 class Stream:
     """A call of Hold, as the service sees it; `got` is what it was told."""
 
@@ -70,7 +73,10 @@ class Life:
         self.service = Service(self.keeping, None)
 
     def new(self) -> Keeping:
-        return Keeping(bay_of(self.file.text()), FOLDER, 60.0 if self.file.grace is None else self.file.grace / 1000)
+        keeping = Keeping(bay_of(self.file.text()), FOLDER, 60.0 if self.file.grace is None else self.file.grace / 1000)
+        # (so its journal begins anew again and again)
+        keeping.most_bytes = SIZE
+        return keeping
 
     def opens(self, client: int, ticket: str) -> Stream:
         return Stream(self, client, ticket)

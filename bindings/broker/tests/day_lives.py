@@ -15,13 +15,15 @@ from unittest import mock
 import grpc
 import labrun
 from labrun_broker import broker_pb2 as pb
+from labrun_broker.applying import apply
+from labrun_broker.errors import CantChange
 from tests import day_checks as checks
 from tests import day_model as rules
 from tests.day_checks import Wrong
-from tests.day_journal import ENDS, Left, left_in, lines_of, records_in, wrong_records
+from tests.day_journal import ENDS, Left, ends_in, left_in, next_in, notes_in, records_in, wrong_records
 from tests.day_life import Life, Stream
 from tests.day_model import Rules, Wish, model
-from tests.day_world import PLACES, Disk, Killed
+from tests.day_world import PLACES, Disk, Killed, lines_of
 
 LEASE = 0.75  # of the grace
 
@@ -43,7 +45,8 @@ class Day:
         self.wrong: Optional[Wrong] = None
         self.before: list[dict[str, Any]] = []
         self.kept_grace: Optional[int] = 0
-        self.read_to = 0
+        self.read_to, self.read_of = 0, b""
+        self.applying: Optional[tuple[Any, rules.File]] = None
         self.counts: Counter[str] = Counter()
         self.power = True, 0.5
         self.rules: Optional[Rules] = None
@@ -57,7 +60,8 @@ class Day:
     def stands_in(self) -> Iterator[None]:
         """For the clock, the disk and the thread of every broker."""
         with self.disk.stands_in(), mock.patch.multiple("time", time=self.clock, monotonic=lambda: self.halves / 2000):
-            with mock.patch("labrun_broker.shell.ThreadPoolExecutor", lambda *_: self.life.loop):
+            # (nobody is made to wait so that the journal can begin anew: the rules have no word of that)
+            with mock.patch("labrun_broker.shell.ThreadPoolExecutor", lambda *_: self.life.loop), mock.patch("labrun_broker.turning.HUSHES", 10**9):
                 yield
 
     def begins(self, file: rules.File) -> None:
@@ -111,6 +115,7 @@ class Day:
             raise Wrong(1, f"it keeps for {self.life.keeping.grace} s; by the rules for {grace} ms")
         it = self.rules = Rules(self.file, now, grace)
         self.began_at = now, self.halves
+        it.ends |= ends_in(self.before)
         for one in left.values():
             if now <= one.since:
                 raise Wrong(2, f"it is {now}, and {one.number} holds since {one.since}")
@@ -121,7 +126,7 @@ class Day:
             its = one.number, one.kind, rules.owner_of(one.ticket), None, None, one.asked, one.since, one.needs, now, model.HOLDS, "", "holds", "durable"
             it.line.asks.append(model.Ask(*its, token=one.token))
         it.line.granted = max([0, *(one.token for one in left.values())])
-        it.line.next = it.next = max(it.line.granted, 1 + max([0, *left, *(one["session"] or 0 for one in self.before)]))
+        it.line.next = it.next = max(it.line.granted, 1 + max([0, *left, *(one["session"] or 0 for one in self.before)]), next_in(self.disk))
         it.line.now = now
         checks.takes_up(self)
         it.follows()
@@ -147,17 +152,24 @@ class Day:
             late = {one.number for one in it.sessions.values() if it.grace is not None and one.gone_at is not None and one.gone_at + it.grace <= now}
             self.may_be_over |= late | (set(self.told_holds) - set(it.sessions))
         has_power, share = self.power
-        acked = self.disk.acked
+        durable = self.disk.durable | lines_of(self.disk.acked)
+        self.counts["turns"] += self.disk.turns
         self.disk.begins_again(has_power, share)
         self.counts["kills" if has_power else "power cuts"] += 1
-        self._keeps_what_was_told(acked, has_power)
+        self._keeps_what_was_told(durable, has_power)
         self.counts["sessions that came back"] += sum(not it.how for it in self.left().values())
 
-    def _keeps_what_was_told(self, acked: bytes, has_power: bool) -> None:
-        left, durable = self.left(), lines_of(acked)
+    def _keeps_what_was_told(self, durable: set[tuple[bytes, int]], has_power: bool) -> None:
+        left = self.left()
         self.before = records_in(self.disk)
+        over = {it["session"] for it in self.before if it["what"] in ENDS} & (self.may_be_over | self.is_over)
         for number, (instruments, _) in self.told_holds.items():
             it = left.get(number)
+            if it is None and number in over:
+                # (the journal began anew behind its end, which is in the records)
+                self.is_over.add(number)
+                self._keeps_notes(Left(number, 0, instruments, "", 0, 0))
+                continue
             if it is None or set(it.names) != set(instruments):
                 raise Wrong(2, f"{number} was told that it holds {instruments}, and is lost by the {'kill' if has_power else 'power cut'}")
             if it.how and number not in self.may_be_over | self.is_over:
@@ -184,7 +196,7 @@ class Day:
     def _keeps_notes(self, it: Left) -> None:
         sent = self.notes[it.number]
         wanted, at = [text for text, was_answered in sent if was_answered], 0
-        for text in it.notes:
+        for text in notes_in(self.before, it):
             at += at < len(wanted) and text == wanted[at]
         if at < len(wanted) or not set(it.notes) <= {text for text, _ in sent}:
             raise Wrong(3, f"notes of {it.number} that were answered: {wanted}; and there are {it.notes}")
@@ -213,7 +225,40 @@ class Day:
     # ---- what happens
 
     def same(self) -> None:
+        if self.applying is not None and self.life.keeping.bay is not self.applying[0]:
+            self.file, self.applying = self.applying[1], None
+            self.rules.applies(self.file)
         checks.same(self)
+
+    def applies(self, file: rules.File) -> None:
+        """An operator changes the bay; nobody asks anything before that is answered."""
+        # (where a sync takes most of a second, no moment may be quiet in time)
+        is_slow = self.disk.latency > 100 or any(end > self.halves + 200 for end, _ in self.life.loop._ends)
+        before, is_sound, task = self.life.keeping.bay, self.disk.mode == "sound" and not is_slow and not self.has_bad_disk, None
+        was_in_the_way = self.rules.is_in_the_way(file)
+        self.applying = before, file
+        with contextlib.suppress(Killed):
+            task = self.life.loop.create_task(apply(self.life.keeping, file.text(), "eve", False))
+        end = self.halves + 4 * rules.DISK
+        self._comes(self.halves)
+        while not self.disk.is_dead and task is not None and not task.done():
+            if self.halves > end:
+                raise Wrong(7, f"a bay isn't changed: {task}")
+            self._comes(max(self.life.loop.next_moment(), self.halves + 1))
+        if not self.disk.is_dead and self.halves % 2:
+            self._comes(self.halves + 1)
+        self.applying = None
+        if self.disk.is_dead or task is None:
+            return
+        fault, has_changed = task.exception(), self.life.keeping.bay is not before
+        self.counts["changes" if has_changed else "changes refused"] += 1
+        if isinstance(fault, CantChange):
+            if has_changed or not (was_in_the_way or self.rules.is_in_the_way(file)):
+                raise Wrong(9, f"nobody is in the way, and it is refused: {fault}")
+        elif fault is not None and (is_sound and self.disk.mode == "sound" or not isinstance(fault, labrun.JournalError)):
+            raise Wrong(9, f"it isn't changed: {fault!r}")
+        elif fault is None and was_in_the_way and self.rules.is_in_the_way(file):
+            raise Wrong(9, "somebody is in the way, and it has changed")
 
     def goes(self, does: Callable[[], None], says: Callable[[], None]) -> None:
         """Somebody does something; what the rules say of it; and whether it is the same."""
@@ -238,11 +283,11 @@ class Day:
         if self.disk.is_dead:
             return
         self.rules.now = self.now()
-        before = copy.deepcopy((self.rules, [it.rules for it in self.life.streams])), list(self.releases), self.read_to
+        before = copy.deepcopy((self.rules, [it.rules for it in self.life.streams])), list(self.releases), (self.read_to, self.read_of)
         try:
             self._saw(first[1], second[1])
         except Wrong as fault:
-            (self.rules, streams), self.releases, self.read_to = before
+            (self.rules, streams), self.releases, (self.read_to, self.read_of) = before
             for it, its in zip(self.life.streams, streams):
                 it.rules = its
             try:
@@ -349,6 +394,8 @@ class Day:
             self._has_let_go(session.number)
         elif session is not None and (kind == "noted" or kind == "pong" and its.holds) and (session.pings or session.heard_at is not None):
             self.believes[session.number] = stream.sent[kind] + LEASE * (self.rules.grace or math.inf)
+        elif kind == "gone" and stream.rules.leaving is not None:
+            self._has_let_go(stream.rules.leaving[0])
         if kind == "noted":
             self._is_noted(stream)
 

@@ -7,7 +7,7 @@ from __future__ import annotations
 import math
 import os
 import sys
-from dataclasses import dataclass, field
+from dataclasses import dataclass, field, replace
 from typing import Any, NamedTuple, Optional
 
 from tests.day_bays import INSTRUMENTS, STATIONS, File, bits, names_of, owner_of
@@ -74,7 +74,13 @@ class Stream:
     session: Optional[Session] = None
     waits: bool = False
     note: Optional[tuple[int, str, int]] = None
+    # the session of which it let go, and until when it is told so
+    leaving: Optional[tuple[int, int]] = None
     is_open: bool = True
+
+    @property
+    def is_busy(self) -> bool:
+        return self.note is not None or self.leaving is not None
 
 
 @dataclass(frozen=True)
@@ -131,6 +137,23 @@ class Rules:
             session = self.sessions.get(it[1])
             if session is not None:
                 self._is_told(session, it[2])
+
+    # ---- another file
+
+    def is_in_the_way(self, file: File) -> bool:
+        """Whether somebody holds or waits for what isn't for him in this bay."""
+        classes, asks = file.classes(), [it for it in self.line.asks if it.stage in (model.HOLDS, model.WAITS)]
+        wanted = lambda it: it.needs if it.stage == model.HOLDS else model.union(one.needs for one in self.line.line if one.ask == it.number)
+        if not file.guests and any(not it.kind for it in asks):
+            return True
+        holders = [it.kind for it in asks if it.stage == model.HOLDS]
+        return any(wanted(it) & ~classes[it.kind][0] for it in asks) or any(holders.count(kind) > places for kind, (_, places) in enumerate(classes))
+
+    def applies(self, file: File) -> None:
+        """(How many may overtake, and for how long somebody is kept, stays as it was.)"""
+        self.file = replace(file, grace=self.file.grace, overtakes=self.file.overtakes)
+        self.line.rules.classes = file.classes()
+        self.follows()
 
     # ---- what clients do
 
@@ -235,7 +258,7 @@ class Rules:
             session, stream.session = stream.session, None
             self.line.let_go(session.number, self.now)
             self._over(session, LETS_GO if failed is None else "failed", failed or "", LETS_GO)
-            stream.told.append(("gone",))
+            stream.leaving = session.number, self.now + DISK
             self.follows()
 
     def _gives_up(self, stream: Stream, text: str) -> None:
@@ -268,7 +291,7 @@ class Rules:
 
     def is_cut(self, stream: Stream, says_so: bool = False) -> None:
         """Its stream is gone; `says_so`: it has ended it."""
-        stream.is_open, stream.note = False, None
+        stream.is_open, stream.note, stream.leaving = False, None, None
         if stream.waits:
             self._gives_up(stream, "the client is gone")
             if says_so:

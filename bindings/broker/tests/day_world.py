@@ -28,6 +28,12 @@ class Killed(BaseException):
     """The broker was killed here; whatever it does on the way out counts for nothing."""
 
 
+def lines_of(text: bytes) -> set[tuple[bytes, int]]:
+    """Words and numbers of its whole lines about holds and ends."""
+    rows = [line[17:].split(b" ", 2) for line in text.split(b"\n")[:-1]]
+    return {(row[0], int(row[1], 16)) for row in rows if row[0] in (b"hold", b"end")}
+
+
 class Loop(asyncio.BaseEventLoop):
     """One callback at a time. The clock has whole milliseconds, and work of the disk ends between two of them."""
 
@@ -125,15 +131,16 @@ class Loop(asyncio.BaseEventLoop):
     def _ran(self, func: Callable[..., Any], args: tuple[Any, ...], asked: bytes) -> tuple[list[Any], bytes]:
         """What is to be heard of it, and what is durable then. (What comes while it works may be, too, and nobody knows it.)"""
         before, heard = self.disk.acked, list[Any]()
-        self._heard = heard
+        self._heard, self.disk.is_working = heard, True
         try:
             func(*args)
         finally:
-            after, self.disk.acked, self._heard = self.disk.acked, before, None
+            after, self.disk.acked, self._heard, self.disk.is_working = self.disk.acked, before, None, False
         return heard, asked if after.startswith(asked) else after
 
     def _worked(self, heard: list[Any], acked: bytes) -> None:
-        self.disk.acked, self._is_busy = acked, False
+        self._is_busy = False
+        self.disk.is_heard(acked)
         for callback, args in heard:
             self.call_soon(callback, *args)
         self._next_work()
@@ -170,8 +177,12 @@ class Disk:
     def __init__(self) -> None:
         self.names: dict[str, File] = {}
         self.kept_names: dict[str, File] = {}
-        self.open_files: dict[int, str] = {}
+        self.open_files: dict[int, Optional[File]] = {}  # None: the folder
         self.acked = b""
+        self.turns = 0  # how often the journal began anew
+        # lines that the broker knows to be on the disk, in whatever file; and whether its thread works, and it hasn't heard of that
+        self.durable: set[tuple[bytes, int]] = set()
+        self.is_working = False
         self.tried: set[tuple[bytes, int]] = set()  # words and numbers of lines that were handed to the disk
         self.mode, self.latency, self.is_early = "sound", 1, True
         self.is_dead = False
@@ -206,7 +217,7 @@ class Disk:
                 it.cache = it.kept = it.after_power_cut(share)
                 it.lost = None
         self.open_files, self._stuck, self.is_dead, self.kill_in_callbacks, self.kill_in_calls = {}, [], False, None, None
-        self.acked, self.mode, self.tried = b"", "sound", set()
+        self.acked, self.mode, self.tried, self.durable = b"", "sound", set(), set()
 
     # each call that changes something: it may be the last one, before it, in the middle of it or behind it
 
@@ -237,15 +248,20 @@ class Disk:
         if flags & os.O_TRUNC:
             self._does(lambda: self.names[name].cut(0))
         number = 1000 + len(self.open_files)
-        self.open_files[number] = name
+        self.open_files[number] = None if name == "." else self.names[name]
         return number
 
     def _file(self, number: int) -> File:
-        return self.names[self.open_files[number]]
+        file = self.open_files[number]
+        assert file is not None
+        return file
+
+    def _is_journal(self, number: int, *others: str) -> bool:
+        return any(self.names.get(name) is self.open_files[number] for name in (JOURNAL, *others))
 
     def pwrite(self, number: int, text: bytes, place: int) -> int:
         file, text = self._file(number), bytes(text)
-        if self.open_files[number] == JOURNAL:
+        if self._is_journal(number, f"{JOURNAL}.new"):
             self.tried |= {(it[1], int(it[2], 16)) for it in re.finditer(rb"(?m)^[0-9a-f]{16} (hold|end) ([0-9a-f]{16}) ", text)}
         self._fails("writes fail", "all fails")
 
@@ -266,35 +282,54 @@ class Disk:
         return self._file(number).cache[place : place + length]
 
     def fstat(self, number: int) -> Any:
-        return mock.Mock(st_size=len(self._file(number).cache))
+        return _stat_of(self._file(number))
+
+    def stat(self, path: str) -> Any:
+        return _stat_of(self.names[os.path.relpath(path, FOLDER)])
 
     def ftruncate(self, number: int, length: int) -> None:
         self._fails("all fails")
         self._does(lambda: self._file(number).cut(length))
 
     def fsync(self, number: int) -> None:
-        if self.open_files[number] == ".":
+        if self.open_files[number] is None:
+            self._fails("all fails")
             self._does(self._keeps_names)
             return
         file = self._file(number)
         if self.mode in ("syncs fail", "all fails"):
-            if self.open_files[number] == JOURNAL and len(file.cache) > len(file.kept):
+            if self._is_journal(number) and len(file.cache) > len(file.kept):
                 file.lost = len(file.kept), len(file.cache)
             self._fails(self.mode)
 
         def syncs() -> None:
             file.kept = file.synced()
-            if self.open_files[number] == JOURNAL:
-                self.acked = file.cache
+            if self._is_journal(number):
+                self._is_acked(file.cache)
 
         self._does(syncs)
 
     fdatasync = fsync
 
     def _keeps_names(self) -> None:
+        is_new = self.kept_names.get(JOURNAL) is not self.names.get(JOURNAL) and JOURNAL in self.kept_names
         self.kept_names = dict(self.names)
+        if is_new:
+            self.turns += 1
+            self._is_acked(self.names[JOURNAL].kept)
+
+    def _is_acked(self, text: bytes) -> None:
+        self.acked = text
+        if not self.is_working:
+            self.is_heard(text)
+
+    def is_heard(self, acked: bytes) -> None:
+        self.acked = acked
+        self.durable |= lines_of(acked)
 
     def replace(self, old: str, new: str) -> None:
+        self._fails("all fails")
+
         def renames() -> None:
             self.names[os.path.relpath(new, FOLDER)] = self.names.pop(os.path.relpath(old, FOLDER))
 
@@ -330,6 +365,10 @@ class Disk:
                 stack.enter_context(mock.patch.object(module, "open", self.opened, create=True))
             stack.enter_context(mock.patch.object(labrun.store.fcntl, "flock"))
             yield
+
+
+def _stat_of(file: File) -> Any:
+    return mock.Mock(st_size=len(file.cache), st_ino=id(file), st_dev=1)
 
 
 class _Written(io.StringIO):

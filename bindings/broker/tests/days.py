@@ -13,7 +13,8 @@ What clients, operators, the disk and the clock do is drawn beforehand, and so a
  5. No record is without its end, and none is there twice.
  6. Whoever waits isn't passed more often than the bay says, and of those that want the same who asked first is served first.
  7. Nothing hangs: each ask is answered once the instruments are free and the broker is up.
- 8. Status shows who holds, who waits for whom, and who is gone since when, as it is."""
+ 8. Status shows who holds, who waits for whom, and who is gone since when, as it is.
+ 9. A bay that changes while it runs does so as a whole, or not at all, and only if nobody is in the way."""
 
 from __future__ import annotations
 
@@ -61,8 +62,8 @@ def wish_by(dice: random.Random, client: int) -> Step:
 def step_by(dice: random.Random) -> Step:
     client = dice.randrange(CLIENTS)
     kind = dice.choices(
-        ["wish", "burst", "note", "let_go", "ping", "cut", "ends", "release", "race", "passes", "disk", "kill", "stops", "wall"],
-        [14, 3, 5, 12, 4, 6, 2, 3, 8, 14, 5, 5, 1.5, 0.5],
+        ["wish", "burst", "note", "let_go", "ping", "cut", "ends", "release", "race", "passes", "disk", "kill", "stops", "wall", "applies"],
+        [14, 3, 5, 12, 4, 6, 2, 3, 8, 14, 5, 5, 1.5, 0.5, 2],
     )[0]  # fmt: skip
     if kind == "race":
         first, second = dice.sample(range(CLIENTS), 2)
@@ -78,7 +79,9 @@ def step_by(dice: random.Random) -> Step:
     if kind == "kill":
         how = dice.choice(["callbacks", "callbacks", "before", "middle", "behind"])
         return kind, how, dice.choice([0, 1, 2, 3, 4, 5, 7, 10, 20]), dice.random() < 0.6, dice.random(), dice.random() < 0.3
-    return (kind, dice.random() < 0.5) if kind == "stops" else (kind, dice.choice([-10**9, -5000, 5000, 10**9]))
+    if kind in ("stops", "applies"):
+        return kind, dice.random() < 0.5
+    return kind, dice.choice([-10**9, -5000, 5000, 10**9])
 
 
 def one_by(dice: random.Random, client: int) -> Step:
@@ -138,7 +141,7 @@ class Doing:
     def free(self, client: int) -> Optional[Stream]:
         """The same, if it doesn't wait for an answer."""
         it = self.stream(client)
-        return None if it is None or it.rules.note is not None else it
+        return None if it is None or it.rules.is_busy else it
 
     # the steps
 
@@ -166,7 +169,7 @@ class Doing:
         held = next((it for it in day.rules.sessions.values() if it.ticket == ticket and it.holds), None)
         # (of two that wait until they may come back with one ticket, the clock's last digits say who is first)
         is_toss = any(it[2].ticket == ticket for it in day.rules.later) or held is not None and held.back_at > day.rules.now - rules.BACK and ticket in tickets
-        if stream is not None and stream.rules.note is not None or is_toss:
+        if stream is not None and stream.rules.is_busy or is_toss:
             return None
         if stream is None or manner == "again":
             stream = self.stream(client, True)
@@ -238,6 +241,10 @@ class Doing:
     def stops(self, is_other: bool) -> None:
         self.day.stops(self.next_file(is_other))
 
+    def applies(self, is_last: bool) -> None:
+        """The bay gets another of the day's files, while it runs."""
+        self.day.applies(self.files[-1 if is_last else (self.at + 1) % len(self.files)])
+
     def wall(self, jump: int) -> None:
         self.day.wall += jump
 
@@ -260,7 +267,7 @@ class Doing:
             day.passes(1100)
         else:
             raise Wrong(7, f"it hangs: {day.life.keeping.status()}")
-        if day.releases or any(it.rules.note for it in day.life.streams):
+        if day.releases or any(it.rules.is_busy for it in day.life.streams if it.rules.is_open):
             raise Wrong(7, "somebody is never answered")
         day.stops(day.file)
         day.life.ends()

@@ -12,7 +12,7 @@ class Days(unittest.TestCase):
     def test_a_hundred(self) -> None:
         wrong, counts = days(100, 1)
         self.assertEqual("\n".join(wrong), "")
-        for what, least in (("kills", 50), ("power cuts", 30), ("stops", 50), ("sessions that came back", 100), ("bay files refused", 5)):
+        for what, least in (("kills", 50), ("power cuts", 30), ("stops", 50), ("sessions that came back", 100), ("bay files refused", 5), ("turns", 20), ("changes", 10), ("changes refused", 10)):
             self.assertGreater(counts[what], least, what)
 
     def test_a_day_is_the_same_again(self) -> None:

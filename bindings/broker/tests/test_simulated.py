@@ -5,7 +5,7 @@ import sys
 import unittest
 from unittest import mock
 
-from tests import test_keeping, test_state, test_written
+from tests import test_applying, test_keeping, test_state, test_turning, test_written
 from tests.brokers import TOP
 
 BAY = os.path.join(TOP, "bench", "bay")
@@ -42,6 +42,18 @@ class Gone(Simulated, test_keeping.Gone):
 
 
 class Chance(Simulated, test_keeping.Chance): ...
+
+
+class Applied(Simulated, test_applying.Applied): ...
+
+
+class Anew(Simulated, test_turning.Anew): ...
+
+
+class KilledAnew(Simulated, test_turning.Killed): ...
+
+
+class FailsAnew(Simulated, test_turning.Fails): ...
 
 
 class OnDisk(Simulated, test_written.OnDisk): ...

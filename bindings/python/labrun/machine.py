@@ -12,7 +12,8 @@ import weakref
 from typing import Any, Callable, NamedTuple, Optional, Sequence
 
 from ._faults import LabrunError
-from ._library import NO_MEMORY, NO_ROOM, NOT_NOW, NOT_OPEN, library_path, may_load
+from ._library import NO_MEMORY, NO_ROOM, NOT_OPEN, library_path, may_load
+from ._library import NOT_NOW as NOT_NOW
 
 # the statuses of the bay's own
 NUMBER, STOPPED, NO_CLASS, EMPTY, MAY_NOT, LINE_FULL, OVER, ANOTHER, UNSOUND, OWNER = range(20, 30)
@@ -69,6 +70,8 @@ _HANDLE, _CLASS, _TERMS = struct.Struct("=QQ"), struct.Struct("=QII"), struct.St
 _ASKED, _OUTCOME, _STANDING = struct.Struct("=QQQQQII"), struct.Struct("=QQQQI4x"), struct.Struct("=QQQQQQII")
 
 _packs, _unpacks = _ASKED.pack_into, _OUTCOME.unpack
+# behind the sum, the word `bay` and its hash
+_BASE = slice(86, 102)
 
 _WORD, _LONG, _SIZE, _PLACE, _TEXT = ctypes.c_uint32, ctypes.c_uint64, ctypes.c_size_t, ctypes.c_void_p, ctypes.c_char_p
 _CALLS: dict[str, list[Any]] = {
@@ -90,6 +93,7 @@ _CALLS: dict[str, list[Any]] = {
     "look": [_PLACE, _SIZE, _PLACE, _PLACE],
     "keeper": [_PLACE, _LONG, _WORD, _PLACE],
     "waits": [_PLACE, _LONG, _SIZE, _PLACE, _PLACE],
+    "turn": [_PLACE, _PLACE, _SIZE, _LONG, _PLACE, _SIZE, _PLACE, _PLACE],
     "free": [_PLACE],
 }
 # what each may refuse
@@ -102,7 +106,10 @@ _MAY: dict[str, tuple[int, ...]] = {
     "back": (OVER,),
     "note": (NOT_NOW, MAY_NOT),
     "journal": (NO_ROOM,),
+    "turn": (NOT_NOW, NO_ROOM, NO_CLASS, MAY_NOT),
 }
+# which of them say what is at fault; and which a library of before doesn't have: that is never the moment for them
+_TELL_FAULT, _NEW = ("resume", "turn"), ("turn",)
 # whose NOT_NOW says that there is nothing
 _MAY_FIND_NONE = ("tell", "look", "keeper", "waits")
 
@@ -120,6 +127,8 @@ def _bound(path: str) -> dict[str, Callable[..., int]]:
         try:
             call: Any = getattr(long if name == "resume" else short, f"lab_bay_{name}")
         except AttributeError:
+            if name in _NEW:
+                continue
             raise OSError(f"{path} has no lab_bay_{name}: it is of another version of labrun") from None
         call.argtypes, call.restype = types, _WORD
         calls[name] = call
@@ -143,8 +152,8 @@ def _freed(free: Callable[..., int], handle: Any) -> None:
 
 
 class Machine:
-    """A bay: with a `journal`, as that has it, and then `used` is how many of its bytes have whole lines. `classes` are pairs of the
-    instruments that one may use, as bits, and how many places it has."""
+    """A bay: with a `journal`, as that has it, and then `used` is how many of its bytes have whole lines, and `base` how many the files before
+    it had. `classes` are pairs of the instruments that one may use, as bits, and how many places it has."""
 
     def __init__(self, classes: Sequence[tuple[int, int]], terms: Terms, journal: bytes = b"", now: int = 0) -> None:
         self._calls = _calls()
@@ -157,15 +166,15 @@ class Machine:
         # (every session makes these)
         self._ask, self._tell, self._leave = (self._calls[name] for name in ("ask", "tell", "leave"))
         self._text = ctypes.create_string_buffer(1 << 14)
-        self.used = self._opens(b"".join(_CLASS.pack(*it, 0) for it in classes), len(classes), _TERMS.pack(*terms), journal, now)
+        self.used, self.base = self._opens(classes, _TERMS.pack(*terms), journal, now), base_of(journal)
         # (freed once, whether by `free` or because nobody has the machine any more; the handle stays until then)
         self.free = weakref.finalize(self, _freed, self._calls["free"], handle)
         # (at the end of the process a thread may be calling it yet)
         self.free.atexit = False
 
-    def _opens(self, classes: bytes, count: int, terms: bytes, journal: bytes, now: int) -> int:
-        rows, its = ctypes.create_string_buffer(classes), ctypes.create_string_buffer(terms)
-        given = ctypes.addressof(rows), count, ctypes.addressof(its)
+    def _opens(self, classes: Sequence[tuple[int, int]], terms: bytes, journal: bytes, now: int) -> int:
+        rows, its = _rows_of(classes), ctypes.create_string_buffer(terms)
+        given = ctypes.addressof(rows), len(classes), ctypes.addressof(its)
         if not journal:
             self._does("open", *given, self._at)
             return 0
@@ -174,6 +183,8 @@ class Machine:
 
     def _does(self, name: str, *given: Any) -> bool:
         """False: there is nothing."""
+        if name in _NEW and name not in self._calls:
+            raise Refusal(NOT_NOW)
         status = self._calls[name](*given)
         return not status or self._finds(name, status)
 
@@ -181,7 +192,7 @@ class Machine:
         if status == NOT_NOW and name in _MAY_FIND_NONE:
             return False
         if status in _MAY.get(name, ()):
-            raise Refusal(status, self._other.value if name == "resume" else 0)
+            raise Refusal(status, self._other.value if name in _TELL_FAULT else 0)
         raise MemoryError() if status == NO_MEMORY else LabrunError(f"lab_bay_{name}: status {status}")
 
     # whoever asks
@@ -257,6 +268,20 @@ class Machine:
             except Refusal:
                 self._text = ctypes.create_string_buffer(2 * self._other.value)
 
+    def turn(self, classes: Sequence[tuple[int, int]], now: int) -> bytes:
+        """The bay goes on in a new file, which begins with this text, and with these classes; without a journal there is no text. None of it is
+        durable before that file stands in the place of the old one. Refusal: NOT_NOW, NO_CLASS, MAY_NOT with the ask that may not."""
+        rows = _rows_of(classes)
+        given = self._at, ctypes.addressof(rows), len(classes), now
+        while True:
+            try:
+                self._does("turn", *given, ctypes.addressof(self._text), len(self._text), self._number_at, self._other_at)
+                return ctypes.string_at(self._text, self._number.value)
+            except Refusal as it:
+                if it.status != NO_ROOM:
+                    raise
+                self._text = ctypes.create_string_buffer(2 * self._number.value)
+
     def durable(self, position: int) -> None:
         self._does("durable", self._at, position)
 
@@ -300,6 +325,15 @@ class Machine:
         """The least number that the next ask may have."""
         self._does("look", self._at, 2**63, self._standing_at, self._number_at)
         return self._number.value
+
+
+def base_of(journal: bytes) -> int:
+    """How many bytes the files before it had, by the first line: positions count all of them."""
+    return int(journal[_BASE], 16) if journal else 0
+
+
+def _rows_of(classes: Sequence[tuple[int, int]]) -> Any:
+    return ctypes.create_string_buffer(b"".join(_CLASS.pack(*it, 0) for it in classes))
 
 
 def _room_for(it: struct.Struct) -> Any:

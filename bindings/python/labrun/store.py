@@ -36,6 +36,10 @@ class Store(Protocol):
         """What was written before outlives a crash. Another thread may call it than the one that writes. OSError: nobody knows what does,
         until `cut`; and what was written since the last sync has to be written again."""
 
+    def anew(self, text: bytes) -> None:
+        """Only this text is there from now on, in place of all before, and it outlives a crash. Another thread may call it than the one that
+        writes. OSError: after a crash either is there, as a whole, until a call has succeeded; and nothing is written before that."""
+
     def close(self) -> None:
         """Nobody writes any more. It may be called twice."""
 
@@ -45,12 +49,15 @@ class FileStore:
     not the machine."""
 
     def __init__(self, path: str | os.PathLike[str], syncs: bool = True, mode: int = 0o666) -> None:
-        self.path, self._syncs = os.fspath(path), syncs
+        self.path, self._syncs, self._mode = os.fspath(path), syncs, mode
         self._file = os.open(self.path, os.O_RDWR | os.O_CREAT | os.O_CLOEXEC, mode)
         self._is_closed = False
         try:
             # (the lock goes with the process, however that ends)
             fcntl.flock(self._file, fcntl.LOCK_EX | fcntl.LOCK_NB)
+            if not self._is_in_place():
+                # (its owner has put another in its place just now)
+                raise BlockingIOError
         except BlockingIOError:
             self.close()
             raise JournalError(self.path, "another process has it open") from None
@@ -112,10 +119,37 @@ class FileStore:
         if self._syncs:
             os.fdatasync(self._file)
 
+    def anew(self, text: bytes) -> None:
+        new = f"{self.path}.new"
+        file = os.open(new, os.O_RDWR | os.O_CREAT | os.O_TRUNC | os.O_CLOEXEC, self._mode)
+        try:
+            # (whoever opens it from now on meets the lock)
+            fcntl.flock(file, fcntl.LOCK_EX | fcntl.LOCK_NB)
+            at = 0
+            while at < len(text):
+                at += os.pwrite(file, text[at:], at)
+            if self._syncs:
+                os.fsync(file)
+            os.replace(new, self.path)
+        except BaseException:
+            os.close(file)
+            raise
+        # (it may have been closed meanwhile)
+        before, self._file, self._length, self._is_torn = self._file, file, len(text), False
+        os.close(file if self._is_closed else before)
+        if self._syncs:
+            self._syncs_folder()
+
     def close(self) -> None:
         if not self._is_closed:
             self._is_closed = True
             os.close(self._file)
+
+    def _is_in_place(self) -> bool:
+        try:
+            return os.path.samestat(os.fstat(self._file), os.stat(self.path))
+        except FileNotFoundError:
+            return False
 
     def _syncs_folder(self) -> None:
         folder = os.open(os.path.dirname(os.path.abspath(self.path)), os.O_RDONLY | os.O_CLOEXEC)

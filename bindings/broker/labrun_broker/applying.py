@@ -1,0 +1,167 @@
+"""A bay that changes while it runs: another file of it is looked at, and taken as a whole, or not at all. Who holds goes on to hold, and who waits
+to wait, in the same order; what can't be, because somebody holds or waits for what is gone, is refused, with who that is.
+
+Whether it can be is for the bay's machine to say; here stands only why not."""
+
+from __future__ import annotations
+
+import asyncio
+import builtins
+import functools
+from dataclasses import replace
+from typing import TYPE_CHECKING, Iterator, Optional, Sequence
+
+from labrun import JournalError
+from labrun.machine import HOLDS, MAY_NOT, WAITS, Refusal
+
+from .bay import Bay, BayFault, bay_of
+from .errors import BadWish, CantChange
+from .places import Places
+from .standing import Standings
+from .texts import span
+from .turning import STANDS
+
+if TYPE_CHECKING:
+    from .keeping import Keeping
+
+LATER = "with the next start of the broker"
+
+
+def changes(before: Bay, after: Bay) -> list[str]:
+    """What is other in the second one, a line each."""
+    return [
+        *_of_names("instrument", before.instruments, after.instruments),
+        *_of_names("station", tuple(before.stations), tuple(after.stations)),
+        *_of_uses(before, after),
+        *([f"guests: {after.guests} hold at once, and not {before.guests}"] if before.guests != after.guests else []),
+        *(f"{name}: {_told(value)}, and not {_told(old)}" for name, value, old in _of_numbers(before, after)),
+    ]
+
+
+def _of_names(what: str, before: tuple[str, ...], after: tuple[str, ...]) -> Iterator[str]:
+    yield from (f"{what} {name}: new" for name in after if name not in before)
+    yield from (f"{what} {name}: taken out" for name in before if name not in after)
+
+
+def _of_uses(before: Bay, after: Bay) -> Iterator[str]:
+    both = [(f"station {name}", before.stations[name], uses) for name, uses in after.stations.items() if name in before.stations]
+    if before.guests and after.guests:
+        both.append(("guests", before.guests_use, after.guests_use))
+    for name, old, new in both:
+        for verb, its in (("may use", set(new) - set(old)), ("may not use", set(old) - set(new))):
+            if its:
+                yield f"{name}: {verb} {' '.join(sorted(its))} any more" if "not" in verb else f"{name}: {verb} {' '.join(sorted(its))}, too"
+
+
+def _of_numbers(before: Bay, after: Bay) -> Iterator[tuple[str, object, object]]:
+    for key, value in vars(after.limits).items():
+        if value != (old := getattr(before.limits, key)):
+            yield f"limits.{key}", value, old
+    limits = [("limit", after.limit, before.limit), ("guests.limit", after.guests_limit, before.guests_limit)]
+    names = dict.fromkeys((*before.station_limits, *after.station_limits))
+    limits += [(f"station_limits.{name}", after.station_limits.get(name), before.station_limits.get(name)) for name in names]
+    for name, new, was in limits:
+        if new != was:
+            yield f"{name} (for who asks from now on)", _span(new), _span(was)
+    for key in LATER_KEYS:
+        if (value := getattr(after, key)) != (old := getattr(before, key)):
+            yield f"{key} ({LATER})", value, old
+
+
+# what the machine has for as long as it is open
+LATER_KEYS = ("gone", "overtakes")
+
+
+def _span(value: Optional[float]) -> Optional[str]:
+    return None if value is None else span(value)
+
+
+def _told(value: object) -> str:
+    return "what it is without a line" if value is None else str(value)
+
+
+async def apply(keeping: Keeping, text: str, by: str, is_check: bool) -> list[str]:
+    """What has changed, or would. BadWish: the file is no bay. CantChange says who would be in the way. JournalError: it couldn't be written."""
+    try:
+        after = bay_of(text)
+    except BayFault as fault:
+        raise BadWish(str(fault)) from None
+    async with keeping.changing:
+        return await _apply(keeping, after, by, is_check)
+
+
+async def _apply(keeping: Keeping, after: Bay, by: str, is_check: bool) -> list[str]:
+    before = keeping.bay
+    if after.name != before.name:
+        raise CantChange(f"the file is of the bay {after.name}, and this one is {before.name}: give it a broker and a folder of its own")
+    try:
+        places = keeping.places.with_bay(after)
+    except BayFault as fault:
+        raise CantChange(str(fault)) from None
+    _may(keeping, places, after)
+    its = changes(before, after)
+    if is_check or not its:
+        return its
+    bay = replace(after, **{key: getattr(before, key) for key in LATER_KEYS})
+    if places != keeping.places:
+        await keeps(keeping, places)
+
+    def then() -> None:
+        keeping.bay = bay
+        keeping._record("changed", text=f"by {by}: {'; '.join(its)}")
+
+    try:
+        await keeping._shell.turns.turn(places.classes(bay), then)
+    except Refusal as it:
+        if it.status == MAY_NOT:
+            _may(keeping, places, after)
+        raise CantChange(f"the bay can't be so: {it}") from None
+    keeping.says(f"the bay has changed, by {by}: {'; '.join(its)}")
+    return its
+
+
+def _may(keeping: Keeping, places: Places, after: Bay) -> None:
+    """CantChange: not everybody may go on with what he holds or waits for."""
+    if whys := list(_in_the_way(keeping, places, after)):
+        raise CantChange("\n".join(["nothing has changed:", *whys]))
+
+
+def _in_the_way(keeping: Keeping, places: Places, after: Bay) -> Iterator[str]:
+    classes, stands, guests = places.classes(after), Standings(keeping), 0
+    for row in keeping.machine.standings():
+        session = keeping.by_number.get(row.number)
+        if session is None or row.what not in (HOLDS, WAITS):
+            continue
+        its = row.needs if row.what == HOLDS else session.wanted
+        guests += row.what == HOLDS and not row.kind
+        who = f"{session.name} ({session.by})" if session.by else session.name
+        since = stands.span_since(row.since)
+        lacks = places.names(its & ~classes[row.kind][0])
+        gone = [name for name in lacks if name not in after.instruments]
+        if places.station(row.kind) not in after.stations if row.kind else not after.guests:
+            does = f"has held {_all(places.names(its))}" if row.what == HOLDS else f"has waited for {_all(places.names(its))}"
+            yield f"{who if row.kind else 'guests are'} {'is ' if row.kind else ''}taken out, and {'' if row.kind else f'{who} '}{does} for {since}"
+        elif lacks:
+            does = "has held" if row.what == HOLDS else "has waited for"
+            what = f"{_all(gone)} {'is' if len(gone) == 1 else 'are'} taken out" if gone else f"{session.name} may not use {_all(lacks)} any more"
+            yield f"{what}, and {who} {does} {'it' if len(gone or lacks) == 1 else 'them'} for {since}"
+    if guests > after.guests > 0:
+        yield f"{guests} guests hold, and by the file only {after.guests} may"
+
+
+def _all(names: Sequence[str]) -> str:
+    return " and ".join([", ".join(names[:-1]), names[-1]] if len(names) > 1 else names)
+
+
+async def keeps(keeping: Keeping, places: Places) -> None:
+    """The journal's lines are read by them. (Names that nobody has do no harm.)"""
+    state = keeping._opened.state
+    if state is not None:
+        try:
+            async with asyncio.timeout(STANDS):
+                await keeping._shell.runs(functools.partial(state.keeps, places))
+        except builtins.TimeoutError:
+            raise JournalError(state.store.path, f"the disk doesn't answer for {STANDS:g} s, and what was to be written may be there later") from None
+        except OSError as fault:
+            raise JournalError(state.store.path, f"the bay's names couldn't be written: {fault.strerror or fault}") from None
+    keeping.places = places

@@ -1,0 +1,80 @@
+"""Instruments that are out of order. Nobody comes to hold one; whoever holds it goes on.
+
+A wish goes round it: of its sets only those count that don't need it. If none is left it is refused at once, and whoever waits is told the same:
+in line it would keep its other instruments from everybody else until the instrument is mended. What is out of order stands in the state
+(places.py), so it stays so when the broker begins again."""
+
+from __future__ import annotations
+
+import time
+from dataclasses import replace
+from typing import TYPE_CHECKING, Iterable
+
+from labrun.machine import WAITS
+
+from .applying import keeps
+from .errors import OutOfOrder
+from .places import Out
+from .texts import span
+from .wishes import Wish, check_instrument, check_note
+
+if TYPE_CHECKING:
+    from .keeping import Keeping
+    from .standing import Session
+
+
+def going_round(wish: Wish, out: dict[str, Out]) -> Wish:
+    """The wish without the sets that can't be had. OutOfOrder: there is no other."""
+    left = tuple(it for it in wish.choices if not out.keys() & set(it))
+    if not left:
+        raise OutOfOrder(", ".join(told(name, out[name]) for name in wish.names if name in out))
+    return wish if left == wish.choices else replace(wish, any_of=left)
+
+
+def told(name: str, it: Out) -> str:
+    why = f": {it.why}" if it.why else ""
+    return f"{name} is out of order for {span(time.time() - it.since)}{why} (says {it.by})"
+
+
+async def disable(keeping: Keeping, name: str, why: str, by: str) -> None:
+    """JournalError: it couldn't be written, and so isn't so. NoInstrument, BadWish."""
+    check_instrument(name, keeping.bay)
+    check_note(why, keeping.bay)
+    async with keeping.changing:
+        await keeps(keeping, replace(keeping.places, out={**keeping.places.out, name: Out(why, by, round(time.time(), 3))}))
+        keeping._record("disabled", text=f"{name}: {why}, by {by}" if why else f"{name}, by {by}", its=(name,))
+        keeping.says(f"{name} is out of order, says {by}" + (f": {why}" if why else ""))
+        _tells(keeping, name)
+
+
+async def enable(keeping: Keeping, name: str, by: str) -> None:
+    check_instrument(name, keeping.bay)
+    async with keeping.changing:
+        if name not in keeping.places.out:
+            raise OutOfOrder(f"{name} isn't out of order")
+        await keeps(keeping, replace(keeping.places, out={key: it for key, it in keeping.places.out.items() if key != name}))
+        keeping._record("enabled", text=f"{name}, by {by}", its=(name,))
+        keeping.says(f"{name} is in order again, says {by}")
+
+
+def _tells(keeping: Keeping, name: str) -> None:
+    """Whoever waits for it waits for another one, or not at all."""
+    waiting = {it.number for it in keeping.machine.standings() if it.what == WAITS}
+    for session in _of(keeping, waiting):
+        if name in session.wish.names:
+            try:
+                _asks_again(keeping, session, going_round(session.wish, keeping.places.out))
+            except OutOfOrder as fault:
+                keeping._leaves(session, fault)
+
+
+def _asks_again(keeping: Keeping, session: Session, wish: Wish) -> None:
+    """With another number, behind those that have asked."""
+    keeping.machine.leave(session.number, keeping.now())
+    del keeping.by_number[session.number]
+    keeping._record("gave_up", session, text="it asks for other instruments")
+    keeping._asks_for(session, wish)
+
+
+def _of(keeping: Keeping, numbers: Iterable[int]) -> list[Session]:
+    return [keeping.by_number[number] for number in sorted(numbers) if number in keeping.by_number]

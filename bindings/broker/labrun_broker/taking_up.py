@@ -1,0 +1,64 @@
+"""What a broker that begins takes up: what was held is held, and its clients are awaited."""
+
+from __future__ import annotations
+
+import asyncio
+import math
+import time
+from typing import TYPE_CHECKING, Optional
+
+from labrun.machine import HOLDS, Standing
+
+from . import mending
+from .journals import Left
+from .standing import Session, free_label
+from .wishes import milliseconds
+
+if TYPE_CHECKING:
+    from .keeping import Keeping
+    from .opening import Opened
+
+
+def takes_up(keeping: Keeping, it: Opened) -> None:
+    mending.names_them(it.left, it.recent)
+    # (those whose lines were in a file before this one are in the records alone)
+    for owner, taken in mending.ends_of(it.recent):
+        keeping._ends.add(owner, taken)
+    for one in it.left.values():
+        if one.how == "let_go" or one.what == "taken":
+            keeping._ends.add(one.owner, "" if one.how == "let_go" else f"by {one.taken or 'the broker'}")
+    rows = {row.number: row for row in keeping.machine.standings() if row.what == HOLDS}
+    names = {number: keeping.places.station(row.kind) or it.left[number].station for number, row in rows.items()}
+    # (where a grace ends they are gone from now on: it begins anew)
+    gone = mending.gone_since(it.recent) if math.isinf(keeping.grace) else {}
+    # (those whose names are known come first, so that no other gets one of them)
+    for number in sorted(rows, key=lambda number: (not names[number], number)):
+        of = it.left[number]
+        of.station = names[number] or free_label(keeping.by_number.values())
+        _takes_up_one(keeping, rows[number], of, gone.get(number))
+    for record in mending.missing(it.left, it.recent, keeping.places):
+        # (whoever watches isn't told of tickets)
+        more = {"ticket": record.pop("ticket")} if "ticket" in record else {}
+        keeping._news.add(record, **more)
+    keeping._record("opened", text="as it was left" if it.left else "")
+    for number, session in keeping.by_number.items():
+        if number not in gone:
+            keeping._record("gone", session)
+
+
+def _takes_up_one(keeping: Keeping, row: Standing, it: Left, gone: Optional[float]) -> None:
+    told: asyncio.Future[None] = asyncio.get_running_loop().create_future()
+    told.set_result(None)
+    session = Session(row.number, it.station, row.kind, row.owner, told, state="gone", since=row.since, token=row.token, by=it.by or None)
+    session.gone_at = keeping.now() - (0 if gone is None else max(0, milliseconds(time.time() - gone)))
+    session.limit = None if it.limit is None else it.limit / 1000
+    session.instruments, session.note = keeping.places.names(row.needs), it.notes[-1] if it.notes else None
+    keeping.by_number[row.number] = keeping._by_key[row.owner] = session
+
+
+def carries(keeping: Keeping) -> None:
+    """What goes on in a new file of the journal: whose each session is, and its last note; the records have the others."""
+    turns = keeping._shell.turns
+    turns.most, turns.records = keeping.most_bytes, keeping._news.file
+    turns.classes = lambda: keeping.places.classes(keeping.bay)
+    turns.notes = lambda: [(it.number, note) for it in keeping.by_number.values() if it.holds for note in it.in_a_new_file()]

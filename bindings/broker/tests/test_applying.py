@@ -1,0 +1,263 @@
+"""A bay that changes while sessions hold and wait."""
+
+import asyncio
+import os
+import signal
+import sys
+import tempfile
+import threading
+import unittest
+from typing import Optional
+from unittest import mock
+
+from labrun import JournalError
+from labrun.store import FileStore
+from labrun_broker.applying import apply, changes
+from labrun_broker.bay import bay_of
+from labrun_broker.errors import BadWish, CantChange, NoInstrument
+from labrun_broker.keeping import Keeping
+from labrun_broker.wishes import Wish
+from tests.brokers import BAY, TOP, Broker, OnBroker, station, until
+from tests.test_keeping import TICKET, OnFolder, Owner, how
+
+MORE = """
+bay = "north"
+instruments = ["scope", "supply", "load-1", "load-2", "laser"]
+gone = "release"
+[stations]
+board = ["scope", "supply"]
+radio = ["scope", "laser"]
+oven = ["laser"]
+[guests]
+count = 6
+[limits]
+note = 100
+"""
+LESS = """
+bay = "north"
+instruments = ["supply", "load-1", "load-2"]
+[stations]
+board = ["supply"]
+[guests]
+count = 4
+"""
+
+
+class OnApplied(OnFolder):
+    async def opened(self, folder: Optional[str], bay: str = BAY) -> Keeping:
+        keeping = Keeping(bay_of(bay), folder)
+        await keeping.open()
+        self.addAsyncCleanup(keeping.close)
+        return keeping
+
+
+class Applied(OnApplied):
+    async def test_while_some_hold_and_wait(self) -> None:
+        """Who holds goes on, who waits goes on waiting in the old order, and what is new is there; also after a restart."""
+        for folder in (None, self.folder()):
+            with self.subTest(folder):
+                owner = Owner()
+                keeping = await self.opened(folder)
+                held = await keeping.hold(Wish(("scope",), station="board", ticket=TICKET, by="ann"), owner)
+                waits = [asyncio.create_task(keeping.hold(Wish(("scope",), by=f"guest {at}", ticket=f"{TICKET} {at}"), owner)) for at in range(2)]
+                await asyncio.sleep(0.02)
+                said = list[str]()
+                keeping.says = said.append
+                told = await apply(keeping, MORE, "eve", False)
+                self.assertEqual(
+                    told,
+                    [
+                        "instrument laser: new",
+                        "station oven: new",
+                        "station radio: may use laser, too",
+                        "guests: may use laser, too",
+                        "guests: 6 hold at once, and not 4",
+                        "limits.note: 100, and not 500",
+                        "gone (with the next start of the broker): release, and not keep",
+                    ],
+                )
+                self.assertEqual(said, [f"the bay has changed, by eve: {'; '.join(told)}"])
+                self.assertEqual((how(keeping, "board")["state"], how(keeping, "scope")["waiting"]), ("holding", ["guest-1", "guest-2"]))
+                oven = await keeping.hold(Wish(("laser",), station="oven"), owner)
+                with self.assertRaisesRegex(BadWish, "a note of 101 characters; 100 are the most"):
+                    await keeping.note(held, owner, "x" * 101)
+                await keeping.note(held, owner, "5 V")
+                await keeping.let_go(held, owner)
+                first = await waits[0]
+                self.assertFalse(waits[1].done())
+                await keeping.let_go(first, owner)
+                second = await waits[1]
+                self.assertEqual((first.by, second.by, keeping.lease), ("guest 0", "guest 1", None))
+                if folder is None:
+                    continue
+                await keeping.close()
+                again = await self.opened(folder, MORE.replace("release", "keep"))
+                self.assertEqual((how(again, "oven")["session"], how(again, "laser")["holder"]), (oven.number, "oven"))
+                self.assertEqual(how(again, "scope")["holder"], "guest-2")
+
+    async def test_taken_out(self) -> None:
+        """What nobody has goes; who asks for it then is told that there is none. It may come back."""
+        keeping, owner = await self.opened(self.folder()), Owner()
+        held = await keeping.hold(Wish(("supply",), station="board"), owner)
+        self.assertEqual(await apply(keeping, LESS, "eve", False), ["instrument scope: taken out", "station radio: taken out", "station board: may not use scope any more", "guests: may not use scope any more"])
+        with self.assertRaisesRegex(NoInstrument, "scope is no instrument of this bay"):
+            await keeping.hold(Wish(("scope",)), owner)
+        with self.assertRaisesRegex(BadWish, "radio is no station of this bay"):
+            await keeping.hold(Wish(("supply",), station="radio"), owner)
+        self.assertEqual([it["name"] for it in keeping.status()["instruments"]], ["supply", "load-1", "load-2"])
+        await apply(keeping, BAY, "eve", False)
+        await keeping.hold(Wish(("scope",), station="radio"), owner)
+        await keeping.let_go(held, owner)
+
+    async def test_who_is_in_the_way(self) -> None:
+        """All of them are named, with what and since when; and nothing has changed, in the broker and in its folder."""
+        folder, owner = self.folder(), Owner()
+        keeping = await self.opened(folder)
+        await keeping.hold(Wish(("scope", "supply"), station="board", by="ann"), owner)
+        waits = asyncio.create_task(keeping.hold(Wish(any_of=(("scope",), ("supply",)), by="bob"), owner))
+        radio = asyncio.create_task(keeping.hold(Wish(("scope",), station="radio", timeout=60), owner))
+        await asyncio.sleep(0.02)
+        before = os.listdir(folder), keeping.places, keeping.bay
+        for is_check in (True, False):
+            with self.assertRaises(CantChange) as caught:
+                await apply(keeping, LESS, "eve", is_check)
+            first, *lines = str(caught.exception).split("\n")
+            self.assertEqual((first, len(lines)), ("nothing has changed:", 3))
+            self.assertRegex(lines[0], r"^scope is taken out, and board \(ann\) has held it for \d\.\d s$")
+            self.assertRegex(lines[1], r"^scope is taken out, and guest-1 \(bob\) has waited for it for \d\.\d s$")
+            self.assertRegex(lines[2], r"^radio is taken out, and has waited for scope for \d\.\d s$")
+        self.assertEqual((os.listdir(folder), keeping.places, keeping.bay), before)
+        for text, why in (
+            (BAY.replace('board = ["scope", "supply"]', 'board = ["supply"]'), r"board may not use scope any more, and board \(ann\) has held it"),
+            (BAY.replace('board = ["scope", "supply"]\n', ""), r"board \(ann\) is taken out, and has held scope and supply for"),
+            (BAY.replace('"north"', '"south"'), "the file is of the bay south, and this one is north"),
+        ):
+            with self.subTest(why), self.assertRaisesRegex(CantChange, why):
+                await apply(keeping, text, "eve", False)
+        with self.assertRaisesRegex(BadWish, "guests.count: a number from 0 to 1000 is wanted"):
+            await apply(keeping, BAY.replace("count = 4", "count = -1"), "eve", False)
+        for it in (waits, radio):
+            it.cancel()
+
+    async def test_fewer_guests(self) -> None:
+        keeping, owner = await self.opened(None), Owner()
+        for name in ("scope", "supply"):
+            await keeping.hold(Wish((name,)), owner)
+        with self.assertRaisesRegex(CantChange, "2 guests hold, and by the file only 1 may"):
+            await apply(keeping, BAY.replace("count = 4", "count = 1"), "eve", False)
+        with self.assertRaisesRegex(CantChange, "guests are taken out, and guest-1 has held scope"):
+            await apply(keeping, BAY.replace("count = 4", "count = 0").replace('"supply"]\nradio', '"supply", "load-1", "load-2"]\nradio'), "eve", False)
+        await apply(keeping, BAY.replace("count = 4", "count = 2"), "eve", False)
+        third = asyncio.create_task(keeping.hold(Wish(("load-1",)), owner))
+        await asyncio.sleep(0.02)
+        self.assertFalse(third.done())
+        await apply(keeping, BAY.replace("count = 4", "count = 3"), "eve", False)
+        await third
+
+    async def test_checked(self) -> None:
+        keeping = await self.opened(None)
+        before = keeping.bay
+        self.assertIn("instrument laser: new", await apply(keeping, MORE, "eve", True))
+        self.assertIs(keeping.bay, before)
+        self.assertEqual(await apply(keeping, BAY, "eve", False), [])
+
+    async def test_two_at_once(self) -> None:
+        """One after another, each as a whole."""
+        keeping = await self.opened(self.folder())
+        texts = [BAY.replace("count = 4", f"count = {count}") for count in (5, 6, 7)]
+        await asyncio.gather(*(apply(keeping, it, "eve", False) for it in texts))
+        self.assertEqual((keeping.bay.guests, keeping._shell.turns.count), (7, 3))
+
+    async def test_a_disk_that_hangs(self) -> None:
+        """It isn't quiet in time: nothing has changed, and who asks meanwhile has to wait no longer."""
+        folder, owner, may = self.folder(), Owner(), threading.Event()
+        self.addCleanup(may.set)
+        keeping = await self.opened(folder)
+        with mock.patch("os.fdatasync", lambda file: may.wait(20)), mock.patch("labrun_broker.turning.QUIET", 0.1):
+            holds = asyncio.create_task(keeping.hold(Wish(("scope",)), owner))
+            await asyncio.sleep(0.05)
+            with self.assertRaisesRegex(JournalError, "the bay has no quiet moment, or the disk doesn't answer: nothing has changed"):
+                await apply(keeping, BAY.replace("count = 4", "count = 5"), "eve", False)
+            with mock.patch("labrun_broker.applying.STANDS", 0.1), self.assertRaisesRegex(JournalError, "the disk doesn't answer for 0.1 s"):
+                await apply(keeping, MORE, "eve", False)
+            self.assertEqual(keeping.bay.guests, 4)
+            may.set()
+            await holds
+        await apply(keeping, MORE, "eve", False)
+        self.assertEqual(keeping.bay.guests, 6)
+
+
+    async def test_while_a_new_file_fails(self) -> None:
+        """Nothing more changes before it stands, and that is said at once."""
+        keeping, is_bad = await self.opened(self.folder()), True
+        real = FileStore.anew
+
+        def fails(store: FileStore, text: bytes) -> None:
+            if is_bad:
+                raise OSError(28, "No space left on device")
+            real(store, text)
+
+        with mock.patch.object(FileStore, "anew", fails):
+            await apply(keeping, BAY.replace("count = 4", "count = 5"), "eve", False)
+            self.assertEqual(keeping.bay.guests, 5)
+            async with asyncio.timeout(5):
+                with self.assertRaisesRegex(JournalError, "a write failed .No space left on device.: nothing has changed"):
+                    await apply(keeping, MORE, "eve", False)
+            self.assertEqual(keeping.bay.guests, 5)
+            is_bad = False
+            while keeping._shell.turns.is_under_way:
+                await asyncio.sleep(0.01)
+        await apply(keeping, MORE, "eve", False)
+        self.assertEqual(keeping.bay.guests, 6)
+
+
+class Texts(unittest.TestCase):
+    def test_what_the_rest_is(self) -> None:
+        before, after = bay_of(BAY), bay_of("overtakes = 3\n" + BAY + "may_use = [\"load-1\", \"load-2\"]\n")
+        self.assertEqual(changes(before, after), ["guests: may not use scope supply any more", "overtakes (with the next start of the broker): 3, and not what it is without a line"])
+        self.assertEqual(changes(after, after), [])
+
+
+class Commands(OnBroker):
+    """`bay apply`, and the signal, at a broker of its own."""
+
+    def test_applied(self) -> None:
+        folder = self.enterContext(tempfile.TemporaryDirectory())
+        broker = Broker(folder, BAY, ("--state", f"{folder}/state"), COMMAND)
+        self.addCleanup(broker.ends)
+        lab = self.lab(broker, "board")
+        with lab.hold("scope"):
+            with open(f"{folder}/bay.toml", "w", encoding="utf-8") as file:
+                file.write(MORE)
+            checked = broker.ran("bay", "apply", f"{folder}/bay.toml", "--check")
+            self.assertEqual((checked.returncode, checked.stderr), (0, ""))
+            self.assertIn("instrument laser: new\n", checked.stdout)
+            self.assertEqual(len(lab.status()["instruments"]), 4)
+            done = broker.ran("bay", "apply", f"{folder}/bay.toml")
+            self.assertEqual((done.returncode, done.stdout, done.stderr), (0, checked.stdout, ""))
+            self.assertEqual((len(lab.status()["instruments"]), station(lab, "board")["state"]), (5, "holding"))
+            with open(f"{folder}/bay.toml", "w", encoding="utf-8") as file:
+                file.write(LESS)
+            refused = broker.ran("bay", "apply", f"{folder}/bay.toml")
+            self.assertEqual((refused.returncode, refused.stdout), (1, ""))
+            self.assertRegex(refused.stderr, r"labrun-broker: nothing has changed:\nlabrun-broker: scope is taken out, and board \(tester\) has held it for")
+        assert broker.process is not None
+        os.kill(broker.process.pid, signal.SIGHUP)
+        until(lambda: len(lab.status()["instruments"]) == 3)
+        os.kill(broker.process.pid, signal.SIGHUP)
+        with open(f"{folder}/bay.toml", "w", encoding="utf-8") as file:
+            file.write("instruments = 5")
+        bad = broker.ran("bay", "apply", f"{folder}/bay.toml")
+        self.assertEqual(bad.returncode, 1)
+        os.kill(broker.process.pid, signal.SIGHUP)
+        lab.close()
+        until(lambda: broker.end() == 0)
+        self.assertRegex(broker.said, "the bay has changed, by a signal: instrument scope: taken out")
+        self.assertRegex(broker.said, "bay.toml: nothing has changed")
+
+
+COMMAND = [sys.executable, f"{TOP}/bench/bay/simulated.py"]
+
+
+if __name__ == "__main__":
+    unittest.main()

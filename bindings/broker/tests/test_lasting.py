@@ -1,0 +1,142 @@
+"""For how long a session may hold while others wait."""
+
+import asyncio
+import threading
+import time
+import unittest
+from typing import Any, Optional
+from unittest import mock
+
+import labrun
+from labrun_broker import lasting
+from labrun_broker.bay import BayFault, bay_of
+from labrun_broker.errors import BadWish
+from labrun_broker.keeping import Keeping
+from labrun_broker.wishes import Ended, Wish
+from tests.brokers import BAY, LIMIT, OnBroker
+from tests.test_keeping import TICKET, OnFolder, Owner
+
+LIMITED = "limit = \"2h\"\n" + BAY + "limit = \"30min\"\n[station_limits]\nradio = 90\n"
+# of a span that a test can wait for
+SHORT = "limit = \"0.4s\"\n" + BAY
+
+
+class Warned(Owner):
+    def __init__(self) -> None:
+        super().__init__()
+        self.warnings: list[tuple[str, float]] = []
+
+    def warned(self, text: str, seconds: float) -> None:
+        self.warnings.append((text, seconds))
+
+
+class Files(unittest.TestCase):
+    def test_whose_limit(self) -> None:
+        bay = bay_of(LIMITED)
+        self.assertEqual((bay.limit, bay.guests_limit, bay.station_limits), (7200, 1800, {"radio": 90}))
+        for station, wished, wanted in (("board", None, 7200), ("", None, 1800), ("radio", None, 90), ("board", 60.0, 60), ("radio", 100.0, 90)):
+            self.assertEqual(lasting.limit_of(bay, Wish(station=station, limit=wished)), wanted, (station, wished))
+        self.assertEqual([lasting.limit_of(bay_of(BAY), Wish(limit=it)) for it in (None, 5.0)], [None, 5])
+
+    def test_faults(self) -> None:
+        for text, why in (
+            ("limit = true\n" + BAY, 'limit: a span is wanted, as "30min", "2h" or "3d", or so many seconds'),
+            ("limit = 0\n" + BAY, "limit: a span is wanted"),
+            ("limit = \"soon\"\n" + BAY, "limit: a span is wanted"),
+            (BAY + "limit = -1\n", "guests.limit: a span is wanted"),
+            (BAY + "[station_limits]\noven = 5\n", "station_limits.oven: there is no such station"),
+        ):
+            with self.subTest(text), self.assertRaisesRegex(BayFault, why):
+                bay_of(text)
+
+
+class Limits(OnFolder):
+    async def opened(self, folder: Optional[str], bay: str = SHORT) -> Keeping:
+        keeping = Keeping(bay_of(bay), folder)
+        await keeping.open()
+        self.addAsyncCleanup(keeping.close)
+        return keeping
+
+    async def test_taken_away(self) -> None:
+        """Once it is over, and not before somebody waits; its client is warned, and then told why. Who comes back hears the same."""
+        keeping, owner, other = await self.opened(self.folder()), Warned(), Owner()
+        held = await keeping.hold(Wish(("scope",), station="board", ticket=TICKET, wants_warning=True), owner)
+        quiet = await keeping.hold(Wish(("supply",), ticket="the ticket of one more"), silent := Warned())
+        await asyncio.sleep(0.5)
+        self.assertTrue(held.holds and quiet.holds, "nobody waits")
+        [(text, seconds)] = owner.warnings
+        self.assertEqual((text, silent.warnings), ("board may hold scope for 0.4 s, which is over in 0.0 s: then whoever waits for it gets it", []))
+        self.assertTrue(0 <= seconds <= 0.04 + 0.001)
+        new = await keeping.hold(Wish(("scope",), timeout=LIMIT), other)
+        why = "by the broker, because it held for longer than its limit of 0.4 s, and somebody waits for what it had"
+        self.assertEqual((new.instruments, owner.told), (("scope",), [f"board: the session was taken away {why}: scope"]))
+        with self.assertRaisesRegex(Ended, "because it held for longer than its limit"):
+            await keeping.hold(Wish(ticket=TICKET, comes_back=True), owner)
+        self.assertEqual([it["text"] for it in keeping.history if it["what"] == "taken"], [why])
+
+    async def test_not_before(self) -> None:
+        keeping, owner = await self.opened(None, "limit = 1\n" + BAY), Owner()
+        await keeping.hold(Wish(("scope",)), owner)
+        begun = time.monotonic()
+        await keeping.hold(Wish(("scope",), timeout=LIMIT), owner)
+        self.assertGreater(time.monotonic() - begun, 0.9)
+
+    async def test_over_a_restart(self) -> None:
+        """It goes on, from when it came to hold; and who comes back late is warned at once."""
+        folder, owner = self.folder(), Warned()
+        keeping = await self.opened(folder, "limit = 3\n" + BAY)
+        held = await keeping.hold(Wish(("scope",), ticket=TICKET), owner)
+        await keeping.close()
+        again = await self.opened(folder, BAY)
+        with mock.patch.object(lasting, "SHARE", 1.0):
+            await again.hold(Wish(ticket=TICKET, comes_back=True, wants_warning=True), owner)
+            await asyncio.sleep(0.05)
+        self.assertRegex(owner.warnings[0][0], "^guest-1 may hold scope for 3 s, which is over in [0-3].[0-9] s:")
+        new = await again.hold(Wish(("scope",), timeout=LIMIT), Owner())
+        self.assertGreater(new.number, held.number)
+        self.assertRegex(owner.told[0], "longer than its limit of 3 s")
+
+    async def test_bad_wishes(self) -> None:
+        keeping, owner = await self.opened(None), Owner()
+        for limit in (0.0, -1.0, 1e9, float("nan")):
+            with self.subTest(limit), self.assertRaisesRegex(BadWish, "a limit of"):
+                await keeping.hold(Wish(("scope",), limit=limit), owner)
+
+
+class Clients(OnBroker):
+    def test_a_program(self) -> None:
+        broker = self.broker()
+        lab, other = self.lab(broker, "board"), self.lab(broker)
+        warnings, is_warned, taken = list[str](), threading.Event(), list[Any]()
+        held = lab.hold("scope", limit=1.0, warns=lambda text: (warnings.append(text), is_warned.set())[0])
+        held.on_taken = taken.append
+        held.acquire()
+        self.assertTrue(is_warned.wait(LIMIT))
+        self.assertRegex(warnings[0], "^board may hold scope for 1 s, which is over in 0.[01] s: then whoever waits for it gets it$")
+        with other.hold("scope", timeout=LIMIT):
+            with self.assertRaisesRegex(labrun.TakenAway, "longer than its limit of 1 s"):
+                held.release()
+        self.assertEqual(len(taken), 1)
+
+    def test_a_command(self) -> None:
+        """It says so before, and ends its command then; with a lease, too, where the whole client speaks for it."""
+        for words in ((), ("--grace", "20")):
+            bay = BAY if not words else BAY.replace('"north"', '"north"\ngone = "release"')
+            with self.subTest(words):
+                broker = self.broker(bay, *words)
+                holds = broker.started("hold", "scope", "--limit", "12s", "--", "sleep", "60")
+                other = self.lab(broker)
+                with other.hold("supply"):
+                    pass
+                while other.status()["instruments"][0]["holder"] is None:
+                    time.sleep(0.02)
+                with other.hold("scope", timeout=LIMIT):
+                    pass
+                _, said = holds.communicate(timeout=LIMIT)
+                self.assertEqual(holds.returncode, 76)
+                self.assertRegex(said, r"labrun-broker: guest-1 may hold scope for 12 s, which is over in [01].[0-9] s")
+                self.assertRegex(said, r"taken away by the broker, because it held for longer than its limit of 12 s, .*; the command is ended")
+
+
+if __name__ == "__main__":
+    unittest.main()

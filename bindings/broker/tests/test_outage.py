@@ -1,0 +1,112 @@
+"""Instruments that are out of order."""
+
+import asyncio
+import json
+import unittest
+from typing import Optional
+
+from labrun_broker.bay import bay_of
+from labrun_broker.errors import BadWish, NoInstrument, OutOfOrder
+from labrun_broker.errors import TimeoutError as TimedOut
+from labrun_broker.keeping import Keeping
+from labrun_broker.outage import disable, enable
+from labrun_broker.wishes import Wish
+from tests.brokers import BAY, OnBroker
+from tests.test_keeping import TICKET, OnFolder, Owner, how
+
+
+class Outages(OnFolder):
+    async def opened(self, folder: Optional[str]) -> Keeping:
+        keeping = Keeping(bay_of(BAY), folder)
+        await keeping.open()
+        self.addAsyncCleanup(keeping.close)
+        return keeping
+
+    async def test_who_asks(self) -> None:
+        """It is told so at once, and why; one with a choice goes round it; and all is as before once it is in order again."""
+        keeping, owner = await self.opened(None), Owner()
+        await disable(keeping, "load-1", "calibration until Friday", "ann")
+        with self.assertRaisesRegex(OutOfOrder, r"^load-1 is out of order for \d\.?\d* s: calibration until Friday \(says ann\)$"):
+            await keeping.hold(Wish(("scope", "load-1"), timeout=60), owner)
+        other = await keeping.hold(Wish(any_of=(("load-1",), ("load-2",))), owner)
+        self.assertEqual(other.instruments, ("load-2",))
+        with self.assertRaisesRegex(TimedOut, "load-2 is held by guest-1"):
+            await keeping.hold(Wish(any_of=(("load-1",), ("load-2",)), timeout=0.05), owner)
+        self.assertEqual(how(keeping, "load-1")["out"], "calibration until Friday")
+        self.assertEqual((how(keeping, "load-1")["out_by"], how(keeping, "load-2")["out"]), ("ann", None))
+        await enable(keeping, "load-1", "ann")
+        first = await keeping.hold(Wish(any_of=(("load-1",), ("load-2",))), owner)
+        self.assertEqual((first.instruments, how(keeping, "load-1")["out"]), (("load-1",), None))
+        self.assertEqual([it["what"] for it in keeping.history if it["instruments"] == ["load-1"] and not it["session"]], ["disabled", "enabled"])
+
+    async def test_who_holds_and_waits(self) -> None:
+        """Who holds goes on. Who waits for it is told; who waits for one of several goes on waiting for the others; nobody comes to hold it."""
+        keeping, owner = await self.opened(self.folder()), Owner()
+        held = await keeping.hold(Wish(("load-1",), station="", ticket=TICKET), owner)
+        load = await keeping.hold(Wish(("load-2",)), owner)
+        waits = asyncio.create_task(keeping.hold(Wish(("load-1", "scope")), owner))
+        chooses = asyncio.create_task(keeping.hold(Wish(any_of=(("load-1",), ("load-2",)), timeout=30, by="bob"), owner))
+        await asyncio.sleep(0.02)
+        await disable(keeping, "load-1", "", "ann")
+        with self.assertRaisesRegex(OutOfOrder, r"load-1 is out of order for \d s \(says ann\)"):
+            await waits
+        await keeping.note(held, owner, "5 V")
+        await keeping.let_go(held, owner)
+        await asyncio.sleep(0.05)
+        self.assertEqual((chooses.done(), how(keeping, "load-1")["holder"], how(keeping, "load-2")["waiting"]), (False, None, [how(keeping, "guest-4")["name"]]))
+        await keeping.let_go(load, owner)
+        other = await chooses
+        self.assertEqual((other.instruments, other.by), (("load-2",), "bob"))
+
+    async def test_over_restarts(self) -> None:
+        folder, owner = self.folder(), Owner()
+        keeping = await self.opened(folder)
+        held = await keeping.hold(Wish(("scope",), ticket=TICKET), owner)
+        await disable(keeping, "scope", "no trigger", "ann")
+        since = how(keeping, "scope")["out_since"]
+        await keeping.close()
+        again = await self.opened(folder)
+        self.assertEqual((how(again, "scope")["out"], how(again, "scope")["out_since"], how(again, "scope")["holder"]), ("no trigger", since, "guest-1"))
+        back = await again.hold(Wish(ticket=TICKET, comes_back=True), owner)
+        self.assertEqual(back.number, held.number)
+        await again.let_go(back, owner)
+        with self.assertRaisesRegex(OutOfOrder, "no trigger"):
+            await again.hold(Wish(("scope",)), owner)
+        await enable(again, "scope", "bob")
+        with open(f"{folder}/bay.json", encoding="utf-8") as file:
+            self.assertNotIn("out", json.load(file))
+
+    async def test_faults(self) -> None:
+        keeping = await self.opened(None)
+        with self.assertRaisesRegex(NoInstrument, "scop is no instrument of this bay: .*did you mean scope"):
+            await disable(keeping, "scop", "", "ann")
+        with self.assertRaisesRegex(BadWish, "a note of 501 characters"):
+            await disable(keeping, "scope", "x" * 501, "ann")
+        with self.assertRaisesRegex(OutOfOrder, "scope isn't out of order"):
+            await enable(keeping, "scope", "ann")
+
+
+class Commands(OnBroker):
+    def test_words(self) -> None:
+        broker = self.broker(BAY, "--state", "FOLDER/state")
+        lab = self.lab(broker)
+        self.assertEqual(broker.ran("disable", "scope", "calibration until Friday").returncode, 0)
+        self.assertRegex(broker.ran("status").stdout, r"\nscope is out of order for \d+ s: calibration until Friday \(says .*@.*\)\n")
+        for words in (("hold", "scope"), ("hold", "scope", "--timeout", "60")):
+            done = broker.ran(*words, "--", "true")
+            self.assertEqual(done.returncode, 1)
+            self.assertRegex(done.stderr, r"^labrun-broker: scope is out of order for \d+ s: calibration until Friday \(says ")
+        with self.assertRaisesRegex(OutOfOrder, "calibration"):
+            lab.hold("scope").acquire()
+        done = broker.ran("hold", "--any", "scope", "supply", "--", "sh", "-c", "echo $LABRUN_HELD")
+        self.assertEqual((done.returncode, done.stdout), (0, "supply\n"))
+        self.assertEqual(broker.ran("enable", "scope").returncode, 0)
+        with lab.hold("scope"):
+            pass
+        self.assertEqual(broker.ran("enable", "scope").returncode, 1)
+        self.assertEqual(broker.end(), 0)
+        self.assertRegex(broker.said, "scope is out of order, says .*: calibration until Friday\n.*scope is in order again, says")
+
+
+if __name__ == "__main__":
+    unittest.main()
