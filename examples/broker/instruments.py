@@ -85,7 +85,10 @@ class Server:
         for line in lines:
             if line == b"BYE":
                 self.over(it, client)
-            client.sendall(it.answer(line) + b"\n")
+            try:
+                client.sendall(it.answer(line) + b"\n")
+            except ConnectionError:  # (the client is gone; what it has said is done all the same)
+                came = b""
         if it.client is not client:
             client.close()
         elif not came:

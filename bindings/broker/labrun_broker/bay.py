@@ -13,6 +13,9 @@
     count = 8                           # so many hold at once; more may wait
     may_use = ["scope", "supply"]       # without this line: all
 
+    [guards]                            # where clients find the guard before an instrument, if one is there
+    scope = "bench-1:5025"
+
     [limits]                            # (each as it is without a line)
     clients = 200                       # streams at once, idle ones too
     requests = 2000                     # messages a second in a stream
@@ -28,6 +31,8 @@ import tomllib
 from dataclasses import dataclass, field
 from typing import Any, Optional, Union
 
+from .ways import variable_of, way_of
+
 # what the library can take (the guests are a class, as each station is one, of 32); of guests, as many as a status can show
 MOST_STATIONS, MOST_INSTRUMENTS, MOST_GUESTS, NAME_LENGTH = 31, 64, 1000, 16
 MOST_NUMBER = 1000000
@@ -35,6 +40,8 @@ KEYWORDS = ("lab", "job", "session", "end", "steps", "patience")
 A_NAME = f"up to {NAME_LENGTH} of a to z, digits and `-`, first a letter, and none of {' '.join(KEYWORDS)}"
 
 GONE = ("keep", "release")
+# what a command of `hold` has in these names is something else
+VARIABLES = ("LABRUN_HELD", "LABRUN_STATION", "LABRUN_BROKER", "LABRUN_AROUND", "LABRUN_TOKEN", "LABRUN_LIBRARY")
 
 Path = Union[str, "os.PathLike[str]"]
 
@@ -60,6 +67,8 @@ class Bay:
     limits: Limits = Limits()
     # so many sessions at most may go before one that asks; if nothing is said, as if each of the others went once
     overtakes: Optional[int] = None
+    # where clients find the guard of an instrument (ways.py)
+    guards: dict[str, str] = field(default_factory=dict)
 
     @property
     def guest_names(self) -> tuple[str, ...]:
@@ -128,7 +137,7 @@ class _Reader:
         self.given, self.faults = given, list[str]()
 
     def bay(self) -> Bay:
-        self.knows("", self.given, ("bay", "instruments", "gone", "overtakes", "stations", "guests", "limits"))
+        self.knows("", self.given, ("bay", "instruments", "gone", "overtakes", "stations", "guests", "guards", "limits"))
         name = self.given.get("bay", "bay")
         if not isinstance(name, str) or not re.fullmatch(r"[\w.-]{1,64}", name):
             self.fault("bay", "a name of up to 64 letters, digits, `-`, `_` or `.` is wanted")
@@ -141,7 +150,7 @@ class _Reader:
         if gone not in GONE:
             self.fault("gone", '"keep" or "release" is wanted')
         overtakes = self.number("overtakes", self.given["overtakes"], 0) if "overtakes" in self.given else None
-        bay = Bay(str(name), instruments, stations, guests, guests_use, str(gone), self.limits(), overtakes)
+        bay = Bay(str(name), instruments, stations, guests, guests_use, str(gone), self.limits(), overtakes, self.guards(instruments))
         self.fits(bay)
         return bay
 
@@ -198,6 +207,24 @@ class _Reader:
         count = self.number("guests.count", table.get("count", 0), 0, MOST_GUESTS)
         uses = self.uses("guests.may_use", table["may_use"], instruments) if "may_use" in table else instruments
         return count, uses
+
+    def guards(self, instruments: tuple[str, ...]) -> dict[str, str]:
+        found = {}
+        for name, at in self.table("guards").items():
+            key = f"guards.{name}"
+            if instruments and name not in instruments:
+                self.fault(key, f"{name} is none of the bay's instruments")
+            elif variable_of(name) in VARIABLES:
+                self.fault(key, f"an instrument that has a guard isn't called {name}: ${variable_of(name)} is something else")
+            elif not isinstance(at, str):
+                self.fault(key, 'where its guard listens is wanted, as "bench-1:5025"')
+            else:
+                try:
+                    way_of(at)
+                    found[name] = at
+                except ValueError as why:
+                    self.fault(key, str(why))
+        return found
 
     def number(self, key: str, given: object, least: int, most: int = MOST_NUMBER) -> int:
         # (of one that is too large for the library `fits` says more)
