@@ -25,7 +25,7 @@ from .texts import plain
 FIRST_LINE, PATIENCE, CONNECTING = 5.0, 5.0, 5.0  # seconds
 CLOSING, AGAIN = 0.3, 0.001
 MOST_LINE = 256
-MOST_WAITING = 64
+MOST_CALLERS, MOST_WAITING = 1000, 64
 HERE = "here"
 
 
@@ -86,7 +86,7 @@ class Guard:
         self._where = where
         self._changed = asyncio.Event()
         self._gate = asyncio.Lock()
-        self._waiting = 0
+        self.callers = self._waiting = 0
         # the last session that was let through, and when its last connection was closed; and which one's connection began with the line to clear
         self._last, self._closed_at = -1, asyncio.get_running_loop().time()
         self._cleared = 0
@@ -117,13 +117,9 @@ class Guard:
 
     async def serves(self, caller: Caller) -> None:
         try:
-            if self._waiting >= MOST_WAITING:
-                raise Refused(f"{self._waiting} clients wait already")
-            self._waiting += 1
-            try:
-                sent, token = await self._lets_in(caller)
-            finally:
-                self._waiting -= 1
+            if self.callers > MOST_CALLERS:
+                raise Refused(f"{self.callers} clients are here")
+            sent, token = await self._lets_in(caller)
             if sent is None:
                 await self._passes(Through(token, caller))
             else:
@@ -163,18 +159,27 @@ class Guard:
         except builtins.TimeoutError:
             raise Refused(f"no line within {FIRST_LINE:g} s") from None
         line, ends, caller.early = caller.early.partition(b"\n")
+        caller.came = len(caller.early)
         if not ends or not line.isascii():
             raise Refused("the first line isn't `labrun TICKET`")
         return line.decode().rstrip("\r")
 
     async def _token_of(self, is_its: Callable[[Holder], bool]) -> int:
         """That of the session that holds, if the client is of it. (The client may have been told before the guard.)"""
-        with contextlib.suppress(builtins.TimeoutError):
+        if self.holder is not None and is_its(self.holder):
+            return self.holder.token
+        if self._waiting >= MOST_WAITING:
+            raise Refused(f"{self._why()}, and {self._waiting} clients wait already")
+        self._waiting += 1
+        try:
             async with asyncio.timeout(PATIENCE):
                 while self.holder is None or not is_its(self.holder):
                     await self._changed.wait()
                 return self.holder.token
-        raise Refused(self._why())
+        except builtins.TimeoutError:
+            raise Refused(self._why()) from None
+        finally:
+            self._waiting -= 1
 
     def _why(self) -> str:
         name = self.way.instrument
@@ -284,6 +289,7 @@ class Caller(End):
 
     def connection_made(self, transport: Any) -> None:
         super().connection_made(transport)
+        self._guard.callers += 1
         self.left = asyncio.get_running_loop().create_task(self._guard.serves(self)).cancel
 
     def says_no_more(self) -> None:
@@ -294,6 +300,7 @@ class Caller(End):
 
     def connection_lost(self, fault: Optional[Exception]) -> None:
         super().connection_lost(fault)
+        self._guard.callers -= 1
         self.left()
 
     def data_received(self, data: bytes) -> None:
