@@ -2,11 +2,14 @@
 
 from __future__ import annotations
 
+import fcntl
 import hashlib
 import signal
 import socket
+import struct
 import subprocess
 import sys
+import termios
 import time
 import unittest
 from typing import Any
@@ -146,12 +149,15 @@ class Ends(BeforeInstruments):
                 while True:
                     one.sendall(b"x" * 65536)
             taker = slow.accept()
+            # (what its machine has taken by now is its own)
+            had = struct.unpack("i", fcntl.ioctl(taker.fileno(), termios.FIONREAD, bytes(4)))[0]
             lab.release(held.station)
             time.sleep(0.5)
-            # (what its machine has taken before is its own)
+            took = 0
             with self.assertRaises(ConnectionError):
-                while taker.recv(1 << 20):
-                    pass
+                while came := len(taker.recv(1 << 20)):
+                    took += came
+            self.assertEqual(took, had)
             one.close()
 
     def test_a_broker_that_begins_again_cuts_nothing(self) -> None:
