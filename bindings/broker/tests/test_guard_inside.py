@@ -316,13 +316,18 @@ class WithTls(Inside):
         self.assertIn("no certificate that is known here", said[0])
 
 
+async def news(told: Any) -> list[Any]:
+    async with asyncio.timeout(LIMIT):
+        return list((await anext(told)).holders)
+
+
 class Told(OnFolder):
     """What the broker tells."""
 
     async def test_no_holder_that_is_not_on_the_disk(self) -> None:
         keeping = await self.keeping(self.folder())
         told = holders(keeping, ("scope", "supply"))
-        first = (await anext(told)).holders
+        first = (await news(told))
         self.assertEqual([(it.instrument, it.token) for it in first], [("scope", 0), ("supply", 0)])
         may, real = threading.Event(), os.fdatasync
         self.addCleanup(may.set)
@@ -355,21 +360,21 @@ class Told(OnFolder):
         for _ in range(3):
             keeping = await self.keeping(folder)
             told = holders(keeping, ("scope",))
-            [one] = (await anext(told)).holders
+            [one] = (await news(told))
             self.assertEqual([one.token], tokens[-1:] or [0])
             for session in list(keeping.by_number.values()):
                 await keeping.release(session.name, "tester")
             if one.token:
-                [one] = (await anext(told)).holders
+                [one] = (await news(told))
                 self.assertEqual(one.token, 0)
             for turn in range(5):
                 session = await keeping.hold(Wish(("scope",), ticket=TICKET + str(turn)), owner)
-                [one] = (await anext(told)).holders
+                [one] = (await news(told))
                 self.assertGreater(one.token, max(tokens, default=0))
                 tokens.append(one.token)
                 if turn < 4:
                     await keeping.let_go(session, owner)
-                    [one] = (await anext(told)).holders
+                    [one] = (await news(told))
                     self.assertEqual(one.token, 0)
             await told.aclose()
             await keeping.close()
@@ -377,14 +382,14 @@ class Told(OnFolder):
     async def test_of_two_it_is_told_of_the_end_first(self) -> None:
         keeping, owner = await self.keeping(self.folder()), Owner()
         told = holders(keeping, ("scope",))
-        await anext(told)
+        await news(told)
         first = await keeping.hold(Wish(("scope",), station="radio", ticket=TICKET), owner)
         next_one = asyncio.create_task(keeping.hold(Wish(("scope",), station="board", ticket=TICKET + "2"), owner))
-        [one] = (await anext(told)).holders
+        [one] = (await news(told))
         await asyncio.sleep(0.1)
         await keeping.let_go(first, owner)
         await next_one
-        found = [(await anext(told)).holders[0].station for _ in range(2)]
+        found = [(await news(told))[0].station for _ in range(2)]
         self.assertEqual((one.station, found), ("radio", ["", "board"]))
         await told.aclose()
         await keeping.close()
