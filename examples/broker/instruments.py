@@ -73,7 +73,10 @@ class Server:
             return
         client.setsockopt(socket.IPPROTO_TCP, socket.TCP_NODELAY, 1)
         it.client, it.rest, it.talks = client, b"", it.talks + 1
-        client.sendall(b"READY\n")
+        try:
+            client.sendall(b"READY\n")
+        except ConnectionError:  # (it is gone already, and may have said something)
+            pass
         self.ready.register(client, selectors.EVENT_READ, it)
 
     def said(self, it: Instrument, client: socket.socket) -> None:

@@ -23,7 +23,7 @@ from .relay import End, joins, resets
 from .texts import plain
 
 FIRST_LINE, PATIENCE, CONNECTING = 5.0, 5.0, 5.0  # seconds
-CLOSING, AGAIN = 0.3, 0.001
+CLOSING, AGAIN = 0.5, 0.001
 MOST_LINE = 256
 MOST_CALLERS, MOST_WAITING = 1000, 64
 HERE = "here"

@@ -2,6 +2,7 @@
 
 from __future__ import annotations
 
+import importlib
 import socket
 import struct
 import threading
@@ -52,7 +53,8 @@ class ByVisa(unittest.TestCase):
     def setUp(self) -> None:
         try:
             import pyvisa
-            import pyvisa_py  # noqa: F401
+
+            importlib.import_module("pyvisa_py")
         except ImportError as lacking:
             raise unittest.SkipTest(str(lacking)) from None
         warnings.simplefilter("ignore", ResourceWarning)
