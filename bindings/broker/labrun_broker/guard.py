@@ -242,7 +242,11 @@ class Guard:
             raise Refused(f"{self.way.instrument} doesn't answer: {fault or 'no answer'}") from None
         # (what follows takes no time, and so isn't ended midway)
         one.connecting = None
-        await loop.create_connection(lambda: one.there, sock=made)
+        try:
+            await loop.create_connection(lambda: one.there, sock=made)
+        except OSError as fault:
+            made.close()
+            raise Refused(f"{self.way.instrument} doesn't answer: {fault}") from None
         if one.is_cut:
             one.there.cut()
 

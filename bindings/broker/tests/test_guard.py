@@ -106,6 +106,16 @@ class Commands(BeforeInstruments):
             with self.lab().hold("scope") as held, talk(held.address("scope")) as it:
                 self.assertEqual(it.ask("READ?"), str(turn))
 
+    def test_a_guard_that_is_ended(self) -> None:
+        with self.lab().hold("scope") as held:
+            it = talk(held.address("scope"))
+            assert self.at.process is not None
+            self.at.process.terminate()
+            self.assertEqual(self.at.process.wait(LIMIT), 0)
+            with self.assertRaises(ConnectionError):
+                if not it.ask("*IDN?"):
+                    raise ConnectionError
+
     def test_a_guard_that_is_away(self) -> None:
         self.at.end()
         done = self.at.broker.ran("hold", "scope", "--", "bash", "-c", "exec 3<>/dev/tcp/127.0.0.1/${LABRUN_SCOPE#*:}; cat <&3")
