@@ -32,7 +32,8 @@ class Tokens:
         if session.number not in self._of:
             rows = (row for row in self._keeping.machine.standings() if row.what == HOLDS)
             self._of = {row.number: row.since << NUMBERS | row.number % (1 << NUMBERS) for row in rows}
-        return self._of[session.number]
+        # (0: it ends just now)
+        return self._of.get(session.number, 0)
 
 
 def host_of(session: Session) -> Optional[str]:
@@ -45,9 +46,9 @@ def host_of(session: Session) -> Optional[str]:
 
 
 def holder_of(instrument: str, session: Optional[Session], tokens: Tokens) -> Any:
-    if session is None:
+    if session is None or not (token := tokens.of(session)):
         return pb.Holder(instrument=instrument)
-    told = pb.Holder(instrument=instrument, token=tokens.of(session), ticket_hash=digits_of(session.key), station=session.name, by=session.by or "")
+    told = pb.Holder(instrument=instrument, token=token, ticket_hash=digits_of(session.key), station=session.name, by=session.by or "")
     if (host := host_of(session)) is not None:
         told.host = host
     return told
