@@ -206,7 +206,6 @@ class Bay:
         text, self.sent = self.text[self.sent :], len(self.text)
         return text, len(self.text)
 
-
     def writes_hold(self, it: Ask) -> None:
         limit = "-" * 16 if it.limit is None else f"{it.limit:016x}"
         its = f"{it.owner:032x} {it.since:016x} {limit} {it.asked:016x} {it.token:016x}"

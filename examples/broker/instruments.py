@@ -73,7 +73,10 @@ class Server:
             return
         client.setsockopt(socket.IPPROTO_TCP, socket.TCP_NODELAY, 1)
         it.client, it.rest, it.talks = client, b"", it.talks + 1
-        client.sendall(b"READY\n")
+        try:
+            client.sendall(b"READY\n")
+        except ConnectionError:  # (it is gone already, and may have said something)
+            pass
         self.ready.register(client, selectors.EVENT_READ, it)
 
     def said(self, it: Instrument, client: socket.socket) -> None:
@@ -85,7 +88,10 @@ class Server:
         for line in lines:
             if line == b"BYE":
                 self.over(it, client)
-            client.sendall(it.answer(line) + b"\n")
+            try:
+                client.sendall(it.answer(line) + b"\n")
+            except ConnectionError:  # (the client is gone; what it has said is done all the same)
+                came = b""
         if it.client is not client:
             client.close()
         elif not came:

@@ -24,6 +24,9 @@
     [labels]                            # what people know it by, in `status` and on the page
     scope = "DSO-X 3034, by the window"
 
+    [guards]                            # where clients find the guard before an instrument, if one is there
+    scope = "bench-1:5025"
+
     [limits]                            # (each as it is without a line)
     clients = 200                       # streams at once, idle ones too
     requests = 2000                     # messages a second in a stream
@@ -40,6 +43,7 @@ from dataclasses import dataclass, field
 from typing import Any, Optional, Union
 
 from .texts import span_of
+from .ways import variable_of, way_of
 
 # what the library can take (the guests are a class, as each station is one, of 32); of guests, as many as a status can show
 MOST_STATIONS, MOST_INSTRUMENTS, MOST_GUESTS, NAME_LENGTH = 31, 64, 1000, 64
@@ -49,7 +53,9 @@ MOST_SECONDS = 1e9
 A_NAME = f"up to {NAME_LENGTH} letters, digits, `-`, `_` and `.`, first a letter"
 
 GONE = ("keep", "release")
-KEYS = ("bay", "instruments", "gone", "limit", "overtakes", "stations", "guests", "station_limits", "limits", "tags", "labels")
+KEYS = ("bay", "instruments", "gone", "limit", "overtakes", "stations", "guests", "station_limits", "limits", "tags", "labels", "guards")
+# what a command of `hold` has in these names is something else
+VARIABLES = ("LABRUN_HELD", "LABRUN_STATION", "LABRUN_BROKER", "LABRUN_AROUND", "LABRUN_TOKEN", "LABRUN_LIBRARY")
 
 Path = Union[str, "os.PathLike[str]"]
 
@@ -81,6 +87,8 @@ class Bay:
     limit: Optional[float] = None
     guests_limit: Optional[float] = None
     station_limits: dict[str, float] = field(default_factory=dict)
+    # where clients find the guard of an instrument (ways.py)
+    guards: dict[str, str] = field(default_factory=dict)
 
     @property
     def guest_names(self) -> tuple[str, ...]:
@@ -164,7 +172,7 @@ class _Reader:
         overtakes = self.number("overtakes", self.given["overtakes"], 0) if "overtakes" in self.given else None
         tags, labels = self.tags(instruments), self.labels(instruments)
         its = name, instruments, stations, guests, guests_use, gone, self.limits(), overtakes, tags, labels
-        bay = Bay(*its, *self.spans(stations))
+        bay = Bay(*its, *self.spans(stations), self.guards(instruments))
         self.fits(bay)
         return bay
 
@@ -252,6 +260,24 @@ class _Reader:
             self.fault(key, 'a span is wanted, as "30min", "2h" or "3d", or so many seconds')
             return None
         return span
+
+    def guards(self, instruments: tuple[str, ...]) -> dict[str, str]:
+        found = {}
+        for name, at in self.table("guards").items():
+            key = f"guards.{name}"
+            if instruments and name not in instruments:
+                self.fault(key, f"{name} is none of the bay's instruments")
+            elif variable_of(name) in VARIABLES:
+                self.fault(key, f"an instrument that has a guard isn't called {name}: ${variable_of(name)} is something else")
+            elif not isinstance(at, str):
+                self.fault(key, 'where its guard listens is wanted, as "bench-1:5025"')
+            else:
+                try:
+                    way_of(at)
+                    found[name] = at
+                except ValueError as why:
+                    self.fault(key, str(why))
+        return found
 
     def number(self, key: str, given: object, least: int, most: int = MOST_NUMBER) -> int:
         # (of one that is too large for the library `fits` says more)

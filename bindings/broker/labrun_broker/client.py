@@ -61,13 +61,15 @@ class Lab:
         atexit.register(self._at_exit)
 
     async def _open(self) -> None:
-        if self._certificate is None:
+        if self._certificate is None or self.address.startswith("unix:"):
+            # (there it is for guards alone)
             self._channel = grpc.aio.insecure_channel(self.address, OPTIONS)
         else:
             self._channel = grpc.aio.secure_channel(self.address, grpc.ssl_channel_credentials(self._certificate), OPTIONS)
         kinds = {
             "Status": (self._channel.unary_unary, pb.StatusWish, pb.Bay),
             "Watch": (self._channel.unary_stream, pb.StatusWish, pb.Bay),
+            "Guard": (self._channel.unary_stream, pb.GuardWish, pb.Holders),
             "Release": (self._channel.unary_unary, pb.ReleaseWish, pb.Released),
             "Apply": (self._channel.unary_unary, pb.ApplyWish, pb.Applied),
             "Outage": (self._channel.unary_unary, pb.OutageWish, pb.Noted),

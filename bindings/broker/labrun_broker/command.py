@@ -188,6 +188,7 @@ def run_help(args: argparse.Namespace) -> int:
 WORDS = (
     Word("serve", "keeps the bay: the one process that all others ask", later("serve", "add_serve"), later("serve", "run_serve")),
     Word("hold", "waits for instruments, runs a command while it holds them, and lets go", add_hold, run_hold),
+    Word("guard", "stands before instruments, and lets through whoever holds them", later("guard_command", "add_guard"), later("guard_command", "run_guard")),
     Word("status", "who holds what since when, and who waits for whom", add_status, run_status),
     Word("top", "the same, again whenever it has changed", add_status, run_top),
     Word("release", "ends the session of a station whose client doesn't come back", add_release, run_release),

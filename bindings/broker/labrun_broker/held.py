@@ -13,6 +13,7 @@ import labrun
 
 from . import broker_pb2 as pb
 from .errors import BadWish, NotHeld, TakenAway, Unreachable, raised
+from .forward import Ways
 from .stream import AGAIN, Lost, Stream
 from .work import clock
 
@@ -52,6 +53,9 @@ class Held:
         # since when the broker can't be reached, while it waits
         self._lost_at: Optional[float] = None
         self._returns: Optional[asyncio.Task[None]] = None
+        # where the guards of its instruments are, and the ports that lead there
+        self.guards: dict[str, str] = {}
+        self._ways: Optional[Ways] = None
         # it is called, on another thread, if the session was taken away while its owner works
         self.on_taken: Optional[Callable[[Exception], None]] = None
         # and if its limit is over soon
@@ -84,6 +88,17 @@ class Held:
             if self.state == "held":
                 await self.release_async()
             raise
+
+    def address(self, instrument: str) -> tuple[str, int]:
+        """Host and port at which an instrument that has a guard is reached, as long as the session holds."""
+        return self.lab._run(self._address(instrument))
+
+    async def address_async(self, instrument: str) -> tuple[str, int]:
+        return await self.lab._run_async(self._address(instrument))
+
+    @property
+    def ticket(self) -> str:
+        return str(self._wish.ticket)
 
     def note(self, text: object) -> None:
         """Writes a line to the records, as a reading."""
@@ -207,6 +222,15 @@ class Held:
         self._until = math.inf if self._lease is None else sent + self._lease
         self.instruments, self.station = tuple(told.instruments), told.station
         self.number, self.token = told.session, told.token
+        self.guards = dict(told.guards)
+
+    async def _address(self, instrument: str) -> tuple[str, int]:
+        self._raises_taken()
+        if self.state != "held":
+            raise NotHeld(f"the session is {self.state}: it doesn't hold its instruments")
+        if self._ways is None:
+            self._ways = Ways(self.guards, self.ticket, self.lab._certificate)
+        return await self._ways.address(instrument)
 
     def _waits_for(self, text: str) -> None:
         if self._waits is not None:
@@ -297,6 +321,9 @@ class Held:
     def _is_over(self, state: str, fault: Optional[Exception]) -> None:
         self.state, self._taken, self._stream, self._returns = state, fault, None, None
         self.lab._held.discard(self)
+        if self._ways is not None:
+            self._ways.close()
+            self._ways = None
         if self._beats is not None and self._beats is not asyncio.current_task():
             self._beats.cancel()
         if fault is not None and not self._asked and self.on_taken is not None:
@@ -365,6 +392,8 @@ class Held:
             raise fault
 
     async def _let_go(self, failed: Optional[str]) -> None:
+        if self._ways is not None:
+            await self._ways.lets_go()
         await self._ask(let_go=pb.LetGo(failed=failed and failed[:MOST_FAILED]))
 
 

@@ -381,6 +381,10 @@ class Keeping:
     def changes(self) -> AsyncIterator[None]:
         return self._news.changes()
 
+    async def confirmed(self) -> None:
+        """Returns once all that was told is known to go on to be so."""
+        await self._shell.durable()
+
     def status(self) -> dict[str, Any]:
         return Standings(self).status()
 

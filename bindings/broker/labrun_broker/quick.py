@@ -30,7 +30,7 @@ ACK, STREAM_ENDS, HEADERS_END, PADDED = 1, 1, 4, 8
 # the fields of Ask and of Told
 WISH, LET_GO = 1, 3
 HELD, WAITS, GONE, FAULT, TAKEN, WARNING = 1, 2, 4, 5, 6, 8
-LEASE, TOKEN = 6, 7  # fields of Held
+LEASE, TOKEN, GUARDS = 6, 7, 8  # fields of Held
 
 Fields = dict[int, list[Any]]
 
@@ -89,6 +89,8 @@ class Quick:
         self.wire = Wire()
         self._path, self._wish, self._waits, self._connects, self._begins = path, wish, waits, connects, begins
         self.ticket = binascii.b2a_base64(os.urandom(32), newline=False).decode().translate({43: "-", 47: "_", 61: None})
+        # where the guards of its instruments are
+        self.guards: dict[str, str] = {}
         self._taken: Any = None
         self._is_over = self._is_let_go = False
         self._whole: Optional[Held] = None
@@ -129,6 +131,7 @@ class Quick:
             if what == HELD:
                 self.station, self.number, self.instruments = _text_of(of, 1), of[2][0], tuple(it.decode() for it in of[3])
                 self.token = of.get(TOKEN, [0])[0]
+                self.guards = {_text_of(it, 1): _text_of(it, 2) for it in map(_fields, of.get(GUARDS, []))}
                 if LEASE in of:
                     # (its client has to say again and again that it is there)
                     self._comes_back(True)

@@ -55,10 +55,24 @@ def run_hold(args: argparse.Namespace) -> int:
     waits: Waits = None if args.quiet else lambda text: say(f"waits: {plain(text)}")
     with passing_on() as signals, adopting(), contextlib.ExitStack() as ends:
         held = holds(args, wish, waits, signals, ends)
-        status = runs(args.command, held, signals, address_of(args))
+        variables, passes = ends.enter_context(leads(held, args))
+        status = runs(args.command, held, signals, address_of(args), variables)
         if held.held:
+            passes()
             lets_go(held, status, signals, ends)
     return status
+
+
+@contextlib.contextmanager
+def leads(held: Union[Quick, Held], args: argparse.Namespace) -> Iterator[tuple[dict[str, str], Callable[[], None]]]:
+    """To the instruments that have a guard: the variables with their addresses, and what is to be called before it lets go."""
+    if not held.guards:
+        yield {}, lambda: None
+        return
+    from .forward import led
+
+    with led(held.guards, held.ticket, args.certificate, say) as found:
+        yield found
 
 
 def lets_go(held: Union[Quick, Held], status: int, signals: Signals, ends: contextlib.ExitStack) -> None:
@@ -164,10 +178,10 @@ def holds(args: argparse.Namespace, wish: Wish, waits: Waits, signals: Signals, 
     return start.tries(wholly)
 
 
-def runs(command: list[str], held: Union[Quick, Held], signals: Signals, address: str = "") -> int:
+def runs(command: list[str], held: Union[Quick, Held], signals: Signals, address: str = "", more: dict[str, str] = {}) -> int:
     """Runs a command, and gives its status. A session that is taken away ends it."""
     its = {"LABRUN_HELD": " ".join(held.instruments), "LABRUN_STATION": held.station, "LABRUN_TOKEN": str(held.token)}
-    environment = {**ENVIRONMENT, **its, "LABRUN_AROUND": around(address, held)}
+    environment = {**ENVIRONMENT, **its, **more, "LABRUN_AROUND": around(address, held)}
     taken: list[object] = []
     try:
         signals.starts(command, environment, held.is_released_if_gone)

@@ -15,6 +15,7 @@ import grpc
 import labrun
 
 from . import broker_pb2 as pb
+from . import guarding
 from .applying import apply
 from .bay import BadAddress
 from .door import Complaints, Door, Seldom, check_free
@@ -155,6 +156,7 @@ class Client:
             held = pb.Held(station=it.name, session=it.number, instruments=it.instruments, ticket=wish.ticket, token=it.token)
             if (lease := self.keeping.lease) is not None:
                 held.grace, held.lease = self.keeping.grace, lease
+            held.guards.update({name: at for name, at in self.keeping.bay.guards.items() if name in it.instruments})
             told = pb.Told(held=held)
         except labrun.LabrunError as fault:
             told = pb.Told(fault=fault_of(fault))
@@ -259,6 +261,13 @@ class Service:
             await asyncio.sleep(WATCH)
             yield pb.Bay(**self.keeping.status())
 
+    async def Guard(self, wish: Any, context: Any) -> AsyncIterator[Any]:
+        await self._paces(context)
+        if (why := guarding.why_not(self.keeping, wish)) is not None:
+            await context.abort(grpc.StatusCode.FAILED_PRECONDITION, why)
+        async for told in guarding.holders(self.keeping, tuple(wish.instruments)):
+            yield told
+
     async def Release(self, wish: Any, context: Any) -> Any:
         await self._paces(context)
         by = wish.by[: self.keeping.bay.limits.name] or "an operator"
@@ -319,6 +328,7 @@ def _methods(service: Service) -> Any:
         "labrun.broker.Broker",
         {
             "Hold": grpc.stream_stream_rpc_method_handler(service.Hold, pb.Ask.FromString, _bytes),
+            "Guard": grpc.unary_stream_rpc_method_handler(service.Guard, pb.GuardWish.FromString, _bytes),
             "Watch": grpc.unary_stream_rpc_method_handler(service.Watch, pb.StatusWish.FromString, _bytes),
             "Status": unary(service.Status, pb.StatusWish),
             "Release": unary(service.Release, pb.ReleaseWish),

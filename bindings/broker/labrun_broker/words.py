@@ -49,7 +49,7 @@ def say(text: str) -> None:
 def add_client(parser: argparse.ArgumentParser) -> None:
     parser.add_argument("--broker", metavar="ADDR", help=f"where the broker listens; without, LABRUN_BROKER says it, or it is {DEFAULT}")
     parser.add_argument("--token-file", metavar="FILE", help="the token, for a broker on another machine")
-    parser.add_argument("--certificate", metavar="FILE", help="the certificate to know that broker by")
+    parser.add_argument("--certificate", metavar="FILE", help="the certificate to know that broker by, and guards; of several, one behind the other")
 
 
 def lab_of(args: argparse.Namespace, **more: Any) -> Lab:

@@ -6,6 +6,7 @@ import unittest
 from dataclasses import replace
 
 from labrun_broker.bay import Bay, BayFault, Limits, bay_of
+from labrun_broker.ways import Way, way_of
 from tests.brokers import BAY, TOP
 
 ONE = 'instruments = ["scope"]\n[guests]\ncount = 1\n'
@@ -43,6 +44,12 @@ FAULTY = (
     (ONE + '[labels]\nlamp = "a lamp"\n', ["labels.lamp: lamp is none of the bay's instruments"]),
     (ONE + '[labels]\nscope = "two\\nlines"\n', ["labels.scope: a text in one line, of up to 200 characters, is wanted"]),
     (ONE + f'[labels]\nscope = "{201 * "a"}"\n', ["labels.scope: a text in one line, of up to 200"]),
+    (ONE + "[guards]\nlamp = \"a:1\"\n", ["guards.lamp: lamp is none of the bay's instruments"]),
+    (ONE + "[guards]\nscope = 5\n", ["guards.scope: where its guard listens is wanted"]),
+    (ONE + "[guards]\nscope = \"bench-1\"\n", ["guards.scope: 'bench-1': HOST:PORT is wanted"]),
+    (ONE + "[guards]\nscope = \"bench-1:70000\"\n", ["guards.scope: 'bench-1:70000': HOST:PORT is wanted"]),
+    (ONE + "[guards]\nscope = \"a:1 by-name\"\n", ["guards.scope: 'a:1 by-name': behind the address by-host and without-tls may stand"]),
+    ('instruments = ["held"]\n[guests]\ncount = 1\n[guards]\nheld = "a:1"\n', ["guards.held: an instrument that has a guard isn't called held"]),
     (ONE + "[limits]\nnote = 0\n", ["limits.note: a number from 1"]),
     (ONE + "[limits]\nnotes = 5\n", ["limits.notes: there is no such key; there are clients, name, note, requests"]),
     ('instruments = ["scope"]\n[stations]\nguest-99 = ["scope"]\n[guests]\ncount = 1\n', ["stations.guest-99: this is the name of a guest"]),
@@ -62,6 +69,8 @@ class Bays(unittest.TestCase):
         bay = bay_of('instruments = ["a", "b"]\ngone = "release"\n[guests]\ncount = 1\nmay_use = ["b"]\n[stations]\nx = ["a"]\n[limits]\nnote = 9\n')
         self.assertEqual((bay.gone, bay.guests_use, bay.limits, bay.overtakes), ("release", ("b",), Limits(note=9), None))
         self.assertEqual(bay_of("overtakes = 0\n" + ONE).overtakes, 0)
+        self.assertEqual(bay_of(ONE + '[guards]\nscope = "bench-1:5025 by-host"\n').guards, {"scope": "bench-1:5025 by-host"})
+        self.assertEqual(way_of("[::1]:5025 without-tls"), Way("::1", 5025, False, True))
 
     def test_names_as_people_have_them(self) -> None:
         """Also words that a script has for something else."""
@@ -98,10 +107,10 @@ class Example(unittest.TestCase):
         self.assertEqual((bay.name, bay.gone, bay.guests, bay.overtakes, bay.limits), ("north", "keep", 8, None, Limits()))
         self.assertEqual((len(bay.instruments), list(bay.stations)), (6, ["board", "burn-in"]))
         whole = re.sub(r"(?m)^# (?=[\w-]+ = |\[)", "", text)
-        more = {"tags": {"precise": ("scope", "meter")}, "labels": {"scope": "DSO-X 3034, by the window"}}
+        more = {"tags": {"precise": ("scope", "meter")}, "labels": {"scope": "DSO-X 3034, by the window"}, "guards": {"scope": "bench-1:5025"}}
         self.assertEqual(bay_of(whole), replace(bay, overtakes=16, **more))
         given = tomllib.loads(whole)
-        self.assertEqual(set(given), {"bay", "instruments", "gone", "overtakes", "stations", "guests", "limits", "tags", "labels"})
+        self.assertEqual(set(given), {"bay", "instruments", "gone", "overtakes", "stations", "guests", "limits", "tags", "labels", "guards"})
         self.assertEqual((set(given["guests"]), set(given["limits"])), ({"count", "may_use"}, {"clients", "requests", "name", "note"}))
 
     def test_each_key_is_in_formats(self) -> None:
@@ -109,4 +118,4 @@ class Example(unittest.TestCase):
             part = file.read().partition("## A bay's file")[2].partition("\n## ")[0]
         rows = set(re.findall(r"(?m)^\| `([\w.]+)` \|", part))
         limits = {f"limits.{it}" for it in vars(Limits())}
-        self.assertEqual(rows, {"bay", "instruments", "gone", "overtakes", "stations.NAME", "guests.count", "guests.may_use", "tags.NAME", "labels.NAME", *limits})
+        self.assertEqual(rows, {"bay", "instruments", "gone", "overtakes", "stations.NAME", "guests.count", "guests.may_use", "tags.NAME", "labels.NAME", "guards.NAME", *limits})

@@ -24,6 +24,37 @@ class Wrong(NamedTuple):
 
 
 WRONG = {
+    "a guard that cuts nobody": Wrong(
+        "test_guard_inside.Exclusion.test_many_times_over", "guard.py", (("                self.cuts += 1\n                one.cut()\n", "                self.cuts += 1\n                one.over.set()\n"),)
+    ),
+    "a guard that takes any ticket": Wrong(
+        "test_guard.LetsThrough.test_not_who_holds_another",
+        "guard.py",
+        (("await self._token_of(lambda it: hmac.compare_digest(it.ticket_hash, digits))", "await self._token_of(lambda it: len(it.ticket_hash) == len(digits))"),),
+    ),
+    "a guard that opens the next one before it has closed the last": Wrong(
+        "test_guard_inside.Exclusion.test_the_old_one_is_closed_before_the_next_is_opened", "guard.py", (("            await other.over.wait()\n", "            await asyncio.sleep(0)\n"),)
+    ),
+    "a guard that takes the word of a broker that isn't asked any more": Wrong(
+        "test_guard_inside.Exclusion.test_an_older_one_is_ignored", "guard.py", (("if holder is not None and holder.token < self.newest:", "if holder is not None and holder.token < 0:"),)
+    ),
+    "a guard that sends what was queued": Wrong(
+        "test_guard.Ends.test_nothing_queued_is_sent", "guard.py", (("                one.cut()\n", "                one.there.resets = False\n                one.there.closes()\n                one.caller.cut()\n"),)
+    ),
+    "a session that lets go before its last word has arrived": Wrong(
+        "test_guard.LetsThrough.test_the_last_word_arrives", "held.py", (("            await self._ways.lets_go()\n", "            pass\n"),)
+    ),
+    "a guard that is told of a holder that isn't on the disk": Wrong(
+        "test_guard_inside.Told.test_no_holder_that_is_not_on_the_disk",
+        "guarding.py",
+        (
+            ("for session in keeping.by_number.values() if session.holds for name", "for session in keeping.by_number.values() if session.state != 'over' for name"),
+            ("                await keeping.confirmed()\n", "                await asyncio.sleep(0)\n"),
+        ),
+    ),
+    "a guard that isn't told of an end": Wrong(
+        "test_guard_inside.Told.test_of_two_it_is_told_of_the_end_first", "guarding.py", (("if it.token and it.token != now[name].token]", "if it.token < 0]"),)
+    ),
     "a client's deadline counted from when it notices the cut": Wrong(
         "test_cuts.Programs.test_its_program_is_told_before_another_holds",
         "held.py",

@@ -108,9 +108,9 @@ sound_later durable later a le h = sound_later_at durable later a a.stage le h
 
 -- the line of one that holds is in the new file
 sound_turned_at : (durable at : ℕ) (a : Ask) (s : Stage) → a.stage ≡ s → at ≤ durable → IsSoundAt durable a s → IsSoundAt durable (turned at a) s
-sound_turned_at durable at a Waits is le h = (h.0, h.1, ap (λ (t : Stage). turned_mark at t a.hold_line) is ∙ h.2, h.3)
+sound_turned_at durable at a Waits is le h = (h.0, h.1, ap (λ (t : Stage). turned_mark at t a.hold_line) is ∙ h.2, h.3, h.4)
 sound_turned_at durable at a Holds is le h =
-    (h.0, λ e. ap (λ (t : Stage). is_written durable (turned_mark at t a.hold_line)) is ∙ le-leb at durable le, h.2)
+    (h.0, λ e. ap (λ (t : Stage). is_written durable (turned_mark at t a.hold_line)) is ∙ le-leb at durable le, h.2, h.3)
 sound_turned_at durable at a (Over how) is le h =
     let same : turned_mark at a.stage a.hold_line ≡ a.hold_line = ap (λ (t : Stage). turned_mark at t a.hold_line) is in
     (h.0, ap is_owed same ∙ h.1, λ e. h.2 (sym same ∙ e))

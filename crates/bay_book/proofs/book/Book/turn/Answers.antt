@@ -10,7 +10,7 @@ pub invariant_of-self : goal.invariant_of-self
 invariant_of-self c =
     let x = c.self.inside in let at = c.args.at in
     let items = with_items_is x.asks c.turn_all.new.asks (c.turn_all.auto.asks ∙ c.deref_mut.ensures.len) in
-    subst (λ (z : List Ask). IsSound (record { asks = z; next = x.next; durable = c.max-self-inside.result }))
+    subst (λ (z : List Ask). IsSound (record { asks = z; next = x.next; granted = x.granted; durable = c.max-self-inside.result }))
     (sym (items ∙ (c.turn_all.ensures ∙ ap (map (turned at)) c.deref_mut.ensures.value)))
-    (subst (λ n. IsSound (record { asks = map (turned at) x.asks.items; next = x.next; durable = n })) (sym c.max-self-inside.ensures)
-    (sound_turn (record { asks = x.asks.items; next = x.next; durable = x.durable }) at c.self.invariant))
+    (subst (λ n. IsSound (record { asks = map (turned at) x.asks.items; next = x.next; granted = x.granted; durable = n })) (sym c.max-self-inside.ensures)
+    (sound_turn (record { asks = x.asks.items; next = x.next; granted = x.granted; durable = x.durable }) at c.self.invariant))

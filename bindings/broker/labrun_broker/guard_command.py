@@ -1,0 +1,236 @@
+"""labrun-broker guard: guards for a table of instruments, in one process.
+
+The table is a TOML file; the first two keys have to be there, and the others stand for those of the command line:
+
+    [scope]
+    listen = "0.0.0.0:5025"             # where clients come
+    instrument = "192.168.7.20:5025"    # which only the guard is to reach
+    by_host = true
+    settle = 0.5
+    clear = "*CLS"
+"""
+
+from __future__ import annotations
+
+import argparse
+import asyncio
+import os
+import signal
+import socket
+import ssl
+import time
+import tomllib
+from typing import TYPE_CHECKING, Any, Optional
+
+from .bay import BadAddress, is_here
+from .quick import DEFAULT
+from .sockets import family_of, parsed
+from .texts import plain, seconds
+from .words import add_client, lab_of, say
+
+if TYPE_CHECKING:
+    from .client import Lab
+    from .guard import Guard
+
+AGAIN, SELDOM = 0.2, 60.0
+KEYS: dict[str, Any] = {"listen": str, "instrument": str, "by_host": bool, "settle": (int, float), "clear": str}
+
+
+def add_guard(parser: argparse.ArgumentParser) -> None:
+    parser.add_argument("table", metavar="FILE", help="a TOML file: for each instrument where clients come (listen), and where it is (instrument)")
+    parser.add_argument("--by-host", action="store_true", help="clients say no ticket: whoever comes from the holder's machine is let through")
+    settle = "to wait between the last connection of one session and the first of the next, 0 without"
+    parser.add_argument("--settle", metavar="SECONDS", type=seconds, default=0.0, help=settle)
+    parser.add_argument("--clear", metavar="LINE", default="", help="a line that the instrument is sent before each session's first connection, as '*CLS'")
+    parser.add_argument("--tls-certificate", metavar="FILE", help="for clients on other machines: the guard's certificate")
+    parser.add_argument("--tls-key", metavar="FILE", help="its key")
+    parser.add_argument("--without-tls", action="store_true", help="listen beyond this machine without TLS: whoever reads the network reads the tickets")
+    parser.add_argument("--metrics", metavar="ADDR", help="tell Prometheus there")
+    add_client(parser)
+
+
+def host_and_port(text: str) -> tuple[str, int]:
+    """Of `HOST:PORT`; BadAddress if it is none."""
+    if isinstance(at := parsed(text), str) or not at[0]:
+        raise BadAddress(f"{text}: HOST:PORT is wanted")
+    return at
+
+
+class BadTable(BadAddress):
+    """The table has faults: a line for each."""
+
+
+def read_table(path: str, args: argparse.Namespace) -> dict[str, dict[str, Any]]:
+    """For each instrument its five keys. BadTable names every fault."""
+    try:
+        with open(path, "rb") as file:
+            given = tomllib.load(file)
+    except (tomllib.TOMLDecodeError, UnicodeDecodeError) as fault:
+        raise BadTable(f"{path}: {fault}") from None
+    usual = {"by_host": args.by_host, "settle": args.settle, "clear": args.clear}
+    faults, table = list[str](), dict[str, dict[str, Any]]()
+    for name, row in given.items():
+        if not isinstance(row, dict):
+            faults.append(f"{name}: a table is wanted: [{name}]")
+            continue
+        found = faults_of(name, row)
+        faults += found
+        if not found:
+            table[name] = {**usual, **row}
+    if not given:
+        faults.append("no instrument is named")
+    if faults:
+        raise BadTable("\n".join(f"{path}: {fault}" for fault in faults))
+    return table
+
+
+def faults_of(name: str, row: dict[str, Any]) -> list[str]:
+    faults = [f"{name}.{key}: there is no such key; there are {', '.join(KEYS)}" for key in row if key not in KEYS]
+    for key in ("listen", "instrument"):
+        try:
+            host_and_port(str(row.get(key, "")))
+        except BadAddress:
+            faults.append(f'{name}.{key}: HOST:PORT is wanted, as "192.168.7.20:5025"')
+    if not isinstance(row.get("by_host", False), bool):
+        faults.append(f"{name}.by_host: true or false is wanted")
+    settle, clear = row.get("settle", 0), row.get("clear", "")
+    if isinstance(settle, bool) or not isinstance(settle, (int, float)) or not 0 <= settle < 1e9:
+        faults.append(f"{name}.settle: a number of seconds is wanted")
+    if not isinstance(clear, str) or not clear.isascii() or not (clear + "x").isprintable():
+        faults.append(f"{name}.clear: a line of ASCII is wanted")
+    return faults
+
+
+def context_of(args: argparse.Namespace) -> Optional[ssl.SSLContext]:
+    if (args.tls_certificate is None) != (args.tls_key is None):
+        raise BadAddress("a certificate and its key belong together: --tls-certificate FILE --tls-key FILE")
+    if args.tls_certificate is None:
+        return None
+    context = ssl.SSLContext(ssl.PROTOCOL_TLS_SERVER)
+    try:
+        context.load_cert_chain(args.tls_certificate, args.tls_key)
+    except ssl.SSLError as fault:
+        raise BadAddress(f"{args.tls_certificate} and {args.tls_key} are no certificate and its key: {fault.reason or fault}") from None
+    return context
+
+
+def check(table: dict[str, dict[str, Any]], args: argparse.Namespace) -> None:
+    """Beyond this machine there is TLS, or somebody said that there is none."""
+    for name, row in table.items():
+        if is_here(host_and_port(row["listen"])[0]) or args.without_tls or args.tls_certificate is not None and not row["by_host"]:
+            continue
+        why = "clients that say no ticket have no TLS" if row["by_host"] else "without TLS whoever reads the network reads the tickets"
+        raise BadAddress(f"{name}: {row['listen']} is seen by other machines, and {why}: --without-tls says that it may be so")
+
+
+def run_guard(args: argparse.Namespace) -> int:
+    table = read_table(args.table, args)
+    context = context_of(args)
+    check(table, args)
+    signal.signal(signal.SIGTERM, signal.default_int_handler)
+    try:
+        with lab_of(args, by="a guard") as lab:
+            return lab._run(guards(table, args, lab, context))
+    except KeyboardInterrupt:
+        return 0
+
+
+async def guards(table: dict[str, dict[str, Any]], args: argparse.Namespace, lab: Lab, context: Optional[ssl.SSLContext]) -> int:
+    """Goes on until it is ended. Then its connections are reset with this process."""
+    from .guard import Guard, Way
+    from .serve import tell_systemd
+
+    where, its = Where(args), dict[str, Guard]()
+    for name, row in table.items():
+        host, port = host_and_port(row["instrument"])
+        its[name] = Guard(Way(name, host, port, row["by_host"], row["settle"], row["clear"]), where.addresses)
+    servers = [await listens(its[name], row["listen"], None if row["by_host"] or is_here(host_and_port(row["listen"])[0]) else context) for name, row in table.items()]
+    web = None
+    try:
+        if args.metrics is not None:
+            from .guard_metrics import serve_metrics
+
+            web = await serve_metrics(list(its.values()), args.metrics)
+        for (name, row), server in zip(table.items(), servers):
+            say(f"guards {name} at {row['instrument']}: clients come to {address_of(server)}")
+        tell_systemd("READY=1")
+        await hears(its, lab)
+    finally:
+        for guard in its.values():
+            guard.told(None)
+        for server in servers:
+            server.close()
+        if web is not None:
+            await web.cleanup()
+    return 0
+
+
+def address_of(server: asyncio.Server) -> str:
+    host, port = server.sockets[0].getsockname()[:2]
+    return f"[{host}]:{port}" if ":" in host else f"{host}:{port}"
+
+
+async def listens(guard: Guard, at: str, context: Optional[ssl.SSLContext]) -> asyncio.Server:
+    from .guard import FIRST_LINE, Caller
+
+    host, port = host_and_port(at)
+    how: dict[str, Any] = {} if context is None else {"ssl": context, "ssl_handshake_timeout": FIRST_LINE}
+    try:
+        return await asyncio.get_running_loop().create_server(lambda: Caller(guard), host, port, family=family_of(host), **how)
+    except OSError as fault:
+        why = os.strerror(fault.errno) if fault.errno and fault.errno > 0 else fault.strerror or fault
+        raise BadAddress(f"{at}: it can't listen there: {why}") from None
+
+
+async def hears(its: dict[str, Guard], lab: Lab) -> None:
+    """Goes on to hear who holds. While the broker is away who is let through stays so, and no other session is."""
+    import grpc
+
+    from . import broker_pb2 as pb
+    from .door import Seldom
+    from .guard import Holder
+    from .errors import why_lost
+
+    seldom = Seldom(SELDOM)
+    while True:
+        try:
+            async for told in lab._methods["Guard"](pb.GuardWish(instruments=list(its)), metadata=lab._metadata):
+                for it in told.holders:
+                    guard, who = its[it.instrument], f"{it.station} ({it.by})" if it.by else it.station
+                    guard.is_told = True
+                    guard.told(Holder(it.token, it.ticket_hash, who, it.host if it.HasField("host") else None) if it.token else None)
+        except grpc.aio.AioRpcError as fault:
+            why = str(why_lost(lab.address, fault.code(), str(fault.details())))
+            if (text := seldom.text(why, why)) is not None:
+                say(plain(text))
+        for guard in its.values():
+            guard.is_told = False
+        await asyncio.sleep(AGAIN)
+
+
+class Where:
+    """The addresses of the broker's machine, from which a client comes that is there; none if that is this machine."""
+
+    def __init__(self, args: argparse.Namespace) -> None:
+        at = parsed(args.broker or os.environ.get("LABRUN_BROKER") or DEFAULT)
+        self._host = "" if isinstance(at, str) or is_here(at[0]) else at[0]
+        self._found, self._until = frozenset[str](), 0.0
+
+    def addresses(self) -> frozenset[str]:
+        if self._host and time.monotonic() > self._until:
+            self._until = time.monotonic() + SELDOM
+            try:
+                found = frozenset(str(it[4][0]) for it in socket.getaddrinfo(self._host, None))
+            except OSError:
+                found = frozenset({self._host})
+            self._found = frozenset() if any(is_of_this_machine(it) for it in found) else found
+        return self._found
+
+
+def is_of_this_machine(address: str) -> bool:
+    try:
+        with socket.socket(family_of(address), socket.SOCK_DGRAM) as one:
+            one.bind((address, 0))
+        return True
+    except OSError:
+        return False

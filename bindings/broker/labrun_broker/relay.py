@@ -1,0 +1,143 @@
+"""A connection that goes on: what comes at one end is sent by the other, as it is, and no faster than it is taken."""
+
+from __future__ import annotations
+
+import asyncio
+import contextlib
+import fcntl
+import socket
+import struct
+import termios
+from typing import Any, Optional
+
+MOST_EARLY = 1 << 16  # bytes that one end may send before there is another
+LAST_WORDS = 1.0  # seconds for an answer to one that has said all, where TLS can't tell that
+AGAIN = 0.005
+_LINGER = struct.pack("ii", 1, 0)
+
+
+def resets(one: socket.socket) -> None:
+    """However it is closed, also by the death of this process, what isn't sent is dropped, and the other side is told so (RST)."""
+    with contextlib.suppress(OSError):
+        one.setsockopt(socket.SOL_SOCKET, socket.SO_LINGER, _LINGER)
+
+
+def _asked(transport: Any, question: int) -> int:
+    one = transport.get_extra_info("socket")
+    if one is None or one.fileno() < 0:
+        return 0
+    return int(struct.unpack("i", fcntl.ioctl(one.fileno(), question, bytes(4)))[0])
+
+
+class End(asyncio.Protocol):
+    """One end of a connection. Until it is joined with another it keeps what comes. One that `resets` never leaves bytes behind that are sent
+    after its socket is closed."""
+
+    def __init__(self, resets: bool = False) -> None:
+        self.resets = resets
+        self.transport: Any = None
+        self.other: Optional[End] = None
+        self.early, self.came = b"", 0
+        # it has said all; and its socket is closed
+        self.is_through = False
+        self.over = asyncio.Event()
+
+    def connection_made(self, transport: Any) -> None:
+        self.transport = transport
+
+    def data_received(self, data: bytes) -> None:
+        self.came += len(data)
+        if self.other is not None:
+            self.other.writes(data)
+        else:
+            self.early += data
+            self.is_early()
+
+    def is_early(self) -> None:
+        if len(self.early) >= MOST_EARLY:
+            self.transport.pause_reading()
+
+    def writes(self, data: bytes) -> None:
+        if not self.transport.is_closing():
+            self.transport.write(data)
+
+    def pause_writing(self) -> None:
+        if self.other is not None:
+            self.other.transport.pause_reading()
+
+    def resume_writing(self) -> None:
+        if self.other is not None:
+            self.other.transport.resume_reading()
+
+    def eof_received(self) -> bool:
+        self.is_through = True
+        if self.other is not None:
+            self.other.gets_no_more()
+        # (TLS has no half of a connection)
+        return not self._has_tls
+
+    @property
+    def _has_tls(self) -> bool:
+        return self.transport.get_extra_info("sslcontext") is not None
+
+    def gets_no_more(self) -> None:
+        """The other end has said all."""
+        if self.over.is_set():
+            return
+        if self.is_through:
+            for end in (self, self.other):
+                if end is not None:
+                    end.closes()
+        elif not self._has_tls:
+            with contextlib.suppress(OSError):
+                self.transport.write_eof()
+        else:
+            asyncio.get_running_loop().call_later(LAST_WORDS, self.closes)
+
+    def closes(self) -> None:
+        """Once all is sent."""
+        if self.over.is_set() or self.transport is None or self.transport.is_closing():
+            return
+        if self.resets and self.unsent():
+            asyncio.get_running_loop().call_later(AGAIN, self.closes)
+        else:
+            self.transport.close()
+
+    def cut(self) -> None:
+        """At once: what isn't sent is dropped."""
+        if self.transport is not None and not self.over.is_set():
+            if (one := self.transport.get_extra_info("socket")) is not None:
+                resets(one)
+            self.transport.abort()
+
+    def unsent(self) -> int:
+        """Bytes for it that its machine doesn't have yet."""
+        return 0 if self.over.is_set() else int(self.transport.get_write_buffer_size()) + _asked(self.transport, termios.TIOCOUTQ)
+
+    def unread(self) -> int:
+        """Bytes of it that this machine has, and the program hasn't."""
+        return 0 if self.over.is_set() else _asked(self.transport, termios.FIONREAD)
+
+    def connection_lost(self, fault: Optional[Exception]) -> None:
+        self.over.set()
+        if self.other is not None and not self.other.over.is_set():
+            if fault is None:
+                self.other.closes()
+            else:
+                self.other.cut()
+
+
+def joins(one: End, two: End) -> None:
+    """From now on what comes at one is sent by the other."""
+    if one.over.is_set() or two.over.is_set():
+        one.cut()
+        two.cut()
+        return
+    one.other, two.other = two, one
+    for end, other in ((one, two), (two, one)):
+        early, end.early = end.early, b""
+        if early:
+            other.writes(early)
+        end.transport.resume_reading()
+        if end.is_through:
+            other.gets_no_more()
