@@ -30,4 +30,4 @@ def way_of(text: str) -> Way:
 
 def variable_of(instrument: str) -> str:
     """The one that a command of `hold` has its address in."""
-    return "LABRUN_" + instrument.upper().replace("-", "_")
+    return "LABRUN_" + re.sub(r"\W|[.]", "_", instrument.upper())
