@@ -395,6 +395,7 @@ struct talk {
 };
 
 enum outcome { PENDING, ANSWERED, LOST, ABSENT };
+static int why_not; /* of the last call that couldn't be made */
 
 static void hang_up(struct talk *it) {
     if (it->socket >= 0)
@@ -416,10 +417,9 @@ static enum outcome call(struct talk *it, const char *method, const char *rest, 
     it->socket = socket(AF_UNIX, SOCK_STREAM | SOCK_CLOEXEC | SOCK_NONBLOCK, 0);
     if (it->socket >= 0 && connect(it->socket, (struct sockaddr *)&to, sizeof to) == 0)
         return PENDING;
-    int why = errno;
+    why_not = errno;
     hang_up(it);
-    errno = why;
-    return why == ENOENT || why == ECONNREFUSED ? ABSENT : LOST;
+    return why_not == ENOENT || why_not == ECONNREFUSED ? ABSENT : LOST;
 }
 
 static bool is_whole(const struct talk *it) {
@@ -527,11 +527,17 @@ static void put_wish(struct text *to, double left) {
 
 /* Where the broker takes HTTP: at the socket itself, or at the one beside it. */
 static void find_path(void) {
+    static const char beside[] = ".http";
+    const char *own = wish.broker + strlen("unix:");
+    size_t length = strlen(own);
     struct stat is;
-    char beside[sizeof path + 8];
-    snprintf(beside, sizeof beside, "%s.http", wish.broker + strlen("unix:"));
-    bool is_beside = strlen(beside) < sizeof path && stat(beside, &is) == 0 && S_ISSOCK(is.st_mode);
-    snprintf(path, sizeof path, "%s", is_beside ? beside : wish.broker + strlen("unix:"));
+    memset(path, 0, sizeof path);
+    memcpy(path, own, length);
+    if (length + sizeof beside <= sizeof path) {
+        memcpy(path + length, beside, sizeof beside);
+        if (stat(path, &is) != 0 || !S_ISSOCK(is.st_mode))
+            path[length] = 0;
+    }
 }
 
 static enum outcome asks(struct talk *it, bool is_new, double wait, double left) {
@@ -649,8 +655,14 @@ static int holds(void) {
             found = UNREACHABLE;
             break;
         }
+        if (how == LOST && it.socket < 0 && why_not == EACCES) {
+            say("the broker at unix:%s can't be reached: permission denied", path);
+            found = UNREACHABLE;
+            break;
+        }
+        was_there |= how == LOST;
         /* nobody answers: it may be just being started, or come back. (If a wish was lost, it may be known all the same.) */
-        double time = now(), patience = was_there || how == LOST ? AWAY : STARTING;
+        double time = now(), patience = was_there ? AWAY : STARTING;
         is_new = is_new && how == ABSENT;
         lost = isnan(lost) ? time : lost;
         if (!is_told && how == ABSENT && !was_there) {
