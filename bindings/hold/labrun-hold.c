@@ -1,6 +1,6 @@
 /* labrun-hold: waits for instruments of a labrun-broker of this machine, runs a command while it holds them, and lets go.
 
-       cc -O2 -o labrun-hold labrun-hold.c
+       cc -O2 -o labrun-hold labrun-hold.c -lm
 
    It does as `labrun-broker hold` does, without Python: it asks by HTTP at a Unix socket (labrun-broker serve --http), and has the same
    statuses. One loop waits for everything: signals, the broker's answers, and time. */

@@ -6,6 +6,7 @@ import contextlib
 import gzip
 import json
 import os
+import shutil
 import socket
 import subprocess
 import sys
@@ -361,6 +362,7 @@ class Refused(OnHttp):
 class Doors(OnHttp):
     """Who may come in."""
 
+    @unittest.skipIf(shutil.which("curl") is None, "there is no curl")
     def test_by_the_network_with_token_and_certificate(self) -> None:
         folder, port = self.enterContext(tempfile.TemporaryDirectory()), free_port()
         words = ["openssl", "req", "-x509", "-newkey", "ec", "-pkeyopt", "ec_paramgen_curve:prime256v1", "-nodes", "-days", "2", "-subj", "/CN=localhost"]
@@ -415,6 +417,7 @@ class Doors(OnHttp):
         for host, status in ((f"localhost:{port}", 200), ("[::1]", 200), ("evil.example", 403), (f"evil.example:{port}", 403)):
             self.assertEqual((host, one.raw("GET", "/v1/status", Host=host)[0]), (host, status))
 
+    @unittest.skipIf(shutil.which("curl") is None, "there is no curl")
     def test_as_the_guide_says(self) -> None:
         """Its lines of curl, as they stand there."""
         with open(f"{TOP}/docs/GUIDE.md", encoding="utf-8") as file:
