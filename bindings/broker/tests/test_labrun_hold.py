@@ -11,15 +11,11 @@ import subprocess
 import tempfile
 import time
 import unittest
-from typing import Any
-
-try:
-    import labrun_broker.serving
-except ImportError as lacking:
-    raise unittest.SkipTest(str(lacking)) from None
+from importlib.util import find_spec
 
 from tests.asking import Asking
-from tests.brokers import BAY, LIMIT, TOP, Broker, OnBroker, until
+from tests.brokers import BAY, LIMIT, TOP, Broker, OnBroker, broker, until
+from tests.proxies import OfSockets, Ways
 
 SOURCE = f"{TOP}/bindings/hold/labrun-hold.c"
 COMPILER = next((it for it in ("cc", "gcc", "clang") if shutil.which(it)), None)
@@ -30,6 +26,7 @@ RELEASES = f'gone = "release"\n{BAY}'
 MINDS = "trap 'date +%s.%N > FOLDER/ended; exit 0' TERM; echo > FOLDER/begun; while :; do sleep 0.05; done"
 
 
+@unittest.skipUnless(find_spec("aiohttp"), "there is no aiohttp")
 @unittest.skipIf(COMPILER is None, "there is no compiler of C")
 class Held(OnBroker):
     @classmethod
@@ -233,6 +230,24 @@ class Held(OnBroker):
         broker.begin()
         self.assertIn("ended with status 0; the broker doesn't answer", self.ends(hold, 0))
         self.assertEqual(one.status("guest-1")["state"], "idle")
+
+    def test_its_way_is_cut(self) -> None:
+        """It goes on, however that is told, and lets go once there is a way again."""
+        for how in ("both", "client", "neither"):
+            with self.subTest(how), broker(BAY, "--http", "unix:FOLDER/bay.sock.http") as one, Ways() as ways:
+                way = OfSockets(ways, f"{one.folder}/way.sock", f"{one.folder}/bay.sock.http")
+                asking = Asking(f"{one.folder}/bay.sock.http")
+                runs = "echo > FOLDER/begun; while [ ! -e FOLDER/over ]; do sleep 0.05; done"
+                hold = self.started(one, "scope", "--broker", way.address, "--", "sh", "-c", runs)
+                way.cut(how)
+                with open(f"{one.folder}/over", "w", encoding="ascii"):
+                    pass
+                time.sleep(3)
+                self.assertIn(asking.status("guest-1")["state"], ("holding", "gone"))
+                way.mend()
+                self.assertIn("ended with status 0; the broker doesn't answer", self.ends(hold, 0))
+                self.assertEqual(asking.status("guest-1")["state"], "idle")
+                way.close()
 
     def test_it_waits_while_the_broker_is_killed(self) -> None:
         broker, one = self.at(BAY, "--state", "FOLDER/state")
