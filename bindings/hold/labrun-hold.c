@@ -613,74 +613,77 @@ static bool is_held(const struct talk *it) {
     return isnan(held.lease) || now() < it->at + held.lease / 6;
 }
 
-static int ended_by(int number) {
-    gives_up();
-    return 128 + number;
+/* How it goes on to wait: whether its wish is to be sent, or it asks on by its ticket; whether the broker was there; since when it is away. */
+struct line {
+    bool is_new, was_there, is_told;
+    double end, lost, wait, said_at;
+    struct text said;
+};
+
+/* -1: it waits on; else as `holds`. */
+static int hears(struct line *its, const struct talk *it) {
+    int answer = status_of(it), found = -1;
+    if (answer == 200)
+        found = is_held(it) ? 0 : -1;
+    else if (answer == 202 && !wish.quiet)
+        tell(it, &its->said, &its->said_at);
+    else if (answer != 202 && (answer != 404 || its->is_new))
+        found = refused(it);
+    its->is_new = answer == 404;
+    its->was_there = true;
+    its->lost = NAN;
+    its->wait = answer == 200 ? 0 : its->is_new ? FIRST_WORD : 5;
+    return found;
+}
+
+/* Nobody answers: it may be just being started, or come back. (If a wish was lost, it may be known all the same.) -1: it is tried again. */
+static int hears_nothing(struct line *its, const struct talk *it, enum outcome how) {
+    double time = now();
+    bool is_first = how == ABSENT && !its->was_there;
+    if (how == LOST && it->heard.length > 0 && strncmp(it->heard.at, "HTTP/", 5) != 0) {
+        say("unix:%s takes no HTTP: labrun-broker serve BAY --listen unix:%s --http unix:%s.http", path, path, path);
+        return UNREACHABLE;
+    }
+    if (how == LOST && it->socket < 0 && why_not == EACCES) {
+        say("the broker at unix:%s can't be reached: permission denied", path);
+        return UNREACHABLE;
+    }
+    its->was_there |= how == LOST || how == ANSWERED;
+    its->is_new = its->is_new && how == ABSENT;
+    its->lost = isnan(its->lost) ? time : its->lost;
+    if (!its->is_told && is_first) {
+        say("waits for the broker: it doesn't listen yet at %s", path);
+        its->is_told = true;
+    }
+    if (time > its->lost + (its->was_there ? AWAY : STARTING) || time > its->end + LATE_END || (is_first && time >= its->end)) {
+        say("the broker at unix:%s %s", path, how == ABSENT ? "can't be reached: nobody listens there" : "doesn't answer");
+        gives_up();
+        return UNREACHABLE;
+    }
+    wait_until(NULL, time + (is_first ? 0.1 : PAUSE));
+    return -1;
 }
 
 /* 0 once it holds; else the status to end with. */
 static int holds(void) {
     struct talk it = {.socket = -1};
-    struct text said = {0};
-    double began = now(), end = began + wish.timeout, lost = NAN, said_at = 0, wait = FIRST_WORD;
-    bool is_new = true, was_there = false, is_told = wish.quiet;
+    struct line its = {.is_new = true, .is_told = wish.quiet, .end = now() + wish.timeout, .lost = NAN, .wait = FIRST_WORD};
     int found = -1;
-    while (found < 0) {
-        double left = isnan(wish.timeout) ? (double)NAN : fmax(0, end - now());
-        enum outcome how = asks(&it, is_new, wait, left);
+    while (found < 0 && !came) {
+        enum outcome how = asks(&it, its.is_new, its.wait, isnan(wish.timeout) ? (double)NAN : fmax(0, its.end - now()));
         while (how == PENDING && !came) {
             wait_until(&it, now() + 3600);
             how = goes_on(&it);
         }
-        if (came) {
-            found = ended_by(came);
-            break;
-        }
-        int answer = how == ANSWERED ? status_of(&it) : 0;
-        if (answer == 200)
-            found = is_held(&it) ? 0 : -1;
-        else if (answer == 202 && !wish.quiet)
-            tell(&it, &said, &said_at);
-        else if (answer != 0 && answer != 202 && answer != 503 && (answer != 404 || is_new))
-            found = refused(&it);
-        if (answer != 0 && answer != 503) {
-            is_new = answer == 404;
-            was_there = true;
-            lost = NAN;
-            wait = answer == 200 ? 0 : is_new ? FIRST_WORD : 5;
-            continue;
-        }
-        if (how == LOST && it.heard.length > 0 && strncmp(it.heard.at, "HTTP/", 5) != 0) {
-            say("unix:%s takes no HTTP: labrun-broker serve BAY --listen unix:%s --http unix:%s.http", path, path, path);
-            found = UNREACHABLE;
-            break;
-        }
-        if (how == LOST && it.socket < 0 && why_not == EACCES) {
-            say("the broker at unix:%s can't be reached: permission denied", path);
-            found = UNREACHABLE;
-            break;
-        }
-        was_there |= how == LOST;
-        /* nobody answers: it may be just being started, or come back. (If a wish was lost, it may be known all the same.) */
-        double time = now(), patience = was_there ? AWAY : STARTING;
-        is_new = is_new && how == ABSENT;
-        lost = isnan(lost) ? time : lost;
-        if (!is_told && how == ABSENT && !was_there) {
-            say("waits for the broker: it doesn't listen yet at %s", path);
-            is_told = true;
-        }
-        if (time > lost + patience || time > end + LATE_END || (how == ABSENT && !was_there && time >= end)) {
-            say("the broker at unix:%s %s", path, how == ABSENT ? "can't be reached: nobody listens there" : "doesn't answer");
-            gives_up();
-            found = UNREACHABLE;
-            break;
-        }
-        wait_until(NULL, time + (how == ABSENT && !was_there ? 0.1 : PAUSE));
-        if (came)
-            found = ended_by(came);
+        if (!came)
+            found = how == ANSWERED && status_of(&it) != 503 ? hears(&its, &it) : hears_nothing(&its, &it, how);
     }
     hang_up(&it);
-    free(said.at);
+    free(its.said.at);
+    if (found < 0 || (found == 0 && came)) {
+        gives_up();
+        return 128 + came;
+    }
     return found;
 }
 
@@ -775,7 +778,7 @@ static void works(void) {
     struct talk it = {.socket = -1};
     struct text rest = {0};
     double next = 0, tells = INFINITY;
-    double span = isnan(held.lease) ? LONG : held.beat;
+    double span = isnan(held.lease) ? LONG : held.beat, late = isnan(held.lease) ? LATE : fmin(LATE, held.lease / 2);
     putf(&rest, "/%s?while=holding&wait=%.3f", ticket, span);
     while (status < 0 || (were_sent && still_runs(now() > tells))) {
         double time = now();
@@ -783,7 +786,7 @@ static void works(void) {
             tells = isinf(tells) ? time + TELLING : time > tells ? 1e300 : tells;
         if (!is_taken && time >= held.until)
             is_late();
-        if (!is_taken && it.socket < 0 && time >= next && call(&it, "GET", rest.at, "", span + LATE) != PENDING)
+        if (!is_taken && it.socket < 0 && time >= next && call(&it, "GET", rest.at, "", span + late) != PENDING)
             next = time + PAUSE;
         double moment = status >= 0 ? time + LOOK : is_taken ? time + 3600 : fmin(held.until, it.socket < 0 ? next : time + 3600);
         wait_until(is_taken ? NULL : &it, moment);

@@ -127,7 +127,7 @@ class HttpDoor:
     async def _asks(self, request: web.Request) -> web.Response:
         span = wait_of(request)
         visit = await self.visits.asks(http_words.wish_of_body(await self._body(request)))
-        with visit.asking():
+        with visit.asking(lambda: is_there(request)):
             await visit.outlasts(WAITING, span, lambda: is_there(request))
         return shown(visit)
 
@@ -136,7 +136,7 @@ class HttpDoor:
         if state not in (WAITING, HOLDING):
             raise BadWish(f"while: {WAITING} or {HOLDING} is wanted")
         visit = await self._visit(request)
-        with visit.asking():
+        with visit.asking(lambda: is_there(request)):
             await visit.outlasts(state, span, lambda: is_there(request))
         return shown(visit)
 
@@ -173,7 +173,7 @@ class HttpDoor:
         visit = await self._visit(request)
         response = web.StreamResponse(headers={"Content-Type": "text/event-stream"})
         await response.prepare(request)
-        with visit.asking():
+        with visit.asking(lambda: is_there(request)):
             try:
                 await self._tells(visit, response, request)
             except (ConnectionError, TimeoutError):

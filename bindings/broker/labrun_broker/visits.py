@@ -1,7 +1,8 @@
 """Clients that come by single requests, each by its ticket: they have no connection whose end would tell that they are gone.
 
-- A client is there as long as a request of its is open, and for QUIET after the last one. One that isn't leaves the line if it waits, as one
-  whose stream has ended. One that holds is gone, and its session is kept; by any request it comes back.
+- A client is there as long as a request of its is open, and for QUIET after the last one, or CUT if it didn't wait for the answer. One that
+  isn't leaves the line if it waits, as one whose stream has ended. One that holds is gone, and its session is kept; by any request it
+  comes back.
 - Where `gone = "release"` it is a client that says again and again that it is there (leases.py): each request is such a word, when it comes
   and when it is answered."""
 
@@ -18,7 +19,7 @@ from .keeping import Keeping
 from .standing import Session, Standings
 from .wishes import Ended, Wish, owner_of
 
-QUIET = 15.0  # seconds
+QUIET, CUT = 15.0, 2.0  # seconds
 # how often a client is to say that it is there: so often in that time, and so often in its lease
 BEATS_OF_QUIET, BEATS_OF_LEASE = 3, 6
 # so many seconds a request is open at most, and no longer than a part of the lease: what is answered is never old
@@ -82,28 +83,34 @@ class Visit:
     # ---- whether it is there
 
     @contextlib.contextmanager
-    def asking(self) -> Iterator[None]:
-        """While a request of its is open."""
+    def asking(self, is_there: Callable[[], bool] = lambda: True) -> Iterator[None]:
+        """While a request of its is open, for whose answer somebody waits."""
         self._open += 1
         self._is_heard()
         try:
             yield
         finally:
             self._open -= 1
-            self._is_heard()
+            if is_there():
+                self._is_heard()
+            else:
+                self._is_quiet_from_now(CUT)
 
     def _is_heard(self) -> None:
         if self.state == HOLDING and self.session is not None:
             self._keeping.heard(self.session, self, True)
+        self._is_quiet_from_now(QUIET)
+
+    def _is_quiet_from_now(self, span: float) -> None:
         if self._quiet is not None:
             self._quiet.cancel()
         is_open = self._open > 0 or self.state == OVER
-        self._quiet = None if is_open else asyncio.get_running_loop().call_later(QUIET, self._is_quiet)
+        self._quiet = None if is_open else asyncio.get_running_loop().call_later(span, self._is_quiet)
 
     def _is_quiet(self) -> None:
         if self.state == WAITING:
             self._holding.cancel()
-            self._ends(Ended("NotHeld", f"its client wasn't heard for {QUIET:g} s while it waited, and so it left the line"))
+            self._ends(Ended("NotHeld", "its client wasn't heard while it waited, and so it left the line"))
         elif self._keeping.lease is None:
             self._is_gone(Ended("NotHeld", "its client is gone"))
 

@@ -207,15 +207,19 @@ class Gone(OnHttp):
         keeps.join()
 
     def test_whose_connection_ends_while_it_waits(self) -> None:
-        _, one = self.quickly(1.0)
-        one.holds("scope", station="board")
-        talk = one.connects()
+        """That is seen at once, and it has a moment to come back. (The same of one that holds.)"""
+        _, one = self.http()
+        first = one.holds("scope", station="board")
+        talk, other = one.connects(), one.connects()
         talk.request("POST", "/v1/sessions?wait=30", json.dumps({"instruments": ["scope"]}), {"Host": "localhost"})
+        other.request("GET", f"/v1/sessions/{first}?wait=30&while=holding", headers={"Host": "localhost"})
         until(lambda: one.status("guest-1")["state"] == "waiting")
+        time.sleep(0.5)
         talk.close()
+        other.close()
         began = time.monotonic()
-        until(lambda: one.status("guest-1")["state"] == "idle", "it left the line")
-        self.assertLess(time.monotonic() - began, 5)
+        until(lambda: one.status("guest-1")["state"] == "idle" and one.status("board")["state"] == "gone", "it is seen")
+        self.assertLess(time.monotonic() - began, 10)
 
     def test_one_that_holds_is_kept_and_comes_back(self) -> None:
         _, one = self.quickly(1.0)

@@ -44,6 +44,9 @@ WRONG = {
     "by HTTP: who waits and asks nothing stays in the line": Wrong(
         "test_http.Gone.test_one_that_waits_and_asks_nothing_leaves_the_line", "visits.py", (("            self._holding.cancel()\n            self._ends(Ended(\"NotHeld\", f\"its", "            self._ends(Ended(\"NotHeld\", f\"its"),)
     ),
+    "by HTTP: whose connection has ended is waited for like any other": Wrong(
+        "test_http.Gone.test_whose_connection_ends_while_it_waits", "visits.py", (("self._is_quiet_from_now(CUT)", "self._is_quiet_from_now(QUIET)"),)
+    ),
     "by HTTP: who holds and asks nothing isn't gone": Wrong(
         "test_http.Gone.test_one_that_holds_is_kept_and_comes_back", "visits.py", (("elif self._keeping.lease is None:", "elif False:"),)
     ),
