@@ -41,14 +41,20 @@ class Door:
             raise BadAddress(f"{self.token_file}: a token of 16 characters or more is wanted: openssl rand -hex 32 > {self.token_file}")
         return token
 
-    def credentials(self) -> Any:
+    def tls(self) -> Optional[ssl.SSLContext]:
         if self.certificate is None or self.key is None:
             return None
+        made = ssl.SSLContext(ssl.PROTOCOL_TLS_SERVER)
         try:
-            # (gRPC would say so in thirty lines)
-            ssl.SSLContext(ssl.PROTOCOL_TLS_SERVER).load_cert_chain(self.certificate, self.key)
+            made.load_cert_chain(self.certificate, self.key)
         except ssl.SSLError as fault:
             raise BadAddress(f"{self.certificate} and {self.key} are no certificate and its key: {fault.reason or fault}") from None
+        return made
+
+    def credentials(self) -> Any:
+        # (gRPC would say in thirty lines what is wrong with them)
+        if self.tls() is None or self.certificate is None or self.key is None:
+            return None
         with open(self.key, "rb") as key, open(self.certificate, "rb") as certificate:
             return grpc.ssl_server_credentials([(key.read(), certificate.read())])
 

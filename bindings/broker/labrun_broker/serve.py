@@ -5,6 +5,7 @@ from __future__ import annotations
 import argparse
 import asyncio
 import contextlib
+import dataclasses
 import os
 import resource
 import signal
@@ -20,6 +21,8 @@ from .texts import counted, mebibytes, plain, seconds
 from .words import USAGE, say
 
 if TYPE_CHECKING:
+    from .door import Door
+    from .entrance import Entrance
     from .keeping import Keeping
 
 LEAST_GRACE = 1.0
@@ -35,6 +38,8 @@ def add_serve(parser: argparse.ArgumentParser) -> None:
     parser.add_argument("--group", metavar="GROUP", help="whose members may use the Unix sockets, which have the mode 0660")
     grace = "with gone = \"release\": for how long a session is kept whose client says nothing, 60 without"
     parser.add_argument("--grace", metavar="SECONDS", type=seconds, default=60.0, help=grace)
+    parser.add_argument("--http", metavar="ADDR", action="append", default=[], help="HTTP and JSON, too, at unix:PATH or HOST:PORT, as often as wanted")
+    parser.add_argument("--http-origin", metavar="URL", action="append", default=[], help="a page of there may ask by HTTP, as http://bench-3:8000")
     parser.add_argument("--page", metavar="ADDR", help="show how the bay stands to browsers there")
     parser.add_argument("--metrics", metavar="ADDR", help="tell Prometheus there")
     parser.add_argument("--tls-certificate", metavar="FILE", help="for other machines: the broker's certificate")
@@ -50,6 +55,7 @@ def run_serve(args: argparse.Namespace) -> int:
 async def serve(args: argparse.Namespace) -> int:
     # (what only the broker needs: a client begins sooner without)
     from . import door, service
+    from .entrance import Entrance
     from .keeping import Keeping
 
     bay = read_bay(args.bay)
@@ -62,6 +68,8 @@ async def serve(args: argparse.Namespace) -> int:
     sys.setswitchinterval(0.0005)
     its_door = door.Door(tuple(args.listen or (DEFAULT,)), args.tls_certificate, args.tls_key, args.token_file, args.group)
     its_door.check()
+    by_http = dataclasses.replace(its_door, addresses=tuple(args.http))
+    by_http.check()
     keeping = Keeping(bay, args.state, args.grace, args.sync == "data")
     keeping.most_bytes = args.journal_size
     # (at first stands which bay it is, and where)
@@ -71,11 +79,13 @@ async def serve(args: argparse.Namespace) -> int:
     try:
         await keeping.open()
         ends.push_async_callback(keeping.close)
-        server = await service.start(keeping, its_door)
+        entrance = Entrance(keeping, its_door.token())
+        server = await service.start(keeping, its_door, entrance)
         ends.push_async_callback(server.stop, 0.5)
-        for runner in await web(args, keeping):
+        for runner in await web(args, keeping, by_http, entrance):
             ends.push_async_callback(runner.cleanup)
-        say(f"bay {bay.name}: {counted(len(bay.instruments), 'instrument')}, at {' '.join(its_door.addresses)}")
+        where = " ".join(its_door.addresses) + (f", by HTTP at {' '.join(args.http)}" if args.http else "")
+        say(f"bay {bay.name}: {counted(len(bay.instruments), 'instrument')}, at {where}")
         for it in (*keeping.complaints, *begins):
             say(plain(it))
         keeping.says = lambda text: say(plain(text)[:MOST_TOLD]) if door.is_read() else None
@@ -107,9 +117,13 @@ async def applies(keeping: Keeping, path: str) -> None:
             keeping.says(f"{path}: {line}")
 
 
-async def web(args: argparse.Namespace, keeping: Keeping) -> list[Any]:
-    """The page and the metrics, which need packages that the broker alone doesn't."""
-    runners = []
+async def web(args: argparse.Namespace, keeping: Keeping, by_http: Door, entrance: Entrance) -> list[Any]:
+    """What needs packages that the broker alone doesn't."""
+    runners: list[Any] = []
+    if by_http.addresses:
+        from .http_door import serve_http
+
+        runners += await shown("--http", serve_http, keeping, by_http, entrance, args.http_origin)
     if args.page is not None:
         from .page import serve_page
 

@@ -6,8 +6,6 @@ generator is too old to write, are at the end."""
 from __future__ import annotations
 
 import asyncio
-import collections
-import hmac
 import time
 from typing import Any, AsyncIterator, Awaitable, Callable, Coroutine, Optional
 
@@ -18,7 +16,8 @@ from . import broker_pb2 as pb
 from . import guarding
 from .applying import apply
 from .bay import BadAddress
-from .door import Complaints, Door, Seldom, check_free
+from .door import Complaints, Door, check_free
+from .entrance import Entrance, Pace
 from .errors import KINDS, BadWish
 from .keeping import Keeping
 from .outage import disable, enable
@@ -28,8 +27,8 @@ from .wishes import Ended, Wish, check_form, wish_of
 
 # when a client that waits is told for whom, when again if that has changed, and when again if it hasn't
 FIRST_WORD, NEXT_WORD, AGAIN = 0.3, 1.0, 60.0
-# so often at most one that watches is told; a call that isn't of a session's stream counts as so many messages
-WATCH, DEAR = 0.2, 20
+# so often at most one that watches is told
+WATCH = 0.2
 
 OPTIONS = [
     ("grpc.max_receive_message_length", 1 << 16),
@@ -51,20 +50,6 @@ def fault_of(fault: labrun.LabrunError) -> Any:
     """It is called as its class is, or the first that a client knows of those that it comes from."""
     its = fault.kind if isinstance(fault, Ended) else next((it.__name__ for it in type(fault).__mro__ if it.__name__ in KINDS), "LabrunError")
     return pb.Fault(kind=its, text=str(fault))
-
-
-class Pace:
-    """So many messages a second, and as many at once: who sends more waits."""
-
-    def __init__(self, rate: int) -> None:
-        self.rate, self.left, self.at = rate, float(rate), time.monotonic()
-
-    def span(self, count: int = 1) -> float:
-        """For how long the next one, or so many of them, has to wait."""
-        now = time.monotonic()
-        self.left = min(self.rate, self.left + (now - self.at) * self.rate) - count
-        self.at = now
-        return max(0.0, -self.left / self.rate)
 
 
 class Client:
@@ -209,46 +194,34 @@ class Service:
     """The calls of the service. Who comes by the network gives the token, if there is one; who comes by the socket was let in by its
     mode."""
 
-    def __init__(self, keeping: Keeping, token: Optional[str]) -> None:
-        self.keeping, self.token = keeping, token
-        self.clients, self._seldom = 0, Seldom(60.0)
-        self._pace = collections.defaultdict[str, Pace](lambda: Pace(keeping.bay.limits.requests))
+    def __init__(self, keeping: Keeping, entrance: Entrance) -> None:
+        self.keeping, self.entrance = keeping, entrance
 
     async def _lets_in(self, context: Any) -> None:
         """Whoever is told no by an abort gets no further."""
-        if self.token is not None and not context.peer().startswith("unix:"):
+        if not context.peer().startswith("unix:"):
             given = next((value for key, value in context.invocation_metadata() if key == "authorization"), "")
-            if not given:
-                await self._refuses(context, "UNAUTHENTICATED", "this broker asks for its token: give its file by --token-file")
-            if not hmac.compare_digest(str(given).encode(), f"Bearer {self.token}".encode()):
-                await self._refuses(context, "UNAUTHENTICATED", "this isn't its token")
+            await self._refuses_if(context, "UNAUTHENTICATED", self.entrance.is_unknown(str(given)))
 
-    async def _refuses(self, context: Any, code: str, why: str) -> None:
-        """Also whoever looks after the broker is told, now and then."""
-        if (text := self._seldom.text(why, f"{context.peer()} isn't let in: {why}")) is not None:
-            self.keeping.says(text)
-        await context.abort(getattr(grpc.StatusCode, code), why)
+    async def _refuses_if(self, context: Any, code: str, why: Optional[str]) -> None:
+        if why is not None:
+            self.entrance.tells(context.peer(), why)
+            await context.abort(getattr(grpc.StatusCode, code), why)
 
     async def _paces(self, context: Any) -> None:
         await self._lets_in(context)
-        if len(self._pace) > 1000:
-            self._pace.clear()
-        pace = self._pace[context.peer()]
-        if pace.span(DEAR) > 1:
-            pace.left += DEAR
-            await self._refuses(context, "RESOURCE_EXHAUSTED", f"more than {pace.rate} requests a second")
+        await self._refuses_if(context, "RESOURCE_EXHAUSTED", self.entrance.is_too_fast(context.peer()))
 
     async def Hold(self, _: Any, context: Any) -> None:
         await self._lets_in(context)
-        if self.clients >= self.keeping.bay.limits.clients:
-            await self._refuses(context, "RESOURCE_EXHAUSTED", f"{self.clients} clients are here, and no more may come")
-        self.clients += 1
+        await self._refuses_if(context, "RESOURCE_EXHAUSTED", self.entrance.is_full())
+        self.entrance.clients += 1
         try:
             # (so that the client knows that it is in)
             await context.send_initial_metadata(())
             await Client(self.keeping, context).talk()
         finally:
-            self.clients -= 1
+            self.entrance.clients -= 1
 
     async def Status(self, _: Any, context: Any) -> Any:
         await self._paces(context)
@@ -298,10 +271,10 @@ async def _answer(context: Any, work: Awaitable[Any]) -> Any:
         await context.abort(grpc.StatusCode.INTERNAL, str(fault))
 
 
-async def start(keeping: Keeping, door: Door) -> Any:
+async def start(keeping: Keeping, door: Door, entrance: Optional[Entrance] = None) -> Any:
     """The server, which has begun to listen. BadAddress and OSError say why it can't."""
     door.check()
-    service, credentials = Service(keeping, door.token()), door.credentials()
+    service, credentials = Service(keeping, entrance or Entrance(keeping, door.token())), door.credentials()
     # (a server of gRPC that is made and not started may keep the program from ending, so all is looked at before)
     for address in door.addresses:
         check_free(address)

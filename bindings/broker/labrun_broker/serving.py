@@ -6,6 +6,7 @@ import asyncio
 import logging
 import os
 import re
+import ssl
 from typing import Any, AsyncIterator, Awaitable, Callable, Coroutine, Optional, Union
 
 from .bay import BadAddress, is_here
@@ -20,7 +21,7 @@ try:
     from aiohttp import web as web
     from aiohttp.http_exceptions import HttpProcessingError
 except ImportError:
-    raise Lacking("the page and the numbers need aiohttp (Debian: python3-aiohttp)") from None
+    raise Lacking("HTTP, the page and the numbers need aiohttp (Debian: python3-aiohttp)") from None
 
 # garbage on the port is no fault of ours
 LOG = logging.getLogger("labrun_broker.page")
@@ -47,11 +48,21 @@ IS_TCP, SILENT = "is tcp", "silent"
 @web.middleware
 async def only_from_here(request: web.Request, handler: Callable[[web.Request], Awaitable[web.StreamResponse]]) -> web.StreamResponse:
     """Refuses a page of elsewhere whose name was turned to this address."""
-    request.app[SILENT].discard(request.protocol)
+    if request.app[IS_TCP] and not is_asked_here(request):
+        raise web.HTTPForbidden(text="this page is asked for by its own address only, as 127.0.0.1\n", headers=HEADERS)
+    return await handler(request)
+
+
+def is_asked_here(request: web.Request) -> bool:
+    """Whether it is asked for by a name of this machine."""
     host = request.headers.get("Host", "")
     name = host.rpartition(":")[0] if re.search(r":\d*$", host) else host
-    if request.app[IS_TCP] and not is_here(name.strip("[]")):
-        raise web.HTTPForbidden(text="this page is asked for by its own address only, as 127.0.0.1\n", headers=HEADERS)
+    return is_here(name.strip("[]"))
+
+
+@web.middleware
+async def is_no_longer_silent(request: web.Request, handler: Callable[[web.Request], Awaitable[web.StreamResponse]]) -> web.StreamResponse:
+    request.app[SILENT].discard(request.protocol)
     return await handler(request)
 
 
@@ -74,7 +85,7 @@ class Refusing(asyncio.Protocol):
         transport.abort()  # type: ignore[attr-defined]
 
 
-def limited(server: web.Server, silent: set[Any]) -> Callable[[], asyncio.BaseProtocol]:
+def limited(server: web.Server, silent: set[Any], more: int) -> Callable[[], asyncio.BaseProtocol]:
     """Makes the end of a new connection: no more than so many, and none that stays without a word."""
 
     def let_go(handler: Any) -> None:
@@ -84,7 +95,7 @@ def limited(server: web.Server, silent: set[Any]) -> Callable[[], asyncio.BasePr
                 handler.transport.abort()
 
     def new() -> asyncio.BaseProtocol:
-        if len(server.connections) >= MOST_CONNECTIONS:
+        if len(server.connections) >= MOST_CONNECTIONS + more:
             return Refusing()
         handler = server()
         silent.add(handler)
@@ -112,24 +123,35 @@ class Served:
 async def serve(app: web.Application, address: str, group: Optional[str] = None) -> Served:
     """Serves at an address; a Unix socket is for the group, as the broker's own."""
     at = address_of(address)
-    app[IS_TCP], app[SILENT] = not isinstance(at, str), set()
     app.middlewares.append(only_from_here)
+    return await served(app, at, group)
+
+
+Address = Union[str, tuple[str, int]]
+
+
+async def served(app: web.Application, at: Address, group: Optional[str], tls: Optional[ssl.SSLContext] = None, more: int = 0) -> Served:
+    """As `serve`, wherever it is, to so many more connections."""
+    app[IS_TCP], app[SILENT] = not isinstance(at, str), set()
+    app.middlewares.insert(0, is_no_longer_silent)
     runner = web.AppRunner(app, access_log=None, logger=LOG)
     await runner.setup()
     assert runner.server is not None
     try:
-        return Served(runner, await listener_at(at, group, limited(runner.server, app[SILENT])))
+        return Served(runner, await listener_at(at, group, limited(runner.server, app[SILENT], more), tls))
     except BaseException:
         await runner.cleanup()
         raise
 
 
-async def listener_at(at: Union[str, tuple[str, int]], group: Optional[str], new: Callable[[], asyncio.BaseProtocol]) -> asyncio.AbstractServer:
+async def listener_at(
+    at: Address, group: Optional[str], new: Callable[[], asyncio.BaseProtocol], tls: Optional[ssl.SSLContext]
+) -> asyncio.AbstractServer:
     loop = asyncio.get_running_loop()
     if isinstance(at, str):
         return await loop.create_unix_server(new, sock=bound(at, group))
     try:
-        return await loop.create_server(new, *at, family=family_of(at[0]))
+        return await loop.create_server(new, *at, family=family_of(at[0]), ssl=tls, ssl_handshake_timeout=SLOW if tls else None)
     except OSError as fault:
         # (the loop's own text has the address once more)
         why = os.strerror(fault.errno) if fault.errno and fault.errno > 0 else fault.strerror or fault

@@ -2,6 +2,7 @@
 
 from __future__ import annotations
 
+import re
 from typing import NamedTuple
 
 BY_HOST, WITHOUT_TLS = "by-host", "without-tls"

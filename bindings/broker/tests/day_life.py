@@ -8,6 +8,7 @@ from typing import TYPE_CHECKING, Any, Callable, Optional
 
 import grpc
 from labrun_broker.bay import bay_of
+from labrun_broker.entrance import Entrance
 from labrun_broker.keeping import Keeping
 from labrun_broker.service import Service
 from tests import day_model as rules
@@ -70,7 +71,7 @@ class Life:
         self.loop = Loop(day.disk, day.halves)
         self.streams: list[Stream] = []
         self.keeping = self.done(self.new)
-        self.service = Service(self.keeping, None)
+        self.service = Service(self.keeping, Entrance(self.keeping, None))
 
     def new(self) -> Keeping:
         keeping = Keeping(bay_of(self.file.text()), FOLDER, 60.0 if self.file.grace is None else self.file.grace / 1000)

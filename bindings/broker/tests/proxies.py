@@ -48,13 +48,16 @@ class Proxy:
         self.port: int = self._server.sockets[0].getsockname()[1]
         self.address = f"127.0.0.1:{self.port}"
 
+    async def _connects(self) -> tuple[asyncio.StreamReader, Writer]:
+        return await asyncio.open_connection("127.0.0.1", self._to)
+
     async def _comes(self, reader: asyncio.StreamReader, writer: Writer) -> None:
         task = asyncio.current_task()
         assert task is not None
         self._tasks.add(task)
         try:
             await self._open.wait()
-            to_reader, to_writer = await asyncio.open_connection("127.0.0.1", self._to)
+            to_reader, to_writer = await self._connects()
             pair = writer, to_writer
             self._pairs.add(pair)
             await asyncio.gather(self._passes(reader, to_writer, pair), self._passes(to_reader, writer, pair))
@@ -104,3 +107,18 @@ class Proxy:
             await asyncio.sleep(0.01)
 
         self._ways.run(closed())
+
+
+class OfSockets(Proxy):
+    """The same between Unix sockets."""
+
+    def __init__(self, ways: Ways, at: str, to: str) -> None:
+        self._at, self._to_socket = at, to
+        super().__init__(ways, 0)
+
+    async def _begin(self) -> None:
+        self._server = await asyncio.start_unix_server(self._comes, self._at)
+        self.address = f"unix:{self._at}"
+
+    async def _connects(self) -> tuple[asyncio.StreamReader, Writer]:
+        return await asyncio.open_unix_connection(self._to_socket)

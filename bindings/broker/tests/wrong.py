@@ -72,6 +72,48 @@ WRONG = {
     "a grace that ends before the client's deadline": Wrong(
         "test_cuts.Programs.test_its_program_is_told_before_another_holds", "leases.py", (("LEASE, SILENT = 0.75, 1 / 3", "LEASE, SILENT = 1.5, 1 / 3"),)
     ),
+    "by HTTP: who waits and asks nothing stays in the line": Wrong(
+        "test_http.Gone.test_one_that_waits_and_asks_nothing_leaves_the_line", "visits.py", (("            self._holding.cancel()\n            self._ends(Ended(\"NotHeld\", f\"its", "            self._ends(Ended(\"NotHeld\", f\"its"),)
+    ),
+    "by HTTP: whose connection has ended is waited for like any other": Wrong(
+        "test_http.Gone.test_whose_connection_ends_while_it_waits", "visits.py", (("self._is_quiet_from_now(CUT)", "self._is_quiet_from_now(QUIET)"),)
+    ),
+    "by HTTP: who holds and asks nothing isn't gone": Wrong(
+        "test_http.Gone.test_one_that_holds_is_kept_and_comes_back", "visits.py", (("elif self._keeping.lease is None:", "elif False:"),)
+    ),
+    "by HTTP: a request is no word of its client": Wrong(
+        "test_http.Gone.test_with_a_grace_it_is_released", "visits.py", (("            self._keeping.heard(self.session, self, True)\n", "            pass\n"),)
+    ),
+    "by HTTP: a wish that is sent twice loses its place": Wrong(
+        "test_http.Sessions.test_who_asks_again_keeps_its_place", "visits.py", (("visit.state == WAITING and visit.wish != wish", "visit.state == WAITING"),)
+    ),
+    "by HTTP: an answer older than the lease": Wrong(
+        "test_http.Gone.test_no_answer_is_older_than_a_part_of_the_lease", "visits.py", (("min(MOST_WAIT, lease / PART_OF_LEASE)", "MOST_WAIT"),)
+    ),
+    "by HTTP: who was told that another came takes it back by a question": Wrong(
+        "test_http.Sessions.test_another_connection_comes_for_it", "visits.py", (("            self._ends[visit.key] = visit.fault\n", "            pass\n"),)
+    ),
+    "by HTTP: no token is asked for": Wrong(
+        "test_http.Doors.test_by_the_network_with_token_and_certificate", "http_door.py", ((" if request.app[IS_TCP] else None\n", " if False else None\n"),)
+    ),
+    "by HTTP: a page of elsewhere may ask": Wrong(
+        "test_http.Doors.test_pages_of_elsewhere", "http_door.py", (("if origin is not None and origin not in self.origins and", "if False and origin is not None and"),)
+    ),
+    "by HTTP: a name that was turned to this address": Wrong(
+        "test_http.Doors.test_pages_of_elsewhere", "http_door.py", (("self.entrance.token is None and not is_asked_here(request)", "False"),)
+    ),
+    "by HTTP: a route that the file doesn't have": Wrong(
+        "test_http.Described.test_each_route", "http_door.py", (("        app.router.add_post(f\"{one}/ping\", self._pings)\n", "        app.router.add_post(f\"{one}/beat\", self._pings)\n"),)
+    ),
+    "by HTTP: an answer with a field that the file doesn't have": Wrong(
+        "test_http.Sessions.test_one_after_another", "visits.py", (("\"text\": why, \"waits_for\"", "\"why\": why, \"text\": why, \"waits_for\""),)
+    ),
+    "by HTTP: a body of any length": Wrong(
+        "test_http.Refused.test_bodies_that_are_none", "http_door.py", (("client_max_size=http_words.MOST_BYTES", "client_max_size=1 << 30"),)
+    ),
+    "by HTTP: half of a character": Wrong(
+        "test_http.Refused.test_bodies_that_are_none", "http_words.py", (("        given.encode()\n", "        pass\n"),)
+    ),
     "a let-go answered and not written": Wrong(
         "test_written.OnDisk.test_a_let_go_is_written_before_it_is_answered",
         "keeping.py",

@@ -1,0 +1,229 @@
+"""The broker for whoever speaks HTTP and JSON: what a request asks is asked of `keeping` (visits.py), and what is answered is written here.
+
+openapi.json says each route and field. By the network a request gives the token, if there is one, as `Authorization: Bearer TOKEN`; by a
+Unix socket comes who may open it."""
+
+from __future__ import annotations
+
+import asyncio
+import json
+from pathlib import Path
+from typing import Any, Awaitable, Callable, Sequence
+from urllib.parse import urlsplit
+
+from labrun import LabrunError
+
+from . import http_words
+from .door import Door
+from .entrance import DEAR, Entrance, NotLetIn
+from .errors import BadWish
+from .keeping import Keeping
+from .serving import HEADERS, IS_TCP, LOG, SLOW, Served, is_asked_here, served, web
+from .sockets import parsed
+from .visits import HOLDING, OVER, WAITING, Visit, Visits
+from .wishes import Ended
+
+Handler = Callable[[web.Request], Awaitable[web.StreamResponse]]
+CHANGES, BEAT = 1.0, 5.0  # seconds between two looks for whom one waits; and after which it is told again in any case
+UNKNOWN, FORBIDDEN, TOO_MANY = 401, 403, 429
+ALLOWED = {"Access-Control-Allow-Methods": "GET, POST, DELETE", "Access-Control-Allow-Headers": "authorization, content-type", "Access-Control-Max-Age": "600"}
+
+
+class HttpDoor:
+    """All routes. `origins` are those of pages that may ask, besides this server's own."""
+
+    def __init__(self, keeping: Keeping, entrance: Entrance, origins: Sequence[str] = ()) -> None:
+        self.keeping, self.entrance, self.origins = keeping, entrance, origins
+        self.visits = Visits(keeping, entrance)
+        self._openapi = Path(__file__).with_name("openapi.json").read_bytes()
+
+    def app(self) -> web.Application:
+        app = web.Application(client_max_size=http_words.MOST_BYTES, middlewares=[self._answers])
+        one = "/v1/sessions/{ticket}"
+        app.router.add_get("/v1/openapi.json", self._describes, allow_head=False)
+        app.router.add_get("/v1/status", self._status, allow_head=False)
+        app.router.add_post("/v1/release", self._release)
+        app.router.add_post("/v1/sessions", self._asks)
+        app.router.add_get(one, self._waits, allow_head=False)
+        app.router.add_delete(one, self._lets_go)
+        app.router.add_get(f"{one}/events", self._events, allow_head=False)
+        app.router.add_post(f"{one}/ping", self._pings)
+        app.router.add_post(f"{one}/notes", self._notes)
+        app.on_response_prepare.append(self._adds_heads)
+        app.on_shutdown.append(self._ends)
+        return app
+
+    async def _ends(self, _: web.Application) -> None:
+        await self.visits.close()
+
+    # ---- who is let in, and how faults are told
+
+    @web.middleware
+    async def _answers(self, request: web.Request, handler: Handler) -> web.StreamResponse:
+        try:
+            self._lets_in_page(request)
+            if request.method == "OPTIONS" and "Access-Control-Request-Method" in request.headers:
+                return web.Response(status=204, headers=ALLOWED)
+            self._lets_in(request)
+            return await handler(request)
+        except LabrunError as fault:
+            status, told = http_words.told(fault)
+        except web.HTTPException as fault:
+            status, told = fault.status, {"kind": "BadWish", "text": f"{request.method} {request.path}: {fault.reason}; /v1/openapi.json has all that there is"}
+        except Exception as fault:
+            LOG.exception("a fault of the broker")
+            status, told = 500, {"kind": "LabrunError", "text": f"a fault of the broker: {type(fault).__name__}"}
+        return answer(told, status)
+
+    def _lets_in_page(self, request: web.Request) -> None:
+        """A page of elsewhere may ask nothing, unless it is named; nor one whose name was turned to this address."""
+        origin = request.headers.get("Origin")
+        if origin is not None and origin not in self.origins and urlsplit(origin).netloc != request.headers.get("Host", ""):
+            raise NotLetIn(FORBIDDEN, f"a page of {origin} may not ask here: serve --http-origin {origin} lets it")
+        if request.app[IS_TCP] and self.entrance.token is None and not is_asked_here(request):
+            raise NotLetIn(FORBIDDEN, "without a token it is asked for by its own address only, as 127.0.0.1")
+
+    def _lets_in(self, request: web.Request) -> None:
+        peer = request.remote or "unix:"
+        why = self.entrance.is_unknown(request.headers.get("Authorization", "")) if request.app[IS_TCP] else None
+        status = UNKNOWN if why is not None else TOO_MANY
+        if (why := why or self.entrance.is_too_fast(peer, 1 if request.path.startswith("/v1/sessions") else DEAR)) is not None:
+            self.entrance.tells(f"{peer} (HTTP)", why)
+            raise NotLetIn(status, why)
+
+    async def _adds_heads(self, request: web.Request, response: web.StreamResponse) -> None:
+        response.headers.update(HEADERS)
+        if (origin := request.headers.get("Origin")) in self.origins:
+            response.headers.update({"Access-Control-Allow-Origin": str(origin), "Vary": "Origin"})
+        if response.status == UNKNOWN:
+            response.headers["WWW-Authenticate"] = "Bearer"
+
+    async def _body(self, request: web.Request) -> bytes:
+        try:
+            async with asyncio.timeout(SLOW):
+                return await request.read()
+        except web.HTTPRequestEntityTooLarge:
+            raise BadWish(f"a body of more than {http_words.MOST_BYTES} bytes") from None
+        except TimeoutError:
+            raise BadWish(f"the body didn't come within {SLOW:g} s") from None
+        except (web.RequestPayloadError, ValueError) as fault:
+            raise BadWish(f"the body can't be read: {fault}") from None
+
+    # ---- the bay
+
+    async def _describes(self, _: web.Request) -> web.Response:
+        return web.Response(body=self._openapi, content_type="application/json")
+
+    async def _status(self, _: web.Request) -> web.Response:
+        return answer({**self.keeping.status(), "notice": self.keeping.notice})
+
+    async def _release(self, request: web.Request) -> web.Response:
+        given = http_words.read(await self._body(request), http_words.RELEASE, "station")
+        by = given.get("by", "")[: self.keeping.bay.limits.name] or "an operator"
+        return answer({"instruments": list(await self.keeping.release(given["station"], by, given.get("session", 0)))})
+
+    # ---- sessions
+
+    async def _asks(self, request: web.Request) -> web.Response:
+        span = wait_of(request)
+        visit = await self.visits.asks(http_words.wish_of_body(await self._body(request)))
+        with visit.asking(lambda: is_there(request)):
+            await visit.outlasts(WAITING, span, lambda: is_there(request))
+        return shown(visit)
+
+    async def _waits(self, request: web.Request) -> web.Response:
+        span, state = wait_of(request), request.query.get("while", WAITING)
+        if state not in (WAITING, HOLDING):
+            raise BadWish(f"while: {WAITING} or {HOLDING} is wanted")
+        visit = await self._visit(request)
+        with visit.asking(lambda: is_there(request)):
+            await visit.outlasts(state, span, lambda: is_there(request))
+        return shown(visit)
+
+    async def _pings(self, request: web.Request) -> web.Response:
+        visit = await self._visit(request)
+        with visit.asking():
+            return shown(visit)
+
+    async def _notes(self, request: web.Request) -> web.Response:
+        text = http_words.read(await self._body(request), http_words.NOTE, "text")["text"]
+        visit = await self._visit(request)
+        with visit.asking():
+            await visit.notes(text)
+            return shown(visit)
+
+    async def _lets_go(self, request: web.Request) -> web.Response:
+        """(Who asks for it twice, because no answer came, is told that it is done.)"""
+        failed = request.query.get("failed")
+        if failed is not None:
+            http_words.text("failed", failed)
+        try:
+            visit = await self._visit(request)
+            with visit.asking():
+                await visit.lets_go(failed)
+        except Ended as fault:
+            if fault.kind != "LetGo":
+                raise
+        return answer({"state": OVER})
+
+    async def _visit(self, request: web.Request) -> Visit:
+        return await self.visits.of(http_words.text("the ticket", request.match_info["ticket"]))
+
+    async def _events(self, request: web.Request) -> web.StreamResponse:
+        visit = await self._visit(request)
+        response = web.StreamResponse(headers={"Content-Type": "text/event-stream"})
+        await response.prepare(request)
+        with visit.asking(lambda: is_there(request)):
+            try:
+                await self._tells(visit, response, request)
+            except (ConnectionError, TimeoutError):
+                pass  # (who listened is gone, or takes nothing)
+        return response
+
+    async def _tells(self, visit: Visit, response: web.StreamResponse, request: web.Request) -> None:
+        """Its state, again whenever that is another, or it waits for somebody else, and after a while in any case."""
+        last, last_at, loop = "", 0.0, asyncio.get_running_loop()
+        while is_there(request):
+            state = visit.state
+            about = http_words.told(visit.fault)[1] if visit.fault is not None else visit.shown()
+            now = state + "".join(f" {it['instrument']} {it['station']} {it['holds']}" for it in about.get("waits_for", ()))
+            if now != last or loop.time() > last_at + BEAT:
+                last, last_at = now, loop.time()
+                async with asyncio.timeout(SLOW):
+                    await response.write(f"event: {state}\ndata: {json.dumps(about)}\n\n".encode())
+            if state == OVER:
+                return
+            await visit.outlasts(state, CHANGES, lambda: is_there(request))
+
+
+def wait_of(request: web.Request) -> float:
+    return http_words.seconds("wait", request.query.get("wait", "0"))
+
+
+def is_there(request: web.Request) -> bool:
+    """Whether who asks still waits for the answer."""
+    return request.transport is not None and not request.transport.is_closing()
+
+
+def shown(visit: Visit) -> web.Response:
+    visit.raises()
+    return answer(visit.shown(), 202 if visit.state == WAITING else 200)
+
+
+def answer(told: Any, status: int = 200) -> web.Response:
+    return web.json_response(told, status=status)
+
+
+async def serve_http(keeping: Keeping, door: Door, entrance: Entrance, origins: Sequence[str] = ()) -> list[Served]:
+    """Listens at each address of a door. BadAddress and OSError say why it can't."""
+    its, found = HttpDoor(keeping, entrance, origins), list[Served]()
+    try:
+        for address in door.addresses:
+            at = parsed(address)
+            tls = None if isinstance(at, str) else door.tls()
+            found.append(await served(its.app(), at, door.group, tls, keeping.bay.limits.clients))
+    except BaseException:
+        for one in found:
+            await one.cleanup()
+        raise
+    return found

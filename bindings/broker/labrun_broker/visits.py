@@ -1,0 +1,233 @@
+"""Clients that come by single requests, each by its ticket: they have no connection whose end would tell that they are gone.
+
+- A client is there as long as a request of its is open, and for QUIET after the last one, or CUT if it didn't wait for the answer. One that
+  isn't leaves the line if it waits, as one whose stream has ended. One that holds is gone, and its session is kept; by any request it
+  comes back.
+- Where `gone = "release"` it is a client that says again and again that it is there (leases.py): each request is such a word, when it comes
+  and when it is answered."""
+
+from __future__ import annotations
+
+import asyncio
+import contextlib
+from typing import Any, Callable, Iterator, Optional
+
+from labrun import LabrunError, NotHeld, Stopped
+
+from .entrance import Entrance, NotLetIn
+from .keeping import Keeping
+from .standing import Session, Standings
+from .wishes import Ended, Wish, owner_of
+
+QUIET, CUT = 15.0, 2.0  # seconds
+# how often a client is to say that it is there: so often in that time, and so often in its lease
+BEATS_OF_QUIET, BEATS_OF_LEASE = 3, 6
+# so many seconds a request is open at most, and no longer than a part of the lease: what is answered is never old
+MOST_WAIT, PART_OF_LEASE = 60.0, 3
+LOOK = 0.5  # seconds between two looks whether whoever asks is still there
+KEPT = 1000  # ends
+
+TOO_MANY = 429
+
+Key = tuple[int, int]
+WAITING, HOLDING, OVER = "waiting", "holding", "over"
+
+
+class Visit:
+    """One client, until its session is over or it is gone. It is the owner of the session that it holds."""
+
+    def __init__(self, visits: Visits, key: Key, wish: Wish) -> None:
+        self.wish, self.state, self.key = wish, WAITING, key
+        # once it is in the line; and why it is over
+        self.session: Optional[Session] = None
+        self.fault: Optional[LabrunError] = None
+        self._visits, self._keeping, self._open = visits, visits.keeping, 0
+        self._quiet: Optional[asyncio.TimerHandle] = None
+        self._changed = asyncio.Event()
+        self._holding = asyncio.create_task(self._holds())
+
+    async def _holds(self) -> None:
+        try:
+            self.session = await self._keeping.hold(self.wish, self, self._is_in_line)
+            if self.state == WAITING:
+                self._is(HOLDING)
+        except LabrunError as fault:
+            self._ends(fault)
+        finally:
+            self._ends_if_it_waits(Ended("NotHeld", "the client waits no longer"))
+
+    def _is_in_line(self, session: Session) -> None:
+        self.session = session
+        self._is(WAITING)
+
+    def _is(self, state: str) -> None:
+        self.state = state
+        self._changed.set()
+        self._changed = asyncio.Event()
+
+    def _ends(self, fault: LabrunError) -> None:
+        if self.state != OVER:
+            self.fault = fault
+            self._is(OVER)
+            if self._quiet is not None:
+                self._quiet.cancel()
+            self._visits.forgets(self)
+
+    def _ends_if_it_waits(self, fault: LabrunError) -> None:
+        if self.state == WAITING:
+            self._ends(fault)
+
+    def taken(self, why: str) -> None:
+        self._ends(Ended("TakenAway", why))
+
+    # ---- whether it is there
+
+    @contextlib.contextmanager
+    def asking(self, is_there: Callable[[], bool] = lambda: True) -> Iterator[None]:
+        """While a request of its is open, for whose answer somebody waits."""
+        self._open += 1
+        self._is_heard()
+        try:
+            yield
+        finally:
+            self._open -= 1
+            if is_there():
+                self._is_heard()
+            else:
+                self._is_quiet_from_now(CUT)
+
+    def _is_heard(self) -> None:
+        if self.state == HOLDING and self.session is not None:
+            self._keeping.heard(self.session, self, True)
+        self._is_quiet_from_now(QUIET)
+
+    def _is_quiet_from_now(self, span: float) -> None:
+        if self._quiet is not None:
+            self._quiet.cancel()
+        is_open = self._open > 0 or self.state == OVER
+        self._quiet = None if is_open else asyncio.get_running_loop().call_later(span, self._is_quiet)
+
+    def _is_quiet(self) -> None:
+        if self.state == WAITING:
+            self._holding.cancel()
+            self._ends(Ended("NotHeld", "its client wasn't heard while it waited, and so it left the line"))
+        elif self._keeping.lease is None:
+            self._is_gone(Ended("NotHeld", "its client is gone"))
+
+    def _is_gone(self, why: LabrunError) -> None:
+        """From here on nobody knows it. If it holds, it comes back by its ticket."""
+        if self.state == HOLDING and self.session is not None:
+            self._keeping.gone(self.session, self)
+        self.session = None
+        self._ends(why)
+
+    async def closes(self) -> None:
+        """The broker ends."""
+        self._is_gone(Stopped("the broker ends"))
+        self._holding.cancel()
+        await asyncio.wait({self._holding})
+
+    # ---- what it asks
+
+    async def begins(self) -> None:
+        """Returns once it is in the line, holds, or is over."""
+        while self.session is None and self.state == WAITING:
+            await self._changed.wait()
+
+    async def outlasts(self, state: str, span: float, is_there: Callable[[], bool]) -> None:
+        """Returns once it isn't in this state any more, the time is over, or whoever asks isn't there."""
+        loop = asyncio.get_running_loop()
+        until = loop.time() + min(span, self.most_wait())
+        while self.state == state and is_there() and (left := until - loop.time()) > 0:
+            with contextlib.suppress(TimeoutError):
+                async with asyncio.timeout(min(left, LOOK)):
+                    await self._changed.wait()
+
+    def most_wait(self) -> float:
+        lease = self._keeping.lease
+        return MOST_WAIT if lease is None else min(MOST_WAIT, lease / PART_OF_LEASE)
+
+    async def notes(self, text: str) -> None:
+        await self._keeping.note(self._held(), self, text)
+
+    def _held(self) -> Session:
+        self.raises()
+        if self.session is None or self.state != HOLDING:
+            raise NotHeld("the session waits, and doesn't hold yet")
+        return self.session
+
+    async def lets_go(self, failed: Optional[str]) -> None:
+        """One that waits gives up."""
+        if self.state == WAITING:
+            self._holding.cancel()
+            await asyncio.wait({self._holding})
+        if self.state == HOLDING:
+            limit = self._keeping.bay.limits.note
+            await self._keeping.let_go(self._held(), self, None if failed is None else failed[:limit])
+            self._ends(Ended("LetGo", "the session has let go"))
+
+    def raises(self) -> None:
+        if self.fault is not None:
+            raise self.fault.with_traceback(None)
+
+    def shown(self) -> dict[str, Any]:
+        """As it is told: always with the same keys."""
+        it, waits, lease = self.session, self.state == WAITING, self._keeping.lease if self.state == HOLDING else None
+        keepers, why, _ = Standings(self._keeping).for_whom(it) if waits and it is not None else ([], "", ())
+        about: dict[str, Any] = {"state": self.state, "ticket": self.wish.ticket, "station": it and it.name, "session": it and it.number}
+        about |= {"instruments": list(it.instruments) if it else [], "text": why, "waits_for": keepers}
+        beat = QUIET / BEATS_OF_QUIET if lease is None else lease / BEATS_OF_LEASE
+        return {**about, "grace": None if lease is None else self._keeping.grace, "lease": lease, "ping": round(beat, 3)}
+
+
+class Visits:
+    """All of them, by their tickets' hashes."""
+
+    def __init__(self, keeping: Keeping, entrance: Entrance) -> None:
+        self.keeping, self.entrance = keeping, entrance
+        self._of: dict[Key, Visit] = {}
+        # what became of the last ones that asked here, so that they can be told (of those that held, Keeping knows more)
+        self._ends: dict[Key, LabrunError] = {}
+
+    async def asks(self, wish: Wish) -> Visit:
+        """Whoever sends its wish once more, because no answer came, has still its place in the line."""
+        key = owner_of(wish.ticket)
+        visit = self._of.get(key)
+        if visit is None or visit.state == WAITING and visit.wish != wish:
+            visit = self._comes(key, wish)
+        await visit.begins()
+        return visit
+
+    async def of(self, ticket: str) -> Visit:
+        """That of a ticket; one that nobody knows here may have held before."""
+        key = owner_of(ticket)
+        visit = self._of.get(key)
+        if visit is None:
+            if (fault := self._ends.get(key)) is not None:
+                raise fault.with_traceback(None)
+            visit = self._comes(key, Wish(ticket=ticket, comes_back=True, pings=True))
+        await visit.begins()
+        visit.raises()
+        return visit
+
+    def _comes(self, key: Key, wish: Wish) -> Visit:
+        if (why := self.entrance.is_full()) is not None:
+            raise NotLetIn(TOO_MANY, why)
+        self.entrance.clients += 1
+        self._ends.pop(key, None)
+        visit = self._of[key] = Visit(self, key, wish)
+        return visit
+
+    def forgets(self, visit: Visit) -> None:
+        self.entrance.clients -= 1
+        if self._of.get(visit.key) is not visit:
+            return
+        del self._of[visit.key]
+        if visit.session is not None and visit.fault is not None:
+            self._ends[visit.key] = visit.fault
+            if len(self._ends) > 2 * KEPT:
+                self._ends = dict(list(self._ends.items())[KEPT:])
+
+    async def close(self) -> None:
+        for visit in list(self._of.values()):
+            await visit.closes()

@@ -1,0 +1,487 @@
+"""HTTP and JSON beside gRPC: the same rules, by single requests."""
+
+from __future__ import annotations
+
+import contextlib
+import gzip
+import json
+import os
+import shutil
+import socket
+import subprocess
+import sys
+import tempfile
+import threading
+import time
+import unittest
+import unittest.mock
+from typing import Any
+
+import labrun_broker
+
+try:
+    from labrun_broker import http_door, http_words
+except ImportError as lacking:
+    raise unittest.SkipTest(str(lacking)) from None
+
+from tests.asking import KINDS, OPENAPI, Asking, found
+from tests.brokers import BAY, LIMIT, TOP, Broker, OnBroker, free_port, until
+
+SOCKET = ("--http", "unix:FOLDER/bay.sock.http")
+RELEASES = f'gone = "release"\n{BAY}'
+
+
+class OnHttp(OnBroker):
+    def http(self, bay: str = BAY, *words: str) -> "tuple[Broker, Asking]":
+        broker = self.broker(bay, *SOCKET, *words)
+        return broker, Asking(f"{broker.folder}/bay.sock.http")
+
+    def quickly(self, quiet: float, bay: str = BAY, *words: str) -> "tuple[Broker, Asking]":
+        """A broker that takes a client that asks nothing for gone sooner."""
+        folder = self.enterContext(tempfile.TemporaryDirectory())
+        text = f"import sys\nfrom labrun_broker import command, visits\nvisits.QUIET = {quiet}\nsys.exit(command.main())"
+        every = tuple(it.replace("FOLDER", folder) for it in (*SOCKET, *words))
+        broker = Broker(folder, bay, every, [sys.executable, "-c", text])
+        self.addCleanup(broker.ends)
+        return broker, Asking(f"{folder}/bay.sock.http")
+
+    def told(self, expected: "tuple[int, str, str]", got: "tuple[int, Any]") -> None:
+        """An error of this status and kind, in whose text this stands."""
+        status, told = got
+        self.assertEqual((status, told.get("kind")), expected[:2], told)
+        self.assertIn(expected[2], told["text"])
+
+
+class Sessions(OnHttp):
+    def test_one_after_another(self) -> None:
+        broker, one = self.http()
+        status, told = one.asks("scope", "supply", station="board", by="ann")
+        its = {"state": "holding", "station": "board", "session": 1, "instruments": ["scope", "supply"], "text": "", "waits_for": []}
+        self.assertEqual((status, told), (200, {**its, "ticket": told["ticket"], "grace": None, "lease": None, "ping": 5.0}))
+        self.assertGreaterEqual(len(told["ticket"]), 32)
+        self.assertEqual(one.of(told["ticket"], "/notes", "POST", {"text": "V = 5"})[0], 200)
+        row = one.status("board")
+        self.assertEqual((row["state"], row["by"], row["note"], row["instruments"]), ("holding", "ann", "V = 5", ["scope", "supply"]))
+        # twice, as who got no answer asks again
+        for _ in range(2):
+            self.assertEqual(one.lets_go(told["ticket"]), (200, {"state": "over"}))
+        self.assertEqual(one.status("board")["state"], "idle")
+        self.told((410, "LetGo", "the session has let go"), one.of(told["ticket"]))
+        self.told((410, "LetGo", "the session has let go"), one.of(told["ticket"], "/notes", "POST", {"text": "late"}))
+        self.told((404, "NotHeld", "no session has this ticket"), one.of("a" * 43))
+
+    def test_one_waits_until_the_other_lets_go(self) -> None:
+        """Whether the other came by gRPC or not."""
+        broker, one = self.http()
+        lab = self.lab(broker, "board")
+        with lab.hold("scope"):
+            status, told = one.asks("scope", by="ben")
+            self.assertEqual((status, told["state"], told["station"], told["instruments"]), (202, "waiting", "guest-1", ["scope"]))
+            self.assertIn("scope is held by board for", told["text"])
+            self.assertEqual([(it["instrument"], it["station"], it["holds"]) for it in told["waits_for"]], [("scope", "board", True)])
+            self.told((409, "NotHeld", "the session waits"), one.of(told["ticket"], "/notes", "POST", {"text": "early"}))
+            began = time.monotonic()
+            self.assertEqual(one.of(told["ticket"], wait=0.5)[0], 202)
+            self.assertGreaterEqual(time.monotonic() - began, 0.5)
+            answers = list[Any]()
+            thread = threading.Thread(target=lambda: answers.append(one.of(told["ticket"], wait=LIMIT)))
+            thread.start()
+            time.sleep(0.3)
+            self.assertEqual(answers, [])
+        began = time.monotonic()
+        thread.join(LIMIT)
+        self.assertLess(time.monotonic() - began, 2)
+        self.assertEqual((answers[0][0], answers[0][1]["state"]), (200, "holding"))
+        with self.assertRaisesRegex(labrun_broker.TimeoutError, r"scope is held by guest-1 for .* \(ben\)"):
+            lab.hold("scope", timeout=0.1).acquire()
+
+    def test_choices(self) -> None:
+        _, one = self.http()
+        one.holds("load-1")
+        status, told = one.ask("POST", "/v1/sessions", {"any_of": [["load-1"], ["scope", "load-2"]]})
+        self.assertEqual((status, told["instruments"]), (200, ["scope", "load-2"]))
+
+    def test_a_time_limit(self) -> None:
+        """It is the broker's, and who asks later is told, too."""
+        _, one = self.http()
+        one.holds("scope", station="board", by="ann")
+        began = time.monotonic()
+        answer = one.asks("scope", timeout=0.4, ticket="t" * 20, wait=LIMIT)
+        self.assertTrue(0.4 <= time.monotonic() - began < 3)
+        self.told((409, "TimeoutError", "scope is held by board for"), answer)
+        self.assertEqual(one.of("t" * 20), answer)
+        self.told((409, "TimeoutError", "was given up when its time was over"), one.asks("scope", timeout=0, wait=LIMIT))
+
+    def test_one_that_waits_gives_up(self) -> None:
+        _, one = self.http()
+        first = one.holds("scope")
+        ticket = one.asks("scope")[1]["ticket"]
+        self.assertEqual(one.lets_go(ticket), (200, {"state": "over"}))
+        self.assertEqual(one.status("guest-2")["state"], "idle")
+        one.lets_go(first)
+        one.holds("scope")
+
+    def test_work_that_failed(self) -> None:
+        broker, one = self.http(BAY, "--state", "FOLDER/state")
+        one.lets_go(one.holds("scope", station="board"), failed="smoke")
+        with open(f"{broker.folder}/state/records.jsonl", encoding="utf-8") as file:
+            records = [json.loads(it) for it in file]
+        self.assertEqual([(it["what"], it["text"]) for it in records if it["station"] == "board"][-1], ("failed", "smoke"))
+
+    def test_who_asks_again_keeps_its_place(self) -> None:
+        """It sends the same wish once more, because no answer came. Another wish with the ticket takes the place of the first."""
+        _, one = self.http()
+        first, ticket = one.holds("scope"), "again-and-again-1"
+        number = one.asks("scope", ticket=ticket)[1]["session"]
+        later = one.asks("scope")[1]
+        self.assertEqual(one.asks("scope", ticket=ticket)[1]["session"], number)
+        one.lets_go(first)
+        self.assertEqual((one.of(ticket)[0], one.of(later["ticket"])[0]), (200, 202))
+        self.assertEqual((one.asks("scope", ticket=ticket)[1]["session"], one.asks("supply", ticket=ticket)[1]["session"]), (number, number))
+        other = one.asks("scope", ticket="one-and-another-1")[1]["session"]
+        changed = one.asks("scope", "supply", ticket="one-and-another-1")[1]
+        self.assertGreater(changed["session"], other)
+        self.assertEqual(changed["instruments"], ["scope", "supply"])
+
+    def test_an_operator_releases(self) -> None:
+        """Who waits for that, by `while`, is told at once."""
+        _, one = self.http()
+        ticket, answers = one.holds("scope", "supply", station="board"), list[Any]()
+        thread = threading.Thread(target=lambda: answers.append(one.of(ticket, wait=LIMIT, **{"while": "holding"})))
+        thread.start()
+        time.sleep(0.3)
+        self.told((409, "NotHeld", "board is in session 1, and not in 7 any more"), one.ask("POST", "/v1/release", {"station": "board", "session": 7}))
+        self.assertEqual(one.ask("POST", "/v1/release", {"station": "board", "by": "ann"}), (200, {"instruments": ["scope", "supply"]}))
+        thread.join(3)
+        self.told((410, "TakenAway", "the session was taken away by ann: scope, supply"), answers[0])
+        self.told((410, "TakenAway", "the session was taken away by ann"), one.of(ticket, "/ping", "POST"))
+        self.told((409, "NotHeld", "board holds nothing"), one.ask("POST", "/v1/release", {"station": "board"}))
+        self.told((400, "BadWish", "bord is no station"), one.ask("POST", "/v1/release", {"station": "bord"}))
+
+    def test_another_connection_comes_for_it(self) -> None:
+        broker, one = self.http()
+        ticket = one.holds("scope")
+        held = self.lab(broker).hold("scope")
+        held._ticket = ticket
+        held.acquire()
+        self.assertEqual(held.number, 1)
+        # (and it doesn't take it back by a question)
+        for _ in range(2):
+            self.told((410, "TakenAway", "another connection came for the session"), one.of(ticket))
+        self.assertTrue(held.held)
+        held.release()
+
+    def test_events(self) -> None:
+        _, one = self.http()
+        first = one.holds("scope", station="board")
+        ticket = one.asks("scope")[1]["ticket"]
+        told = one.events(ticket)
+        event, about = next(told)
+        self.assertEqual((event, about["state"], [it["station"] for it in about["waits_for"]]), ("waiting", "waiting", ["board"]))
+        # (nothing has changed, and it is told again all the same)
+        self.assertEqual(next(told)[0], "waiting")
+        one.lets_go(first)
+        self.assertEqual([next(told)[0] for _ in range(1)], ["holding"])
+        one.ask("POST", "/v1/release", {"station": "guest-1", "by": "ann"})
+        rest = list(told)
+        self.assertEqual((rest[-1][0], rest[-1][1]["kind"]), ("over", "TakenAway"))
+        status, heads, _ = one.raw("GET", f"/v1/sessions/{ticket}/events")
+        self.assertEqual((status, heads["Content-Type"]), (410, "application/json; charset=utf-8"))
+
+
+class Gone(OnHttp):
+    def test_one_that_waits_and_asks_nothing_leaves_the_line(self) -> None:
+        """Not while a request of its is open, and not if it asks now and then."""
+        _, one = self.quickly(1.0)
+        first = one.holds("scope", station="board")
+        keeps = threading.Thread(target=lambda: one.of(first, wait=6, **{"while": "holding"}))
+        keeps.start()
+        ticket = one.asks("scope", wait=2)[1]["ticket"]
+        for _ in range(4):
+            time.sleep(0.4)
+            self.assertEqual(one.of(ticket)[0], 202)
+        began = time.monotonic()
+        until(lambda: one.status("guest-1")["state"] == "idle", "it left the line")
+        self.assertTrue(0.8 < time.monotonic() - began < 4)
+        self.told((404, "NotHeld", "left the line"), one.of(ticket))
+        keeps.join()
+
+    def test_whose_connection_ends_while_it_waits(self) -> None:
+        """That is seen at once, and it has a moment to come back. (The same of one that holds.)"""
+        _, one = self.http()
+        first = one.holds("scope", station="board")
+        talk, other = one.connects(), one.connects()
+        talk.request("POST", "/v1/sessions?wait=30", json.dumps({"instruments": ["scope"]}), {"Host": "localhost"})
+        other.request("GET", f"/v1/sessions/{first}?wait=30&while=holding", headers={"Host": "localhost"})
+        until(lambda: one.status("guest-1")["state"] == "waiting")
+        time.sleep(0.5)
+        talk.close()
+        other.close()
+        began = time.monotonic()
+        until(lambda: one.status("guest-1")["state"] == "idle" and one.status("board")["state"] == "gone", "it is seen")
+        self.assertLess(time.monotonic() - began, 10)
+
+    def test_one_that_holds_is_kept_and_comes_back(self) -> None:
+        _, one = self.quickly(1.0)
+        ticket = one.holds("scope")
+        until(lambda: one.status("guest-1")["state"] == "gone")
+        self.told((409, "TimeoutError", "gone for"), one.asks("scope", timeout=0.3, wait=5))
+        status, told = one.of(ticket, "/ping", "POST")
+        self.assertEqual((status, told["state"], told["session"], told["instruments"]), (200, "holding", 1, ["scope"]))
+        self.assertEqual(one.status("guest-1")["state"], "holding")
+        until(lambda: one.status("guest-1")["state"] == "gone")
+        self.assertEqual(one.lets_go(ticket), (200, {"state": "over"}))
+
+    def test_with_a_grace_it_is_released(self) -> None:
+        """It holds as long as it says that it is there, and is told for how long after its last word; nobody else holds before that."""
+        _, one = self.http(RELEASES, "--grace", "2")
+        status, told = one.asks("scope", station="board")
+        self.assertEqual((told["grace"], told["lease"], told["ping"]), (2.0, 1.5, 0.25))
+        ticket = told["ticket"]
+        for _ in range(16):
+            sent = time.monotonic()
+            self.assertEqual(one.of(ticket, "/ping", "POST")[0], 200)
+            time.sleep(0.25)
+        self.assertEqual(one.status("board")["state"], "holding")
+        other = one.asks("scope")[1]["ticket"]
+        while (answer := one.of(other, wait=1))[0] == 202:
+            self.assertLess(time.monotonic() - sent, LIMIT)
+        # (the grace begins once it has been silent for a third of it)
+        self.assertGreater(time.monotonic() - sent, 2.0)
+        self.assertEqual(answer[0], 200)
+        self.told((410, "TakenAway", "its client was gone for 2 s"), one.of(ticket))
+
+    def test_no_answer_is_older_than_a_part_of_the_lease(self) -> None:
+        _, one = self.http(RELEASES, "--grace", "2")
+        ticket, began = one.holds("scope"), time.monotonic()
+        one.of(ticket, wait=30, **{"while": "holding"})
+        self.assertTrue(0.5 <= time.monotonic() - began < 1.5)
+
+    def test_the_broker_is_killed(self) -> None:
+        """Who held comes back by its ticket, and who waited asks again."""
+        broker, one = self.http(BAY, "--state", "FOLDER/state")
+        ticket, waits = one.holds("scope", station="board"), one.asks("scope")[1]["ticket"]
+        broker.kill()
+        broker.begin()
+        self.assertEqual(one.status("board")["state"], "gone")
+        self.told((404, "NotHeld", "no session has this ticket"), one.of(waits))
+        self.assertEqual(one.asks("scope", ticket=waits)[0], 202)
+        status, told = one.of(ticket)
+        self.assertEqual((status, told["session"], told["station"]), (200, 1, "board"))
+        one.lets_go(ticket)
+        self.assertEqual(one.of(waits, wait=5)[0], 200)
+
+    def test_the_broker_ends(self) -> None:
+        """Whoever waits for an answer gets one."""
+        broker, one = self.http(BAY, "--state", "FOLDER/state")
+        answers, ticket = list[Any](), one.holds("scope")
+        threads = [
+            threading.Thread(target=lambda: answers.append(one.asks("scope", wait=LIMIT))),
+            threading.Thread(target=lambda: answers.append(one.of(ticket, wait=LIMIT, **{"while": "holding"}))),
+        ]
+        for it in threads:
+            it.start()
+        until(lambda: one.status("guest-2")["state"] == "waiting")
+        time.sleep(0.3)
+        broker.end()
+        for it in threads:
+            it.join(5)
+        self.assertEqual([(it[0], it[1]["kind"]) for it in answers], [(503, "Stopped")] * 2)
+        broker.begin()
+        self.assertEqual(one.of(ticket)[0], 200)
+
+
+class Refused(OnHttp):
+    def test_what_cant_be(self) -> None:
+        _, one = self.http()
+        for wish, expected in (
+            ({"instruments": ["scop"]}, (400, "NoInstrument", "did you mean scope?")),
+            ({"instruments": ["supply"], "station": "radio"}, (403, "MayNotUse", "radio may not use supply")),
+            ({"instruments": ["scope"], "station": "bord"}, (400, "BadWish", "bord is no station of this bay")),
+            ({"instruments": []}, (400, "BadWish", "say which instruments")),
+            ({}, (400, "BadWish", "say which instruments")),
+            ({"instruments": ["scope"], "any_of": [["scope"]]}, (400, "BadWish", "say which instruments")),
+            ({"instruments": ["scope"], "timeout": -1}, (400, "BadWish", "it is 0 or more")),
+            ({"instruments": ["scope"], "timeout": 10**400}, (400, "BadWish", "below 1000000000")),
+            ({"instruments": ["scope"], "ticket": "short"}, (400, "BadWish", "16 characters or more")),
+            ({"instruments": ["scope"], "by": "b" * 65}, (400, "BadWish", "64 are the most")),
+        ):
+            with self.subTest(wish):
+                self.told(expected, one.ask("POST", "/v1/sessions", wish))
+        ticket = one.holds("scope")
+        self.told((400, "BadWish", "500 are the most"), one.of(ticket, "/notes", "POST", {"text": "n" * 501}))
+        self.told((400, "BadWish", "16 characters or more"), one.of("short"))
+        self.told((400, "BadWish", "waiting or holding"), one.of(ticket, **{"while": "over"}))
+        for wait in ("x", "-1", "nan", "inf", ""):
+            self.told((400, "BadWish", "wait: a number of seconds is wanted"), one.of(ticket, wait=wait))
+        self.assertEqual(one.of(ticket)[0], 200)
+
+    def test_bodies_that_are_none(self) -> None:
+        """Each gets an answer at once, and the broker goes on."""
+        _, one = self.http()
+        bodies = [b"", b"x", b"[]", b"7", b"null", b'{"instruments": NaN}', b"\xff", b"[" * 60000, b'{"instruments": ["\\ud800"]}', b"{" + b" " * 70000 + b"}"]
+        bodies += [b'{"instruments": ["scope"], "any": 1}', b'{"timeout": ' + b"9" * 5000 + b"}", b'{"instruments": ["scope"]} more']
+        for body in bodies:
+            with self.subTest(body[:40]):
+                began = time.monotonic()
+                self.told((400, "BadWish", ""), one.ask("POST", "/v1/sessions", body))
+                self.assertLess(time.monotonic() - began, 5)
+        status, _, said = one.raw("POST", "/v1/sessions", b"no gzip", **{"Content-Encoding": "gzip"})
+        self.assertEqual((status, json.loads(said)["kind"]), (400, "BadWish"))
+        status, _, said = one.raw("POST", "/v1/sessions", gzip.compress(bytes(10**7)), **{"Content-Encoding": "gzip"})
+        self.assertEqual((status, json.loads(said)["text"]), (400, "a body of more than 65536 bytes"))
+        one.holds("scope")
+
+    def test_a_body_that_never_ends(self) -> None:
+        _, one = self.http()
+        with socket.socket(socket.AF_UNIX) as talk:
+            talk.settimeout(40)
+            talk.connect(str(one.at))
+            talk.sendall(b"POST /v1/sessions HTTP/1.1\r\nHost: localhost\r\nContent-Length: 100\r\n\r\n{")
+            self.assertIn(b"HTTP/1.1 400 ", talk.recv(4096))
+
+    def test_wrong_ways(self) -> None:
+        _, one = self.http()
+        for method, path, status in (("GET", "/", 404), ("GET", "/v2/status", 404), ("PUT", "/v1/status", 405), ("GET", "/v1/sessions", 405)):
+            self.told((status, "BadWish", f"{method} {path}"), one.ask(method, path))
+
+    def test_too_many(self) -> None:
+        """Both kinds of clients count, and one that is over makes room."""
+        broker, one = self.http(BAY + "[limits]\nclients = 3\n")
+        lab = self.lab(broker)
+        with lab.hold("supply"):
+            first = one.holds("scope")
+            one.asks("scope")
+            self.told((429, "Unreachable", "3 clients are here"), one.asks("load-1"))
+            one.lets_go(first)
+            one.holds("load-1")
+
+    def test_too_fast(self) -> None:
+        """What isn't of a session counts as twenty requests."""
+        _, one = self.http(BAY + "[limits]\nrequests = 1\n")
+        self.told((429, "Unreachable", "more than 1 requests a second"), one.ask("GET", "/v1/status"))
+        one.holds("scope")
+
+
+class Doors(OnHttp):
+    """Who may come in."""
+
+    @unittest.skipIf(shutil.which("curl") is None, "there is no curl")
+    def test_by_the_network_with_token_and_certificate(self) -> None:
+        folder, port = self.enterContext(tempfile.TemporaryDirectory()), free_port()
+        words = ["openssl", "req", "-x509", "-newkey", "ec", "-pkeyopt", "ec_paramgen_curve:prime256v1", "-nodes", "-days", "2", "-subj", "/CN=localhost"]
+        words += ["-addext", "subjectAltName=DNS:localhost", "-keyout", f"{folder}/key", "-out", f"{folder}/certificate"]
+        subprocess.run(words, check=True, capture_output=True)
+        with open(f"{folder}/token", "w", encoding="ascii") as file:
+            os.fchmod(file.fileno(), 0o600)
+            file.write("a token for the tests\n")
+        tls = ("--tls-certificate", f"{folder}/certificate", "--tls-key", f"{folder}/key", "--token-file", f"{folder}/token")
+        _, local = self.http(BAY, "--http", f"0.0.0.0:{port}", *tls)
+        url, known = f"https://localhost:{port}/v1/sessions", ["--cacert", f"{folder}/certificate"]
+        body = ["-d", '{"instruments": ["scope"]}']
+        for heads, expected in (([], "asks for its token"), (["-H", "Authorization: Bearer a wrong one"], "this isn't its token")):
+            status, told = self.curl(url, *known, *body, *heads)
+            self.told((401, "Unreachable", expected), (status, told))
+        status, told = self.curl(url, *known, *body, "-H", "Authorization: Bearer a token for the tests")
+        self.assertEqual((status, told["state"]), (200, "holding"))
+        # whoever may open the socket needs none
+        self.assertEqual(local.of(told["ticket"])[0], 200)
+        one = Asking(port, "a token for the tests", f"{folder}/certificate")
+        self.assertEqual(one.lets_go(told["ticket"])[0], 200)
+        # without TLS nothing is said
+        with self.assertRaises(OSError):
+            Asking(port, "a token for the tests").ask("GET", "/v1/status")
+
+    def curl(self, *words: str) -> "tuple[int, Any]":
+        ran = subprocess.run(["curl", "-sS", "-w", "\n%{http_code}", *words], capture_output=True, text=True, timeout=LIMIT)
+        self.assertEqual(ran.returncode, 0, ran.stderr)
+        told, _, status = ran.stdout.rpartition("\n")
+        return int(status), json.loads(told)
+
+    def test_other_addresses_are_refused(self) -> None:
+        for words, expected in (
+            (["--http", "0.0.0.0:1"], "is seen by other machines: that takes a certificate and a token"),
+            (["--http", "nowhere"], "unix:PATH or HOST:PORT is wanted"),
+        ):
+            with self.assertRaisesRegex(AssertionError, expected):
+                self.broker(BAY, *words)
+
+    def test_pages_of_elsewhere(self) -> None:
+        """One may ask that was named; and none by a name that was turned to this address."""
+        port, page = free_port(), "http://bench-3:8000"
+        self.broker(BAY, "--http", f"127.0.0.1:{port}", "--http-origin", page)
+        one = Asking(port)
+        body = b'{"instruments": ["scope"]}'
+        for origin, status in ((f"http://127.0.0.1:{port}", 200), (page, 202), ("http://evil.example", 403), ("null", 403), (f"{page}.evil", 403)):
+            got, heads, _ = one.raw("POST", "/v1/sessions", body, Origin=origin)
+            self.assertEqual((origin, got, heads.get("Access-Control-Allow-Origin")), (origin, status, page if origin == page else None))
+        for origin, status in ((page, 204), ("http://evil.example", 403)):
+            heads = {"Origin": origin, "Access-Control-Request-Method": "DELETE"}
+            self.assertEqual(one.raw("OPTIONS", "/v1/sessions/x", **heads)[0], status)
+        for host, status in ((f"localhost:{port}", 200), ("[::1]", 200), ("evil.example", 403), (f"evil.example:{port}", 403)):
+            self.assertEqual((host, one.raw("GET", "/v1/status", Host=host)[0]), (host, status))
+
+    @unittest.skipIf(shutil.which("curl") is None, "there is no curl")
+    def test_as_the_guide_says(self) -> None:
+        """Its lines of curl, as they stand there."""
+        with open(f"{TOP}/docs/GUIDE.md", encoding="utf-8") as file:
+            lines = file.read().split("\n")
+        script = [it.strip().removeprefix("$ ") for it in lines if it.startswith("    $ curl ") or it.startswith("    $ B=")]
+        self.assertEqual(len(script), 5)
+        broker, one = self.http()
+        text = "\n".join(script).replace("/tmp/bay.sock", f"{broker.folder}/bay.sock")
+        ran = subprocess.run(["sh", "-ec", text], capture_output=True, text=True, timeout=LIMIT)
+        self.assertEqual((ran.returncode, ran.stderr), (0, ""))
+        self.assertIn('"state": "over"', ran.stdout)
+        records = self.lab(broker).status()
+        self.assertEqual((records["sessions"], one.status("guest-1")["state"]), (1, "idle"))
+
+
+class Described(OnHttp):
+    """openapi.json is what the code does. (That each answer is as it says is looked at in all tests here: asking.py.)"""
+
+    def test_each_route(self) -> None:
+        app = http_door.HttpDoor(unittest.mock.MagicMock(), unittest.mock.MagicMock()).app()
+        routes = {(it.method, it.resource.canonical) for it in app.router.routes()}
+        self.assertEqual({(method.upper(), path) for path, its in OPENAPI["paths"].items() for method in its if method != "parameters"}, routes)
+
+    def test_each_field_that_is_asked(self) -> None:
+        for name, fields in (("Wish", http_words.WISH), ("Note", http_words.NOTE), ("Release", http_words.RELEASE)):
+            self.assertEqual(list(OPENAPI["components"]["schemas"][name]["properties"]), list(fields))
+
+    def test_each_type_that_is_asked(self) -> None:
+        """What the file allows is read, and nothing else."""
+        values: list[Any] = ["a", 1, 1.5, -1, True, [], ["a"], [["a"]], [1], [[1]], {}]
+        for name, fields in (("Wish", http_words.WISH), ("Note", http_words.NOTE), ("Release", http_words.RELEASE)):
+            for key, schema in OPENAPI["components"]["schemas"][name]["properties"].items():
+                for value in values:
+                    with self.subTest(f"{name}.{key}", value=value), self.refused_unless(is_like(schema, value)):
+                        http_words.read(json.dumps({key: value}).encode(), fields)
+
+    def refused_unless(self, is_right: bool) -> "contextlib.AbstractContextManager[Any]":
+        return contextlib.nullcontext() if is_right else self.assertRaises(labrun_broker.BadWish)
+
+    def test_each_kind_of_fault(self) -> None:
+        kinds = set(OPENAPI["components"]["schemas"]["Fault"]["properties"]["kind"]["enum"])
+        self.assertEqual(kinds, {*http_words.STATUSES, "Unreachable"})
+        self.assertLessEqual(set(labrun_broker.errors.KINDS), kinds)
+
+    def test_it_is_served(self) -> None:
+        _, one = self.http()
+        status, heads, said = one.raw("GET", "/v1/openapi.json")
+        self.assertEqual((status, heads["Content-Type"], json.loads(said)), (200, "application/json", OPENAPI))
+
+    def test_each_query(self) -> None:
+        each = [one for its in OPENAPI["paths"].values() for one in its.values() if isinstance(one, dict)]
+        named = {it["name"] for one in each for it in map(found, one.get("parameters", []))}
+        self.assertEqual(named, {"wait", "while", "failed"})
+
+
+def is_like(schema: Any, value: Any) -> bool:
+    if not isinstance(value, KINDS[schema["type"]]) or isinstance(value, bool) or value == -1 and "minimum" in schema:
+        return False
+    return all(is_like(schema["items"], it) for it in value) if isinstance(value, list) else True
+
+
+if __name__ == "__main__":
+    unittest.main()

@@ -1,0 +1,266 @@
+"""labrun-hold, the client in C: the same ends as `labrun-broker hold` has, at a real broker. It is compiled here, with the sanitizers if the
+compiler has them, and without a warning."""
+
+from __future__ import annotations
+
+import json
+import os
+import shutil
+import signal
+import subprocess
+import tempfile
+import time
+import unittest
+from importlib.util import find_spec
+
+from tests.asking import Asking
+from tests.brokers import BAY, LIMIT, TOP, Broker, OnBroker, broker, until
+from tests.proxies import OfSockets, Ways
+
+SOURCE = f"{TOP}/bindings/hold/labrun-hold.c"
+COMPILER = next((it for it in ("cc", "gcc", "clang") if shutil.which(it)), None)
+STRICT = ["-std=gnu11", "-O1", "-g", "-Wall", "-Wextra", "-Wconversion", "-Wshadow", "-Werror"]
+SANITIZERS = "-fsanitize=address,undefined"
+RELEASES = f'gone = "release"\n{BAY}'
+# what writes when it got SIGTERM, and ends
+MINDS = "trap 'date +%s.%N > FOLDER/ended; exit 0' TERM; echo > FOLDER/begun; while :; do sleep 0.05; done"
+
+
+@unittest.skipUnless(find_spec("aiohttp"), "there is no aiohttp")
+@unittest.skipIf(COMPILER is None, "there is no compiler of C")
+class Held(OnBroker):
+    @classmethod
+    def setUpClass(cls) -> None:
+        cls.room = cls.enterClassContext(tempfile.TemporaryDirectory())
+        cls.program = f"{cls.room}/labrun-hold"
+        words = [str(COMPILER), *STRICT, SOURCE, "-lm", "-o", cls.program]
+        if subprocess.run([*words, SANITIZERS, "-fno-sanitize-recover"], capture_output=True).returncode:
+            subprocess.run(words, check=True)
+
+    def at(self, bay: str = BAY, *words: str) -> "tuple[Broker, Asking]":
+        broker = self.broker(bay, "--http", "unix:FOLDER/bay.sock.http", *words)
+        return broker, Asking(f"{broker.folder}/bay.sock.http")
+
+    def environment(self, broker: Broker) -> "dict[str, str]":
+        return {**{name: it for name, it in os.environ.items() if name != "LABRUN_AROUND"}, "LABRUN_BROKER": broker.address, "USER": "ann", "LOGNAME": "ann"}
+
+    def ran(self, broker: Broker, *words: str, **more: str) -> "subprocess.CompletedProcess[str]":
+        return subprocess.run([self.program, *words], env={**self.environment(broker), **more}, capture_output=True, text=True, timeout=2 * LIMIT)
+
+    def started(self, broker: Broker, *words: str) -> "subprocess.Popen[str]":
+        """Once what it runs has begun, which says so in the file `begun`."""
+        words = tuple(it.replace("FOLDER", broker.folder) for it in words)
+        one = subprocess.Popen([self.program, *words], env=self.environment(broker), stderr=subprocess.PIPE, text=True)
+        self.addCleanup(one.communicate)
+        self.addCleanup(one.kill)
+        until(lambda: os.path.exists(f"{broker.folder}/begun"), "the command runs")
+        return one
+
+    def ends(self, one: "subprocess.Popen[str]", status: int) -> str:
+        said = one.communicate(timeout=LIMIT)[1]
+        self.assertEqual(one.returncode, status, said)
+        return said
+
+    def test_it_runs_a_command(self) -> None:
+        broker, one = self.at(BAY, "--state", "FOLDER/state")
+        ran = self.ran(broker, "scope", "supply", "--station", "board", "--", "sh", "-c", 'echo "$LABRUN_HELD|$LABRUN_STATION|$LABRUN_AROUND"; exit 3')
+        held, station, around = ran.stdout.strip().split("|")
+        self.assertEqual((ran.returncode, held, station, ran.stderr), (3, "scope supply", "board", ""))
+        self.assertEqual(around.split("\t")[1:], [broker.address, "board", "scope", "supply"])
+        with open(f"{broker.folder}/state/records.jsonl", encoding="utf-8") as file:
+            records = [json.loads(it) for it in file]
+        self.assertEqual([(it["what"], it["text"]) for it in records if it["what"] in ("held", "failed", "let_go")], [("held", ""), ("failed", "status 3")])
+        self.assertRegex(records[1]["by"], r"^ann@\S+ \d+ sh$")
+
+    def test_statuses(self) -> None:
+        broker, one = self.at()
+        one.holds("supply", station="board", by="b\u202en")
+        for words, status, said in (
+            (["scope", "--", "true"], 0, ""),
+            (["scope", "--", "sh", "-c", "kill -9 $$"], 137, ""),
+            (["scope", "--", "/nowhere/at-all"], 127, "/nowhere/at-all: No such file"),
+            (["scope", "--", "/etc/passwd"], 126, "Permission denied"),
+            (["scop", "--", "true"], 2, "did you mean scope?"),
+            (["--", "true"], 2, "say which instruments"),
+            (["scope"], 2, "say what to run"),
+            (["scope", "--timeout", "soon", "--", "true"], 2, "no number of seconds: soon"),
+            (["scope", "--tiemout", "1", "--", "true"], 2, "no such option: --tiemout"),
+            (["supply", "-n", "--", "true"], 75, "supply is held by board"),
+            (["supply", "--timeout=0.5", "--", "true"], 75, r"(b\u202en)"),
+            (["supply", "--station", "radio", "--", "true"], 77, "radio may not use supply"),
+            (["scope", "--station", "bord", "--", "true"], 1, "bord is no station"),
+            (["scope", "--broker", "bench-1:7443", "--", "true"], 2, "a broker of this machine is wanted"),
+            (["scope", "-n", "--broker", "unix:/nowhere/bay.sock", "--", "true"], 69, "can't be reached"),
+            (["--any", "supply", "load-1,load-2", "--", "sh", "-c", "echo $LABRUN_HELD >&2"], 0, "load-1 load-2"),
+        ):
+            with self.subTest(words):
+                ran = self.ran(broker, *words)
+                self.assertEqual(ran.returncode, status, ran.stderr)
+                self.assertIn(said, ran.stderr)
+        self.assertEqual(one.status("guest-1")["state"], "idle")
+
+    def test_texts_that_are_odd(self) -> None:
+        """Quotes, what is no UTF-8, and too long a name of a command."""
+        broker, one = self.at()
+        for by in ('a "quoted" \\ name', "tab\there", "é€😀", b"\xff\xfe".decode("utf-8", "surrogateescape")):
+            ran = self.ran(broker, "scope", "--by", by, "--", "true")
+            self.assertEqual((ran.returncode, ran.stderr), (0, ""))
+        ran = subprocess.run(["sh", "-c", f"cp /bin/true {broker.folder}/{'n' * 100}; exec {self.program} scope -- {broker.folder}/{'n' * 100}"], env=self.environment(broker))
+        self.assertEqual(ran.returncode, 0)
+
+    def test_another_broker_socket(self) -> None:
+        """One of gRPC alone is told from a broker that is away."""
+        broker = self.broker(BAY)
+        ran = self.ran(broker, "scope", "--", "true")
+        self.assertEqual(ran.returncode, 69, ran.stderr)
+        self.assertIn("takes no HTTP", ran.stderr)
+
+    def test_it_waits_and_says_for_whom(self) -> None:
+        broker, one = self.at()
+        ticket = one.holds("scope", station="board", by="ben")
+        waits = subprocess.Popen([self.program, "scope", "--", "true"], env=self.environment(broker), stderr=subprocess.PIPE, text=True)
+        self.addCleanup(waits.kill)
+        assert waits.stderr is not None
+        self.assertRegex(waits.stderr.readline(), r"^labrun-hold: waits: scope is held by board for .* \(ben\)$")
+        one.lets_go(ticket)
+        self.assertEqual((waits.wait(LIMIT), waits.stderr.read()), (0, ""))
+        waits.stderr.close()
+
+    def test_ctrl_c_while_it_waits(self) -> None:
+        broker, one = self.at()
+        one.holds("scope")
+        waits = subprocess.Popen([self.program, "scope", "--quiet", "--", "true"], env=self.environment(broker), stderr=subprocess.PIPE, text=True)
+        self.addCleanup(waits.kill)
+        until(lambda: one.status("guest-2")["state"] == "waiting")
+        waits.send_signal(signal.SIGINT)
+        self.ends(waits, 130)
+        self.assertEqual(one.status("guest-2")["state"], "idle")
+
+    def test_within_a_hold(self) -> None:
+        broker, _ = self.at()
+        ran = self.ran(broker, "scope", "--", self.program, "scope", "supply", "--", "true")
+        self.assertEqual(ran.returncode, 2, ran.stderr)
+        self.assertIn("it would wait for itself", ran.stderr)
+        ran = self.ran(broker, "scope", "--", self.program, "supply", "--", "true")
+        self.assertEqual(ran.returncode, 0, ran.stderr)
+        self.assertIn("waits for ever with it", ran.stderr)
+
+    def test_a_signal_goes_on_and_what_was_started_is_waited_for(self) -> None:
+        """Nobody else holds before the last of it has ended."""
+        broker, one = self.at()
+        lags = "(trap 'sleep 1.5; date +%s.%N > FOLDER/lagged; exit' TERM; while :; do sleep 0.05; done) & echo > FOLDER/begun; wait"
+        hold = self.started(broker, "scope", "--", "sh", "-c", lags)
+        time.sleep(0.3)
+        hold.send_signal(signal.SIGTERM)
+        other = one.asks("scope")[1]["ticket"]
+        while one.of(other, wait=5)[0] == 202:
+            pass
+        held_at = time.time()
+        self.assertIn("waits until what the command started has ended", self.ends(hold, 143))
+        with open(f"{broker.folder}/lagged", encoding="ascii") as file:
+            self.assertGreater(held_at, float(file.read()))
+
+    def test_what_ends_by_itself_leaves_others_behind(self) -> None:
+        broker, _ = self.at()
+        began = time.monotonic()
+        self.assertEqual(self.ran(broker, "scope", "--", "sh", "-c", "sleep 30 >/dev/null 2>&1 & exit 0").returncode, 0)
+        self.assertLess(time.monotonic() - began, 20)
+
+    def test_an_operator_takes_it_away(self) -> None:
+        broker, one = self.at()
+        hold = self.started(broker, "scope", "--", "sh", "-c", MINDS)
+        one.ask("POST", "/v1/release", {"station": "guest-1", "by": "ben"})
+        self.assertIn("the session was taken away by ben: scope; the command is ended", self.ends(hold, 76))
+        self.assertTrue(os.path.exists(f"{broker.folder}/ended"))
+
+    def test_it_is_killed(self) -> None:
+        """Where nothing is released its command goes on, and its session holds."""
+        broker, one = self.at()
+        hold = self.started(broker, "scope", "--", "sh", "-c", f"echo $$ > FOLDER/number; {MINDS}")
+        hold.kill()
+        hold.wait()
+        time.sleep(1)
+        self.assertEqual((one.status("guest-1")["instruments"], os.path.exists(f"{broker.folder}/ended")), (["scope"], False))
+        with open(f"{broker.folder}/number", encoding="ascii") as file:
+            os.kill(int(file.read()), signal.SIGTERM)
+        until(lambda: os.path.exists(f"{broker.folder}/ended"))
+
+    def test_it_is_killed_where_sessions_are_released(self) -> None:
+        """Its command gets SIGTERM, and then somebody else holds."""
+        broker, one = self.at(RELEASES, "--grace", "2")
+        hold = self.started(broker, "scope", "--", "sh", "-c", MINDS)
+        hold.kill()
+        hold.wait()
+        until(lambda: os.path.exists(f"{broker.folder}/ended"))
+        other = one.asks("scope")[1]["ticket"]
+        until(lambda: one.of(other, wait=1)[0] == 200)
+
+    def test_it_holds_for_longer_than_the_lease(self) -> None:
+        broker, one = self.at(RELEASES, "--grace", "4")
+        hold = self.started(broker, "scope", "--", "sh", "-c", "echo > FOLDER/begun; sleep 8")
+        self.assertEqual(self.ends(hold, 0), "")
+
+    def test_the_broker_is_silent_where_sessions_are_released(self) -> None:
+        """The command gets SIGTERM at its deadline, and not when it is noticed."""
+        broker, one = self.at(RELEASES, "--grace", "4")
+        hold = self.started(broker, "scope", "--", "sh", "-c", MINDS)
+        assert broker.process is not None
+        broker.process.send_signal(signal.SIGSTOP)
+        stopped = time.time()
+        try:
+            said = self.ends(hold, 76)
+        finally:
+            broker.process.send_signal(signal.SIGCONT)
+        self.assertIn("the broker hasn't answered for 3 s, so others may hold these soon: scope", said)
+        with open(f"{broker.folder}/ended", encoding="ascii") as file:
+            # (three of four seconds, from the last word that was answered; the margin is the fourth)
+            self.assertTrue(1.5 < float(file.read()) - stopped < 4.0)
+
+    def test_the_broker_is_killed(self) -> None:
+        """It goes on, and lets go at the next one; also one that is down when the command ends is told, once it is back."""
+        broker, one = self.at(BAY, "--state", "FOLDER/state")
+        hold = self.started(broker, "scope", "--", "sh", "-c", "echo > FOLDER/begun; while [ ! -e FOLDER/over ]; do sleep 0.05; done")
+        broker.kill()
+        broker.begin()
+        until(lambda: one.status("guest-1")["state"] == "holding")
+        broker.kill()
+        with open(f"{broker.folder}/over", "w", encoding="ascii"):
+            pass
+        time.sleep(2.5)
+        broker.begin()
+        self.assertIn("ended with status 0; the broker doesn't answer", self.ends(hold, 0))
+        self.assertEqual(one.status("guest-1")["state"], "idle")
+
+    def test_its_way_is_cut(self) -> None:
+        """It goes on, however that is told, and lets go once there is a way again."""
+        for how in ("both", "client", "neither"):
+            with self.subTest(how), broker(BAY, "--http", "unix:FOLDER/bay.sock.http") as one, Ways() as ways:
+                way = OfSockets(ways, f"{one.folder}/way.sock", f"{one.folder}/bay.sock.http")
+                asking = Asking(f"{one.folder}/bay.sock.http")
+                runs = "echo > FOLDER/begun; while [ ! -e FOLDER/over ]; do sleep 0.05; done"
+                hold = self.started(one, "scope", "--broker", way.address, "--", "sh", "-c", runs)
+                way.cut(how)
+                with open(f"{one.folder}/over", "w", encoding="ascii"):
+                    pass
+                time.sleep(3)
+                self.assertIn(asking.status("guest-1")["state"], ("holding", "gone"))
+                way.mend()
+                self.assertIn("ended with status 0; the broker doesn't answer", self.ends(hold, 0))
+                self.assertEqual(asking.status("guest-1")["state"], "idle")
+                way.close()
+
+    def test_it_waits_while_the_broker_is_killed(self) -> None:
+        broker, one = self.at(BAY, "--state", "FOLDER/state")
+        ticket = one.holds("scope", station="board")
+        waits = subprocess.Popen([self.program, "scope", "--quiet", "--", "true"], env=self.environment(broker), stderr=subprocess.PIPE, text=True)
+        self.addCleanup(waits.kill)
+        until(lambda: one.status("guest-1")["state"] == "waiting")
+        broker.kill()
+        broker.begin()
+        until(lambda: waits.poll() is not None or one.status("guest-1")["state"] == "waiting")
+        one.lets_go(ticket)
+        self.ends(waits, 0)
+
+
+if __name__ == "__main__":
+    unittest.main()

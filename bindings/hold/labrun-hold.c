@@ -1,0 +1,1017 @@
+/* labrun-hold: waits for instruments of a labrun-broker of this machine, runs a command while it holds them, and lets go.
+
+       cc -O2 -o labrun-hold labrun-hold.c -lm
+
+   It does as `labrun-broker hold` does, without Python: it asks by HTTP at a Unix socket (labrun-broker serve --http), and has the same
+   statuses. One loop waits for everything: signals, the broker's answers, and time. */
+#define _GNU_SOURCE
+#include <ctype.h>
+#include <dirent.h>
+#include <errno.h>
+#include <fcntl.h>
+#include <inttypes.h>
+#include <math.h>
+#include <poll.h>
+#include <pwd.h>
+#include <signal.h>
+#include <stdarg.h>
+#include <stdbool.h>
+#include <stdio.h>
+#include <stdlib.h>
+#include <string.h>
+#include <sys/prctl.h>
+#include <sys/random.h>
+#include <sys/signalfd.h>
+#include <sys/socket.h>
+#include <sys/stat.h>
+#include <sys/un.h>
+#include <sys/wait.h>
+#include <time.h>
+#include <unistd.h>
+
+enum { USAGE = 2, UNREACHABLE = 69, NOT_WRITTEN = 74, TIMED_OUT = 75, TAKEN = 76, MAY_NOT = 77, CANT_RUN = 126, NOT_FOUND = 127 };
+/* seconds: that a broker may take to begin; that one which was there may be away; between two tries; that an answer may be late; after which it
+   is said that the broker isn't told, or what still runs; between two looks at what still runs */
+static const double STARTING = 5, AWAY = 60, PAUSE = 0.3, LATE = 10, LATE_END = 2, UNTOLD = 1.5, TELLING = 1, LOOK = 0.02;
+static const double FIRST_WORD = 0.3, AGAIN = 60, LONG = 30;
+static const char DEFAULT[] = "unix:/run/labrun/bay.sock";
+static const char HELP[] =
+    "usage: labrun-hold INSTRUMENT .. [options] -- COMMAND [ARGUMENT ..]\n\n"
+    "waits for instruments, runs a command while it holds them, and lets go\n\n"
+    "  --any              one of these is enough; with a comma, as in load-1,load-2, a choice has several\n"
+    "  --timeout SECONDS  how long to wait for them at most\n"
+    "  -n, --no-wait      take what is free, as with --timeout 0\n"
+    "  --station NAME     as which station; a guest without\n"
+    "  --by TEXT          who holds, for people to read; user, machine and command without\n"
+    "  --quiet            don't say for whom it waits\n"
+    "  --broker ADDR      unix:PATH; without, LABRUN_BROKER says it, or it is unix:/run/labrun/bay.sock. If there is a socket\n"
+    "                     PATH.http, it is asked there: labrun-broker serve BAY --listen unix:PATH --http unix:PATH.http\n\n"
+    "statuses: that of the command, or 128 and the number of the signal that ended it; 2 the words aren't right; 69 the broker can't be\n"
+    "reached; 74 it couldn't write; 75 the time limit passed; 76 the session was taken away; 77 the station may not use one of the\n"
+    "instruments; 126 and 127 the command can't be run, or isn't there; 130 Ctrl-C\n";
+
+/* ---- texts */
+
+struct text {
+    char *at;
+    size_t length, room;
+};
+
+static void *whole(void *it) {
+    if (it == NULL) {
+        fputs("labrun-hold: there is no memory\n", stderr);
+        exit(1);
+    }
+    return it;
+}
+
+static void put(struct text *to, const char *from, size_t length) {
+    if (to->length + length + 1 > to->room) {
+        to->room = 2 * (to->length + length) + 64;
+        to->at = whole(realloc(to->at, to->room));
+    }
+    memcpy(to->at + to->length, from, length);
+    to->length += length;
+    to->at[to->length] = 0;
+}
+
+__attribute__((format(printf, 2, 3))) static void putf(struct text *to, const char *format, ...) {
+    va_list given;
+    char *made = NULL;
+    va_start(given, format);
+    int length = vasprintf(&made, format, given);
+    va_end(given);
+    if (length < 0)
+        whole(NULL);
+    put(to, made, (size_t)length);
+    free(made);
+}
+
+/* The character that begins there, and how many bytes it has; of what is no UTF-8, one byte and -1. */
+static long character(const char *at, size_t *length) {
+    const unsigned char *it = (const unsigned char *)at;
+    size_t more = it[0] < 0x80 ? 0 : it[0] >= 0xc2 && it[0] < 0xe0 ? 1 : it[0] >= 0xe0 && it[0] < 0xf0 ? 2 : it[0] >= 0xf0 && it[0] < 0xf5 ? 3 : 9;
+    long found = more == 0 ? it[0] : more == 9 ? -1 : it[0] & (0x3f >> more);
+    *length = 1;
+    for (size_t n = 1; found >= 0 && more < 9 && n <= more; n++) {
+        if ((it[n] & 0xc0) != 0x80)
+            return -1;
+        found = found << 6 | (it[n] & 0x3f);
+    }
+    if (found < 0 || found > 0x10ffff || (found >= 0xd800 && found < 0xe000) || (more == 2 && found < 0x800) || (more == 3 && found < 0x10000))
+        return -1;
+    *length = 1 + more;
+    return found;
+}
+
+/* A text as JSON has it. */
+static void put_json(struct text *to, const char *from) {
+    put(to, "\"", 1);
+    for (size_t length; *from; from += length) {
+        long it = character(from, &length);
+        if (it < 0)
+            put(to, "?", 1);
+        else if (it < 0x20 || it == '"' || it == '\\')
+            putf(to, "\\u%04lx", it);
+        else
+            put(to, from, length);
+    }
+    put(to, "\"", 1);
+}
+
+/* A text of somebody else, for a terminal: nothing in it moves the cursor, or turns what follows. */
+static void put_plain(struct text *to, const char *from) {
+    for (size_t length; *from; from += length) {
+        long it = character(from, &length);
+        bool is_odd = it < 0x20 || (it >= 0x7f && it < 0xa0) || (it >= 0x200b && it < 0x2010) || (it >= 0x2028 && it < 0x2030) ||
+                      (it >= 0x2060 && it < 0x2070) || it == 0xad || it == 0xfeff || it >= 0xe0000;
+        if (is_odd)
+            putf(to, it < 0 ? "\\x%02lx" : it < 0x100 ? "\\x%02lx" : "\\u%04lx", it < 0 ? (long)(unsigned char)*from : it);
+        else
+            put(to, from, length);
+    }
+}
+
+__attribute__((format(printf, 1, 2))) static void say(const char *format, ...) {
+    va_list given;
+    char *made = NULL;
+    struct text line = {0};
+    va_start(given, format);
+    if (vasprintf(&made, format, given) < 0)
+        whole(NULL);
+    va_end(given);
+    put_plain(&line, made);
+    fprintf(stderr, "labrun-hold: %s\n", line.at ? line.at : "");
+    free(made);
+    free(line.at);
+}
+
+/* ---- JSON that comes */
+
+static const char *over_space(const char *at) {
+    return at + strspn(at, " \t\r\n");
+}
+
+/* Behind a value; NULL: there is none. */
+static const char *over_value(const char *at, int depth) {
+    at = over_space(at);
+    if (*at == '"') {
+        for (at++; *at && *at != '"'; at++)
+            if (*at == '\\' && at[1])
+                at++;
+        return *at ? at + 1 : NULL;
+    }
+    if (*at != '{' && *at != '[') {
+        size_t length = strcspn(at, ",]} \t\r\n");
+        return length ? at + length : NULL;
+    }
+    char end = *at == '{' ? '}' : ']';
+    at = over_space(at + 1);
+    while (*at && *at != end) {
+        if (depth == 0 || (at = over_value(at, depth - 1)) == NULL)
+            return NULL;
+        at = over_space(at);
+        if (*at == ',' || *at == ':')
+            at = over_space(at + 1);
+    }
+    return *at ? at + 1 : NULL;
+}
+
+/* The value of a key of an object; NULL: it has none. */
+static const char *value_of(const char *object, const char *key) {
+    const char *at = over_space(object);
+    if (*at != '{')
+        return NULL;
+    for (at = over_space(at + 1); *at == '"';) {
+        const char *behind = over_value(at, 1);
+        if (behind == NULL)
+            return NULL;
+        bool is_it = (size_t)(behind - at - 2) == strlen(key) && strncmp(at + 1, key, strlen(key)) == 0;
+        at = over_space(behind);
+        if (*at != ':')
+            return NULL;
+        if (is_it)
+            return over_space(at + 1);
+        if ((at = over_value(at + 1, 20)) == NULL)
+            return NULL;
+        at = over_space(at);
+        if (*at == ',')
+            at = over_space(at + 1);
+    }
+    return NULL;
+}
+
+static void put_character(struct text *to, unsigned long it) {
+    static const unsigned char heads[] = {0, 0xc0, 0xe0, 0xf0};
+    char made[4];
+    size_t more = it < 0x80 ? 0 : it < 0x800 ? 1 : it < 0x10000 ? 2 : 3;
+    for (size_t n = more; n > 0; n--, it >>= 6)
+        made[n] = (char)(0x80 | (it & 0x3f));
+    made[0] = (char)(heads[more] | it);
+    put(to, made, more + 1);
+}
+
+static unsigned long of_hex(const char *at) {
+    char digits[5] = {0};
+    strncpy(digits, at, 4);
+    return strtoul(digits, NULL, 16);
+}
+
+/* A text; nothing, if the value is none. Whoever asks frees it. */
+static char *text_of(const char *value) {
+    struct text found = {0};
+    put(&found, "", 0);
+    if (value == NULL || *value != '"')
+        return found.at;
+    for (const char *at = value + 1; *at && *at != '"'; at++) {
+        if (*at != '\\') {
+            put(&found, at, 1);
+            continue;
+        }
+        const char *known = at[1] ? strchr("b\bf\fn\nr\rt\t\"\"\\\\//", at[1]) : NULL;
+        if (at[1] == 'u' && strlen(at) >= 6) {
+            unsigned long it = of_hex(at + 2);
+            at += 5;
+            if (it >= 0xd800 && it < 0xdc00 && at[1] == '\\' && at[2] == 'u' && strlen(at) >= 7) {
+                it = 0x10000 + ((it - 0xd800) << 10) + (of_hex(at + 3) & 0x3ff);
+                at += 6;
+            }
+            put_character(&found, it ? it : 0xfffd);
+        } else if (known != NULL && *++at)
+            put(&found, known + 1, 1);
+    }
+    return found.at;
+}
+
+/* A number; NAN if the value is none. */
+static double number_of(const char *value) {
+    return value != NULL && (isdigit((unsigned char)*value) || *value == '-') ? strtod(value, NULL) : (double)NAN;
+}
+
+/* ---- what is asked for, and what goes on */
+
+static struct {
+    char **instruments, **command, *station, *by, *broker;
+    int count;
+    bool any, quiet;
+    double timeout; /* NAN: none */
+} wish = {.station = "", .timeout = NAN};
+
+static char ticket[65], path[sizeof((struct sockaddr_un){0}.sun_path)];
+static sigset_t before; /* the signals that were blocked */
+static int signals = -1;
+/* what came before there was a command; the command, and its status (-1: it runs); when it began, as /proc says it */
+static int came;
+static pid_t command;
+static int status = -1;
+static unsigned long long since;
+static bool were_sent, is_taken, is_telling, is_untold;
+
+/* Seconds, by a clock that goes on while the machine sleeps. */
+static double now(void) {
+    struct timespec it;
+    clock_gettime(CLOCK_BOOTTIME, &it);
+    return (double)it.tv_sec + (double)it.tv_nsec / 1e9;
+}
+
+/* ---- the command, and all processes that come of it */
+
+struct process {
+    pid_t number, parent;
+    unsigned long long begun;
+    bool has_ended, is_own;
+    char name[16];
+};
+
+static bool read_process(const char *number, struct process *it) {
+    char where[64], line[1024];
+    snprintf(where, sizeof where, "/proc/%.20s/stat", number);
+    int file = open(where, O_RDONLY | O_CLOEXEC);
+    if (file < 0)
+        return false;
+    ssize_t length = read(file, line, sizeof line - 1);
+    close(file);
+    line[length < 0 ? 0 : length] = 0;
+    char *begin = strchr(line, '('), *end = strrchr(line, ')'), state = 0;
+    int parent = 0;
+    if (begin == NULL || end == NULL ||
+        sscanf(end + 1, " %c %d %*s %*s %*s %*s %*s %*s %*s %*s %*s %*s %*s %*s %*s %*s %*s %*s %*s %llu", &state, &parent, &it->begun) != 3)
+        return false;
+    *end = 0;
+    snprintf(it->name, sizeof it->name, "%s", begin + 1);
+    it->number = (pid_t)strtol(number, NULL, 10);
+    it->parent = parent;
+    it->has_ended = state == 'Z' || state == 'X';
+    it->is_own = false;
+    return true;
+}
+
+/* All processes that go on and come of the command. (This process may have other children: what became it began them.) */
+static size_t family(struct process **found) {
+    struct process *all = NULL, it;
+    size_t count = 0, own = 0;
+    DIR *folder = opendir("/proc");
+    for (struct dirent *entry; folder != NULL && (entry = readdir(folder)) != NULL;)
+        if (isdigit((unsigned char)entry->d_name[0]) && read_process(entry->d_name, &it)) {
+            if (count % 256 == 0)
+                all = whole(realloc(all, (count + 256) * sizeof *all));
+            all[count++] = it;
+        }
+    if (folder != NULL)
+        closedir(folder);
+    for (bool has_more = true; has_more;) {
+        has_more = false;
+        for (size_t at = 0; at < count; at++) {
+            bool is_one = all[at].parent == getpid() && all[at].begun >= since;
+            for (size_t n = 0; n < count && !is_one; n++)
+                is_one = all[n].is_own && all[n].number == all[at].parent;
+            has_more |= is_one && !all[at].is_own;
+            all[at].is_own |= is_one;
+        }
+    }
+    for (size_t at = 0; at < count; at++)
+        if (all[at].is_own && !all[at].has_ended)
+            all[own++] = all[at];
+    *found = all;
+    return own;
+}
+
+static void send_all(int number) {
+    struct process *its;
+    were_sent = true;
+    for (size_t count = family(&its), at = 0; at < count; at++)
+        kill(its[at].number, number);
+    free(its);
+}
+
+static bool still_runs(bool tells) {
+    struct process *its;
+    struct text names = {0};
+    size_t count = family(&its);
+    for (size_t at = 0; at < count && tells; at++)
+        putf(&names, "%s%d %s", at ? ", " : "", (int)its[at].number, its[at].name);
+    if (count > 0 && tells)
+        say("waits until what the command started has ended: %s", names.at);
+    free(names.at);
+    free(its);
+    return count > 0;
+}
+
+static void reap(void) {
+    int how;
+    for (pid_t one; (one = waitpid(-1, &how, WNOHANG)) > 0;)
+        if (one == command && status < 0)
+            status = WIFSIGNALED(how) ? 128 + WTERMSIG(how) : WEXITSTATUS(how);
+}
+
+static void is_sent_on(int number) {
+    if (status < 0 && number == SIGINT && isatty(0) && tcgetpgrp(0) == getpgrp())
+        were_sent = true; /* a terminal sends it to all of its foreground */
+    else /* (a shell lets what it starts in the background ignore Ctrl-C) */
+        send_all(status >= 0 && (number == SIGINT || number == SIGQUIT) ? SIGTERM : number);
+}
+
+/* What has come. Before there is a command, and while the broker is told of its end, it is kept in `came`. */
+static void take_signals(void) {
+    struct signalfd_siginfo it;
+    while (read(signals, &it, sizeof it) == (ssize_t)sizeof it) {
+        int number = (int)it.ssi_signo;
+        if (number == SIGCHLD)
+            reap();
+        else if (command > 0 && !is_telling)
+            is_sent_on(number);
+        else
+            came = number;
+    }
+}
+
+/* ---- one request */
+
+struct talk {
+    int socket;
+    struct text sent, heard;
+    size_t written;
+    double at, until; /* when it was sent, and how long its answer may take */
+};
+
+enum outcome { PENDING, ANSWERED, LOST, ABSENT };
+static int why_not; /* of the last call that couldn't be made */
+
+static void hang_up(struct talk *it) {
+    if (it->socket >= 0)
+        close(it->socket);
+    free(it->sent.at);
+    free(it->heard.at);
+    *it = (struct talk){.socket = -1};
+}
+
+/* ABSENT: nobody listens there. */
+static enum outcome call(struct talk *it, const char *method, const char *rest, const char *body, double span) {
+    struct sockaddr_un to = {.sun_family = AF_UNIX};
+    hang_up(it);
+    memcpy(to.sun_path, path, sizeof path);
+    it->at = now();
+    it->until = it->at + span;
+    putf(&it->sent, "%s /v1/sessions%s HTTP/1.1\r\nHost: localhost\r\nConnection: close\r\n", method, rest);
+    putf(&it->sent, "Content-Type: application/json\r\nContent-Length: %zu\r\n\r\n%s", strlen(body), body);
+    it->socket = socket(AF_UNIX, SOCK_STREAM | SOCK_CLOEXEC | SOCK_NONBLOCK, 0);
+    if (it->socket >= 0 && connect(it->socket, (struct sockaddr *)&to, sizeof to) == 0)
+        return PENDING;
+    why_not = errno;
+    hang_up(it);
+    return why_not == ENOENT || why_not == ECONNREFUSED ? ABSENT : LOST;
+}
+
+static bool is_whole(const struct talk *it) {
+    const char *end = it->heard.at ? strstr(it->heard.at, "\r\n\r\n") : NULL, *length = it->heard.at ? strcasestr(it->heard.at, "\r\ncontent-length:") : NULL;
+    return end != NULL && length != NULL && length < end && (size_t)(end + 4 - it->heard.at) + strtoul(length + 17, NULL, 10) <= it->heard.length;
+}
+
+/* As much of it as goes without waiting. */
+static enum outcome goes_on(struct talk *it) {
+    char some[4096];
+    ssize_t count;
+    while (it->written < it->sent.length && (count = send(it->socket, it->sent.at + it->written, it->sent.length - it->written, MSG_NOSIGNAL)) > 0)
+        it->written += (size_t)count;
+    while ((count = recv(it->socket, some, sizeof some, 0)) > 0 && it->heard.length < 1 << 20)
+        put(&it->heard, some, (size_t)count);
+    if (is_whole(it))
+        return ANSWERED;
+    bool is_over = count == 0 || (count < 0 && errno != EAGAIN && errno != EINTR) || it->heard.length >= 1 << 20;
+    return is_over || now() > it->until ? LOST : PENDING;
+}
+
+static int status_of(const struct talk *it) {
+    return strncmp(it->heard.at, "HTTP/1.", 7) == 0 ? atoi(it->heard.at + 9) : 0;
+}
+
+static const char *body_of(const struct talk *it) {
+    return strstr(it->heard.at, "\r\n\r\n") + 4;
+}
+
+/* Waits for signals, for a request if there is one, and no longer than until a moment. */
+static void wait_until(struct talk *it, double moment) {
+    bool asks = it != NULL && it->socket >= 0;
+    struct pollfd all[2] = {{.fd = signals, .events = POLLIN}, {.fd = asks ? it->socket : -1, .events = POLLIN}};
+    if (asks && it->written < it->sent.length)
+        all[1].events = POLLIN | POLLOUT;
+    if (asks && it->until < moment)
+        moment = it->until;
+    double left = moment - now();
+    poll(all, 2, left <= 0 ? 0 : left > 3600 ? 3600000 : (int)ceil(left * 1000));
+    take_signals();
+}
+
+/* What the broker says no to: it is said, and this is the status. */
+static int refused(const struct talk *it) {
+    static const struct {
+        const char *kind;
+        int status;
+    } known[] = {{"TimeoutError", TIMED_OUT}, {"TakenAway", TAKEN}, {"MayNotUse", MAY_NOT}, {"Unreachable", UNREACHABLE},
+                 {"JournalError", NOT_WRITTEN}, {"NoInstrument", USAGE}};
+    char *kind = text_of(value_of(body_of(it), "kind")), *why = text_of(value_of(body_of(it), "text"));
+    int found = 1;
+    for (size_t n = 0; n < sizeof known / sizeof *known; n++)
+        if (strcmp(kind, known[n].kind) == 0)
+            found = known[n].status;
+    say("%s", *why ? why : "the broker's answer can't be read");
+    free(kind);
+    free(why);
+    return found;
+}
+
+/* ---- waiting until it holds */
+
+static struct {
+    char *station;
+    struct text names; /* of the instruments, each behind a tab */
+    double lease, beat, until;
+} held;
+
+static void put_names(struct text *to, char *names, bool is_list) {
+    put(to, "[", 1);
+    for (char *rest = names, *one; is_list && (one = strsep(&rest, ",")) != NULL;) {
+        if (one != names)
+            put(to, ", ", 2);
+        put_json(to, one);
+    }
+    for (int at = 0; !is_list && at < wish.count; at++) {
+        if (at > 0)
+            put(to, ", ", 2);
+        put_json(to, wish.instruments[at]);
+    }
+    put(to, "]", 1);
+}
+
+static void put_wish(struct text *to, double left) {
+    putf(to, "{\"ticket\": \"%s\", \"by\": ", ticket);
+    put_json(to, wish.by);
+    put(to, ", \"station\": ", 13);
+    put_json(to, wish.station);
+    put(to, wish.any ? ", \"any_of\": [" : ", \"instruments\": ", wish.any ? 13 : 17);
+    for (int at = 0; wish.any && at < wish.count; at++) {
+        char *copy = whole(strdup(wish.instruments[at]));
+        if (at > 0)
+            put(to, ", ", 2);
+        put_names(to, copy, true);
+        free(copy);
+    }
+    if (wish.any)
+        put(to, "]", 1);
+    else
+        put_names(to, NULL, false);
+    if (!isnan(left))
+        putf(to, ", \"timeout\": %.3f", left);
+    put(to, "}", 1);
+}
+
+/* Where the broker takes HTTP: at the socket itself, or at the one beside it. */
+static void find_path(void) {
+    static const char beside[] = ".http";
+    const char *own = wish.broker + strlen("unix:");
+    size_t length = strlen(own);
+    struct stat is;
+    memset(path, 0, sizeof path);
+    memcpy(path, own, length);
+    if (length + sizeof beside <= sizeof path) {
+        memcpy(path + length, beside, sizeof beside);
+        if (stat(path, &is) != 0 || !S_ISSOCK(is.st_mode))
+            path[length] = 0;
+    }
+}
+
+static enum outcome asks(struct talk *it, bool is_new, double wait, double left) {
+    struct text rest = {0}, body = {0};
+    double late = isnan(left) ? LATE : left + LATE_END - wait < LATE ? fmax(LATE_END, left + LATE_END - wait) : LATE;
+    put(&body, "", 0);
+    if (is_new) {
+        find_path();
+        put_wish(&body, left);
+    } else
+        putf(&rest, "/%s", ticket);
+    putf(&rest, "?wait=%.3f", wait);
+    enum outcome how = call(it, is_new ? "POST" : "GET", rest.at, body.at, wait + late);
+    free(rest.at);
+    free(body.at);
+    return how;
+}
+
+static void gives_up(void) {
+    struct talk it = {.socket = -1};
+    struct text rest = {0};
+    putf(&rest, "/%s", ticket);
+    enum outcome how = call(&it, "DELETE", rest.at, "", 0.5);
+    for (; how == PENDING; how = goes_on(&it))
+        wait_until(&it, it.until);
+    hang_up(&it);
+    free(rest.at);
+}
+
+/* For whom it waits is said once, again if that changes, and now and then if it doesn't. */
+static void tell(const struct talk *it, struct text *said, double *said_at) {
+    struct text who = {0};
+    const char *at = value_of(body_of(it), "waits_for");
+    put(&who, "", 0);
+    if (at != NULL && *at == '[')
+        for (at = over_space(at + 1); *at == '{'; at = over_space(at + 1)) {
+            char *name = text_of(value_of(at, "instrument")), *by = text_of(value_of(at, "station"));
+            putf(&who, "%s %s,", name, by);
+            free(name);
+            free(by);
+            if ((at = over_value(at, 20)) == NULL || *(at = over_space(at)) != ',')
+                break;
+        }
+    if (said->at == NULL || strcmp(said->at, who.at) != 0 || now() > *said_at + AGAIN) {
+        char *why = text_of(value_of(body_of(it), "text"));
+        say("waits: %s", why);
+        free(why);
+        *said_at = now();
+        free(said->at);
+        *said = who;
+    } else
+        free(who.at);
+}
+
+/* It holds, by this answer. Whether that is still new enough. */
+static bool is_held(const struct talk *it) {
+    const char *body = body_of(it), *at = value_of(body, "instruments");
+    held.lease = number_of(value_of(body, "lease"));
+    held.beat = number_of(value_of(body, "ping"));
+    held.until = isnan(held.lease) ? (double)INFINITY : it->at + held.lease;
+    free(held.station);
+    held.station = text_of(value_of(body, "station"));
+    held.names.length = 0;
+    put(&held.names, "", 0);
+    for (at = at != NULL && *at == '[' ? over_space(at + 1) : ""; *at == '"';) {
+        char *name = text_of(at);
+        putf(&held.names, "\t%s", name);
+        free(name);
+        at = over_value(at, 1);
+        at = at ? over_space(at) : "";
+        at = *at == ',' ? over_space(at + 1) : at;
+    }
+    return isnan(held.lease) || now() < it->at + held.lease / 6;
+}
+
+/* How it goes on to wait: whether its wish is to be sent, or it asks on by its ticket; whether the broker was there; since when it is away. */
+struct line {
+    bool is_new, was_there, is_told;
+    double end, lost, wait, said_at;
+    struct text said;
+};
+
+/* -1: it waits on; else as `holds`. */
+static int hears(struct line *its, const struct talk *it) {
+    int answer = status_of(it), found = -1;
+    if (answer == 200)
+        found = is_held(it) ? 0 : -1;
+    else if (answer == 202 && !wish.quiet)
+        tell(it, &its->said, &its->said_at);
+    else if (answer != 202 && (answer != 404 || its->is_new))
+        found = refused(it);
+    its->is_new = answer == 404;
+    its->was_there = true;
+    its->lost = NAN;
+    its->wait = answer == 200 ? 0 : its->is_new ? FIRST_WORD : 5;
+    return found;
+}
+
+/* Nobody answers: it may be just being started, or come back. (If a wish was lost, it may be known all the same.) -1: it is tried again. */
+static int hears_nothing(struct line *its, const struct talk *it, enum outcome how) {
+    double time = now();
+    bool is_first = how == ABSENT && !its->was_there;
+    if (how == LOST && it->heard.length > 0 && strncmp(it->heard.at, "HTTP/", 5) != 0) {
+        say("unix:%s takes no HTTP: labrun-broker serve BAY --listen unix:%s --http unix:%s.http", path, path, path);
+        return UNREACHABLE;
+    }
+    if (how == LOST && it->socket < 0 && why_not == EACCES) {
+        say("the broker at unix:%s can't be reached: permission denied", path);
+        return UNREACHABLE;
+    }
+    its->was_there |= how == LOST || how == ANSWERED;
+    its->is_new = its->is_new && how == ABSENT;
+    its->lost = isnan(its->lost) ? time : its->lost;
+    if (!its->is_told && is_first) {
+        say("waits for the broker: it doesn't listen yet at %s", path);
+        its->is_told = true;
+    }
+    if (time > its->lost + (its->was_there ? AWAY : STARTING) || time > its->end + LATE_END || (is_first && time >= its->end)) {
+        say("the broker at unix:%s %s", path, how == ABSENT ? "can't be reached: nobody listens there" : "doesn't answer");
+        gives_up();
+        return UNREACHABLE;
+    }
+    wait_until(NULL, time + (is_first ? 0.1 : PAUSE));
+    return -1;
+}
+
+/* 0 once it holds; else the status to end with. */
+static int holds(void) {
+    struct talk it = {.socket = -1};
+    struct line its = {.is_new = true, .is_told = wish.quiet, .end = now() + wish.timeout, .lost = NAN, .wait = FIRST_WORD};
+    int found = -1;
+    while (found < 0 && !came) {
+        enum outcome how = asks(&it, its.is_new, its.wait, isnan(wish.timeout) ? (double)NAN : fmax(0, its.end - now()));
+        while (how == PENDING && !came) {
+            wait_until(&it, now() + 3600);
+            how = goes_on(&it);
+        }
+        if (!came)
+            found = how == ANSWERED && status_of(&it) != 503 ? hears(&its, &it) : hears_nothing(&its, &it, how);
+    }
+    hang_up(&it);
+    free(its.said.at);
+    if (found < 0 || (found == 0 && came)) {
+        gives_up();
+        return 128 + came;
+    }
+    return found;
+}
+
+/* ---- while it holds */
+
+static void begin_command(void) {
+    struct text around = {0};
+    char *names = whole(strdup(held.names.at)), *outer = getenv("LABRUN_AROUND");
+    if (outer != NULL && *outer)
+        putf(&around, "%s\n", outer);
+    putf(&around, "%d\t%s\t%s%s", (int)getppid(), wish.broker, held.station, names);
+    for (char *at = names; (at = strchr(at, '\t')) != NULL;)
+        *at = ' ';
+    setenv("LABRUN_HELD", names[0] ? names + 1 : names, 1);
+    setenv("LABRUN_STATION", held.station, 1);
+    setenv("LABRUN_AROUND", around.at, 1);
+    execvp(wish.command[0], wish.command);
+}
+
+/* 0, or the status to end with. Where a session may be released for a client that is gone, the command ends with this process. */
+static int starts(void) {
+    int line[2], why = 0;
+    pid_t this = getpid();
+    if (pipe2(line, O_CLOEXEC) != 0 || (command = fork()) < 0) {
+        say("%s: %s", wish.command[0], strerror(errno));
+        command = 0;
+        return CANT_RUN;
+    }
+    if (command == 0) {
+        close(line[0]);
+        if (!isnan(held.lease)) {
+            prctl(PR_SET_PDEATHSIG, SIGTERM, 0, 0, 0);
+            if (getppid() != this)
+                kill(getpid(), SIGTERM);
+        }
+        sigprocmask(SIG_SETMASK, &before, NULL);
+        begin_command();
+        why = errno;
+        if (write(line[1], &why, sizeof why) < 0)
+            _exit(CANT_RUN);
+        _exit(NOT_FOUND);
+    }
+    close(line[1]);
+    char number[24];
+    struct process its = {0};
+    snprintf(number, sizeof number, "%d", (int)command);
+    since = read_process(number, &its) ? its.begun : 0;
+    ssize_t failed = read(line[0], &why, sizeof why);
+    close(line[0]);
+    if (failed == (ssize_t)sizeof why) {
+        waitpid(command, NULL, 0);
+        command = 0;
+        say("%s: %s", wish.command[0], strerror(why));
+        return why == ENOENT ? NOT_FOUND : CANT_RUN;
+    }
+    if (came)
+        is_sent_on(came);
+    return 0;
+}
+
+static void taken(const char *why) {
+    is_taken = true;
+    say("%s; the command is ended", why);
+    send_all(SIGTERM);
+}
+
+static void is_answered(struct talk *it, double *next) {
+    int answer = status_of(it);
+    *next = now() + PAUSE;
+    if (answer == 200) {
+        held.until = isnan(held.lease) ? (double)INFINITY : fmax(held.until, it->at + held.lease);
+        *next = it->at + 0.1;
+    } else if (answer == 404 || answer == 410) {
+        char *why = text_of(value_of(body_of(it), "text"));
+        taken(why);
+        free(why);
+    }
+}
+
+static void is_late(void) {
+    struct text why = {0}, names = {0};
+    for (const char *at = held.names.at; *at; at++)
+        put(&names, *at == '\t' ? ", " : at, *at == '\t' ? 2 : 1);
+    putf(&why, "%s: the broker hasn't answered for %g s, so others may hold these soon: %s", held.station, held.lease, names.length ? names.at + 2 : "");
+    taken(why.at);
+    free(why.at);
+    free(names.at);
+}
+
+/* Until the command has ended, and after a signal all that it started: who holds next would meet it at the instruments. */
+static void works(void) {
+    struct talk it = {.socket = -1};
+    struct text rest = {0};
+    double next = 0, tells = INFINITY;
+    double span = isnan(held.lease) ? LONG : held.beat, late = isnan(held.lease) ? LATE : fmin(LATE, held.lease / 2);
+    putf(&rest, "/%s?while=holding&wait=%.3f", ticket, span);
+    while (status < 0 || (were_sent && still_runs(now() > tells))) {
+        double time = now();
+        if (status >= 0)
+            tells = isinf(tells) ? time + TELLING : time > tells ? 1e300 : tells;
+        if (!is_taken && time >= held.until)
+            is_late();
+        if (!is_taken && it.socket < 0 && time >= next && call(&it, "GET", rest.at, "", span + late) != PENDING)
+            next = time + PAUSE;
+        double moment = status >= 0 ? time + LOOK : is_taken ? time + 3600 : fmin(held.until, it.socket < 0 ? next : time + 3600);
+        wait_until(is_taken ? NULL : &it, moment);
+        enum outcome how = it.socket < 0 || is_taken ? PENDING : goes_on(&it);
+        if (how == ANSWERED)
+            is_answered(&it, &next);
+        else if (how == LOST)
+            next = now() + PAUSE;
+        if (how != PENDING)
+            hang_up(&it);
+    }
+    hang_up(&it);
+    free(rest.at);
+}
+
+/* The status to end with. The broker is told for a minute, and no signal keeps it from that unless it is late. */
+static int lets_go(int ended) {
+    struct talk it = {.socket = -1};
+    struct text rest = {0};
+    double began = now();
+    int found = -1;
+    putf(&rest, "/%s", ticket);
+    if (ended != 0)
+        putf(&rest, "?failed=status%%20%d", ended);
+    is_telling = true;
+    came = 0;
+    while (found < 0) {
+        enum outcome how = call(&it, "DELETE", rest.at, "", LATE);
+        for (double again = now() + PAUSE; found < 0 && (how == PENDING || now() < again);) {
+            wait_until(how == PENDING ? &it : NULL, is_untold ? again + LATE : fmin(began + UNTOLD, again + LATE));
+            if (how == PENDING)
+                how = goes_on(&it);
+            int answer = how == ANSWERED ? status_of(&it) : 0;
+            if (answer == 200)
+                found = ended;
+            else if (answer != 0 && answer != 503) {
+                say("the command ran, and ended with status %d, but:", ended);
+                found = refused(&it);
+            } else if (!is_untold && now() > began + UNTOLD) {
+                say("the command has ended with status %d; the broker doesn't answer, and is told again for a minute, unless Ctrl-C gives that up", ended);
+                is_untold = true;
+            }
+            if (found < 0 && is_untold && came) {
+                say("the broker wasn't told, as far as is known here: the session may go on holding, as `labrun-broker status` says");
+                found = ended;
+            }
+        }
+        if (found < 0 && now() > began + AWAY) {
+            say("the command ran, and ended with status %d, but:", ended);
+            say("the broker at unix:%s can't be reached", path);
+            found = UNREACHABLE;
+        }
+    }
+    hang_up(&it);
+    free(rest.at);
+    return found;
+}
+
+/* ---- words */
+
+static int wrong(const char *why, const char *what) {
+    say("%s%s%s; labrun-hold --help", why, *what ? ": " : "", what);
+    return USAGE;
+}
+
+static bool is_among(const char *name, char **its, int count) {
+    for (int at = 0; at < count; at++)
+        if (strcmp(name, its[at]) == 0)
+            return true;
+    return false;
+}
+
+/* Whether each choice has an instrument that a hold around this one has. */
+static bool all_meet(char **its, int count) {
+    if (!wish.any) {
+        for (int at = 0; at < wish.count; at++)
+            if (is_among(wish.instruments[at], its, count))
+                return true;
+        return false;
+    }
+    for (int at = 0; at < wish.count; at++) {
+        bool meets = false;
+        char *copy = whole(strdup(wish.instruments[at])), *rest = copy;
+        for (char *one; (one = strsep(&rest, ",")) != NULL;)
+            meets |= is_among(one, its, count);
+        free(copy);
+        if (!meets)
+            return false;
+    }
+    return true;
+}
+
+/* No: it would wait for a hold that waits for it. A line is of each: process, broker, station, instruments. */
+static bool looks_around(void) {
+    char *copy = whole(strdup(getenv("LABRUN_AROUND") ? getenv("LABRUN_AROUND") : "")), *rest = copy, *fields[70];
+    bool may = true;
+    for (char *line; may && (line = strsep(&rest, "\n")) != NULL;) {
+        int count = 0;
+        char where[64];
+        while (count < 70 && (fields[count] = strsep(&line, "\t")) != NULL)
+            count++;
+        if (count < 4 || strcmp(fields[1], wish.broker) != 0)
+            continue;
+        snprintf(where, sizeof where, "/proc/%.20s", fields[0]);
+        if (access(where, F_OK) != 0)
+            continue;
+        if (strcmp(wish.station, fields[2]) == 0 || all_meet(fields + 3, count - 3)) {
+            say("within a hold by %s, which waits for this command: it would wait for itself. Name all in one hold", fields[2]);
+            may = false;
+        } else if (isnan(wish.timeout))
+            say("within a hold by %s: another that holds what this wants, and wants those, waits for ever with it. Name all in one hold", fields[2]);
+    }
+    free(copy);
+    return may;
+}
+
+static char *who_asks(void) {
+    static const char *const names[] = {"LOGNAME", "USER", "LNAME", "USERNAME"};
+    const char *user = NULL, *what = strrchr(wish.command[0], '/');
+    char host[65] = {0};
+    struct text found = {0};
+    size_t length, end = 0;
+    for (size_t n = 0; n < 4 && (user == NULL || !*user); n++)
+        user = getenv(names[n]);
+    struct passwd *known = user != NULL && *user ? NULL : getpwuid(getuid());
+    gethostname(host, sizeof host - 1);
+    putf(&found, "%s@%s %d %s", known ? known->pw_name : user && *user ? user : "somebody", host, (int)getpid(), what ? what + 1 : wish.command[0]);
+    for (int count = 0; count < 64 && end < found.length; count++, end += length)
+        character(found.at + end, &length);
+    found.at[end] = 0;
+    return found.at;
+}
+
+static int read_words(int count, char **words) {
+    struct {
+        const char *name;
+        char **to;
+    } options[] = {{"--station", &wish.station}, {"--by", &wish.by}, {"--broker", &wish.broker}, {"--timeout", NULL}};
+    int at = 1;
+    wish.instruments = whole(calloc((size_t)count + 1, sizeof *wish.instruments));
+    for (; at < count && strcmp(words[at], "--") != 0; at++) {
+        char *word = words[at], *value = NULL;
+        size_t n = 0, length = strcspn(word, "=");
+        while (n < 4 && (strlen(options[n].name) != length || strncmp(word, options[n].name, length) != 0))
+            n++;
+        if (word[0] != '-')
+            wish.instruments[wish.count++] = word;
+        else if (n < 4) {
+            value = word[length] ? word + length + 1 : at + 1 < count ? words[++at] : NULL;
+            if (value == NULL)
+                return wrong("something is wanted behind", word);
+            char *end = value;
+            if (options[n].to != NULL)
+                *options[n].to = value;
+            else if ((wish.timeout = strtod(value, &end), end == value || *end || !(wish.timeout >= 0 && wish.timeout < 1e9)))
+                return wrong("--timeout: this is no number of seconds", value);
+        } else if (strcmp(word, "--any") == 0)
+            wish.any = true;
+        else if (strcmp(word, "--quiet") == 0)
+            wish.quiet = true;
+        else if (strcmp(word, "-n") == 0 || strcmp(word, "--no-wait") == 0)
+            wish.timeout = 0;
+        else
+            return wrong("there is no such option", word);
+    }
+    wish.command = words + (at < count ? at + 1 : count);
+    if (wish.count == 0)
+        return wrong("say which instruments", "");
+    return wish.command[0] == NULL ? wrong("say what to run, behind `--`", "labrun-hold scope -- ./measure.sh") : 0;
+}
+
+static void make_ticket(void) {
+    unsigned char bytes[32];
+    if (getrandom(bytes, sizeof bytes, 0) != (ssize_t)sizeof bytes) {
+        say("there are no random numbers");
+        exit(1);
+    }
+    for (size_t n = 0; n < sizeof bytes; n++)
+        snprintf(ticket + 2 * n, 3, "%02x", bytes[n]);
+}
+
+static void catch_signals(void) {
+    static const int caught[] = {SIGINT, SIGTERM, SIGHUP, SIGQUIT, SIGCHLD};
+    sigset_t all;
+    sigemptyset(&all);
+    for (size_t n = 0; n < sizeof caught / sizeof *caught; n++)
+        sigaddset(&all, caught[n]);
+    signal(SIGCHLD, SIG_DFL);
+    sigprocmask(SIG_BLOCK, &all, &before);
+    signals = signalfd(-1, &all, SFD_NONBLOCK | SFD_CLOEXEC);
+}
+
+int main(int count, char **words) {
+    for (int at = 1; at < count && strcmp(words[at], "--") != 0; at++)
+        if (strcmp(words[at], "--help") == 0 || strcmp(words[at], "-h") == 0) {
+            fputs(HELP, stdout);
+            return 0;
+        }
+    int found = read_words(count, words);
+    if (found != 0)
+        return found;
+    char *given = getenv("LABRUN_BROKER");
+    if (wish.broker == NULL)
+        wish.broker = given != NULL && *given ? given : (char *)(uintptr_t)DEFAULT;
+    if (strncmp(wish.broker, "unix:", 5) != 0 || strlen(wish.broker) - 5 >= sizeof path)
+        return wrong("a broker of this machine is wanted, as unix:PATH, and not", wish.broker);
+    char *by = wish.by == NULL ? who_asks() : NULL;
+    wish.by = by != NULL ? by : wish.by;
+    if (!looks_around())
+        return USAGE;
+    make_ticket();
+    catch_signals();
+    prctl(PR_SET_CHILD_SUBREAPER, 1, 0, 0, 0);
+    if ((found = holds()) == 0) {
+        found = starts();
+        if (found == 0) {
+            works();
+            found = is_taken ? TAKEN : status;
+        }
+        if (!is_taken)
+            found = lets_go(found);
+    }
+    free(by);
+    free(held.station);
+    free(held.names.at);
+    free(wish.instruments);
+    return found;
+}
