@@ -5,17 +5,16 @@ from __future__ import annotations
 import argparse
 import asyncio
 import contextlib
-import os
 import resource
 import signal
-import socket
 import sys
 from typing import TYPE_CHECKING, Any, Awaitable, Callable
 
 from .bay import BadAddress, read_bay
 from .quick import DEFAULT
+from .standby import add_etcd, until_it_leads
 from .texts import counted, plain, seconds
-from .words import USAGE, say
+from .words import USAGE, say, tell_systemd
 
 if TYPE_CHECKING:
     from .keeping import Keeping
@@ -36,6 +35,7 @@ def add_serve(parser: argparse.ArgumentParser) -> None:
     parser.add_argument("--tls-certificate", metavar="FILE", help="for other machines: the broker's certificate")
     parser.add_argument("--tls-key", metavar="FILE", help="its key")
     parser.add_argument("--token-file", metavar="FILE", help="what clients have to know that come by the network")
+    add_etcd(parser)
     parser.add_argument("--sync", choices=("data", "none"), default="data", help="none: what is written outlives the broker, and may not the machine")
 
 
@@ -46,6 +46,7 @@ def run_serve(args: argparse.Namespace) -> int:
 async def serve(args: argparse.Namespace) -> int:
     # (what only the broker needs: a client begins sooner without)
     from . import door, service
+    from .folder import Folder
     from .keeping import Keeping
 
     bay = read_bay(args.bay)
@@ -58,7 +59,13 @@ async def serve(args: argparse.Namespace) -> int:
     sys.setswitchinterval(0.0005)
     its_door = door.Door(tuple(args.listen or (DEFAULT,)), args.tls_certificate, args.tls_key, args.token_file, args.group)
     its_door.check()
-    keeping = Keeping(bay, args.state, args.grace, args.sync == "data")
+    end = the_end()
+    state, opens = args.state, None
+    if args.etcd is not None:
+        state, opens = await until_it_leads(args, bay, its_door, end)
+        if opens is None:
+            return 0
+    keeping = Keeping(bay, state, args.grace, args.sync == "data", opens or Folder)
     # (at first stands which bay it is, and where)
     begins = list[str]()
     keeping.says = begins.append
@@ -74,8 +81,9 @@ async def serve(args: argparse.Namespace) -> int:
         for it in (*keeping.complaints, *begins):
             say(plain(it))
         keeping.says = lambda text: say(plain(text)[:MOST_TOLD]) if door.is_read() else None
-        tell_systemd("READY=1")
-        await until_the_end()
+        tell_systemd("READY=1\nSTATUS=")
+        await end.wait()
+        tell_systemd("STOPPING=1")
         return 0
     finally:
         await ends.aclose()
@@ -103,15 +111,9 @@ async def shown(option: str, serves: Callable[..., Awaitable[Any]], *given: Any)
         raise BadAddress(f"{option} {fault}") from None
 
 
-async def until_the_end() -> None:
+def the_end() -> asyncio.Event:
+    """Somebody ends the broker."""
     loop, end = asyncio.get_running_loop(), asyncio.Event()
     for number in (signal.SIGINT, signal.SIGTERM):
         loop.add_signal_handler(number, end.set)
-    await end.wait()
-    tell_systemd("STOPPING=1")
-
-
-def tell_systemd(text: str) -> None:
-    if path := os.environ.get("NOTIFY_SOCKET"):
-        with contextlib.suppress(OSError), socket.socket(socket.AF_UNIX, socket.SOCK_DGRAM) as to:
-            to.sendto(text.encode(), f"\0{path[1:]}" if path.startswith("@") else path)
+    return end

@@ -3,7 +3,9 @@
 from __future__ import annotations
 
 import argparse
+import contextlib
 import os
+import socket
 import sys
 from typing import TYPE_CHECKING, Any, Callable, NamedTuple
 
@@ -44,6 +46,12 @@ STATUSES = (
 
 def say(text: str) -> None:
     print(f"{PROGRAM}: {text}", file=sys.stderr, flush=True)
+
+
+def tell_systemd(text: str) -> None:
+    if path := os.environ.get("NOTIFY_SOCKET"):
+        with contextlib.suppress(OSError), socket.socket(socket.AF_UNIX, socket.SOCK_DGRAM) as to:
+            to.sendto(text.encode(), f"\0{path[1:]}" if path.startswith("@") else path)
 
 
 def add_client(parser: argparse.ArgumentParser) -> None:
