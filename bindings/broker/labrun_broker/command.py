@@ -53,7 +53,7 @@ def lines_of(status: dict[str, Any]) -> list[str]:
     rows = [["INSTRUMENT", "HELD BY", "FOR", "WAITING"]]
     for one in status["instruments"]:
         rows.append([one["name"], one["holder"] or "-", span(at - one["since"]) if one["holder"] else "", " ".join(one["waiting"])])
-    lines = [f"bay {plain(status['bay'])}, {counted(status['sessions'], 'session')} since {since}", *disk_of(status), "", *aligned(rows), ""]
+    lines = [f"bay {plain(status['bay'])}, {counted(status['sessions'], 'session')} since {since}", *brokers_of(status), *disk_of(status), "", *aligned(rows), ""]
     rows = [["STATION", "", "FOR", "INSTRUMENTS", "BY"]]
     for one in status["stations"]:
         if one["state"] != "idle":
@@ -63,6 +63,13 @@ def lines_of(status: dict[str, Any]) -> list[str]:
     for one in status["in_line"]:
         rows.append([one["station"] or "a guest", "in line", span(at - one["since"]), " ".join(one["instruments"]), plain(one["by"] or "")])
     return [*lines, *(aligned(rows) if len(rows) > 1 else ["nobody holds or waits"])]
+
+
+def brokers_of(status: dict[str, Any]) -> list[str]:
+    """Who leads, of brokers that stand by for one another."""
+    if not status["leads"]:
+        return []
+    return [plain(f"{status['leads']} leads, and {', '.join(status['stands_by']) or 'no other'} stands by")]
 
 
 def disk_of(status: dict[str, Any]) -> list[str]:

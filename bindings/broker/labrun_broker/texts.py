@@ -49,3 +49,9 @@ def last(text: str) -> float:
     if not found:
         raise argparse.ArgumentTypeError(f"{text!r} is no span: write 90, 30s, 15min, 4h or 2d")
     return float(found[1]) * {None: 1, "s": 1, "m": 60, "min": 60, "h": 3600, "d": 86400}[found[2]]
+
+
+def addresses_of(text: str) -> tuple[str, ...]:
+    """Of one broker, or of several: those of `a:7443,b:7443`."""
+    parts = tuple(it.strip() for it in text.split(","))
+    return parts if all(re.fullmatch(r"unix:.+|[^/]+:\d+", it) for it in parts) else (text,)

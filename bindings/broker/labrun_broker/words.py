@@ -55,7 +55,7 @@ def tell_systemd(text: str) -> None:
 
 
 def add_client(parser: argparse.ArgumentParser) -> None:
-    parser.add_argument("--broker", metavar="ADDR", help=f"where the broker listens; without, LABRUN_BROKER says it, or it is {DEFAULT}")
+    parser.add_argument("--broker", metavar="ADDR", help=f"where the broker listens, or several, with commas between; without, LABRUN_BROKER says it, or it is {DEFAULT}")
     parser.add_argument("--token-file", metavar="FILE", help="the token, for a broker on another machine")
     parser.add_argument("--certificate", metavar="FILE", help="the certificate to know that broker by")
 
