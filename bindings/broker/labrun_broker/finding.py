@@ -11,8 +11,14 @@ READY, FAILS = grpc.ChannelConnectivity.READY, (grpc.ChannelConnectivity.TRANSIE
 LOOKS, PAUSE = 2.0, 0.1  # seconds: for so long at most all are tried at once; and between two such tries
 # for how long one of a list is waited for, if none has answered yet: as long as it takes until another leads
 FAILOVER = 20.0
-# of a list: a machine that says nothing any more is to be left soon
-SOON = [("grpc.keepalive_time_ms", 6000), ("grpc.keepalive_timeout_ms", 2000), ("grpc.min_reconnect_backoff_ms", 2000)]
+# of a list: a machine that says nothing any more is to be left soon, also by a client that only waits. (A broker takes it ill to be asked twice
+# in five seconds.)
+SOON = [
+    ("grpc.keepalive_time_ms", 6000),
+    ("grpc.keepalive_timeout_ms", 2000),
+    ("grpc.http2.max_pings_without_data", 0),
+    ("grpc.min_reconnect_backoff_ms", 2000),
+]
 
 
 class Brokers:
