@@ -113,7 +113,7 @@ class Etcd:
     def _calls(self, name: str, wish: Any, answer: Any, timeout: float) -> Any:
         if self._user and not self._token and name != "Auth/Authenticate":
             who = pb.AuthenticateRequest(name=self._user, password=self._password)
-            self._token = self._calls("Auth/Authenticate", who, pb.AuthenticateResponse, timeout).token
+            self._token = self._calls("Auth/Authenticate", who, pb.AuthenticateResponse, READING).token
         metadata = [("token", self._token)] if self._token else []
         with self._channel() as channel:
             if name == "Lease/LeaseKeepAlive":

@@ -96,8 +96,8 @@ class Leading:
         self.etcd.txn([], [put(self._own, self._mark.encode(), lease.ID)])
         self.lease, self._sure_until = lease.ID, now + lease.TTL
 
-    def _others(self) -> Others:
-        told = self.etcd.txn([], [get(self.key), get(self._bay), get(self._standby, behind(self._standby))])
+    def _others(self, timeout: float = SHORT) -> Others:
+        told = self.etcd.txn([], [get(self.key), get(self._bay), get(self._standby, behind(self._standby))], timeout=timeout)
         leads, led, stand_by = (list(it.response_range.kvs) for it in told.responses)
         rows = {it.key[len(self._standby) :].decode(errors="replace"): it.value.decode(errors="replace") for it in stand_by if it.key != self._own}
         last = led[0].value.decode(errors="replace") if led else ""
@@ -164,11 +164,12 @@ class Leading:
                 if not left:
                     return self._loses("its lease is over")
                 self._sure_until = begun + left
-                self.standing_by = tuple(sorted(self._others().standing_by)[:MOST_STANDING_BY])
+                self._over.wait(self.seconds / 8)
+                self.standing_by = tuple(sorted(self._others(self.seconds / 8).standing_by)[:MOST_STANDING_BY])
             except (NoAnswer, EtcdError):
                 self._over.wait(PAUSE)
                 continue
-            self._over.wait(self.seconds / 4)
+            self._over.wait(self.seconds / 8)
 
     def _loses(self, why: str) -> None:
         with self._lock:

@@ -13,9 +13,9 @@ from tests.brokers import free_port, until
 
 
 class Member:
-    def __init__(self, folder: str, *words: str, host: str = "127.0.0.1") -> None:
-        self.endpoint = f"{host}:{free_port()}"
-        client, peer = f"http://{self.endpoint}", f"http://{host}:{free_port()}"
+    def __init__(self, folder: str, *words: str, credentials: Any = None) -> None:
+        self.endpoint, self._credentials = f"127.0.0.1:{free_port()}", credentials
+        client, peer = f"http{'s' if credentials else ''}://{self.endpoint}", f"http://127.0.0.1:{free_port()}"
         self._words = ["etcd", "--name", "one", "--data-dir", f"{folder}/etcd", "--listen-client-urls", client, "--advertise-client-urls", client]
         self._words += ["--listen-peer-urls", peer, "--initial-advertise-peer-urls", peer, "--initial-cluster", f"one={peer}", *words]
         self.begin()
@@ -33,7 +33,7 @@ class Member:
             return None
 
     def client(self) -> Etcd:
-        return Etcd([self.endpoint])
+        return Etcd([self.endpoint], self._credentials)
 
     def ends(self) -> None:
         self.process.kill()

@@ -279,6 +279,8 @@ def main() -> int:
     if why := why_not():
         print(f"left out: {why}")
         return 0
+    # (what it made is taken away, however it ends)
+    signal.signal(signal.SIGTERM, lambda *_: sys.exit(1))
     with contextlib.ExitStack() as ends:
         folder = ends.enter_context(tempfile.TemporaryDirectory(dir=None if args.disk or not os.path.isdir("/dev/shm") else "/dev/shm"))
         net = Net(ends)
@@ -313,6 +315,8 @@ def tells(folder: str, bay: Any, day: Optional[Day], programs: Programs, fault: 
     talks, refused = (sum(int(it[at]) for it in counts) for at in (2, 4))
     if day is not None:
         day.tells()
+    whys = collections.Counter(line.partition(": ends: ")[2] for at in range(1, MACHINES + 1) for line in open(f"{folder}/broker-{at}.out", encoding="utf-8"))
+    print("brokers that ended by themselves:", ", ".join(f"{count} ({why.strip()})" for why, count in whys.items() if why) or "none")
     for name in sorted(os.listdir(folder)):
         if name.startswith("faults-") and os.path.getsize(f"{folder}/{name}") or fault and name.startswith("broker-"):
             with open(f"{folder}/{name}", encoding="utf-8", errors="replace") as file:

@@ -2,8 +2,10 @@
 
 from __future__ import annotations
 
+import argparse
 import json
 import os
+import shutil
 import signal
 import socket
 import subprocess
@@ -17,10 +19,11 @@ from unittest import mock
 import labrun_broker
 from labrun_broker import finding
 from labrun_broker.errors import Unreachable
-from labrun_broker.standby import listens_at
+from labrun_broker.etcd import EtcdError, NoAnswer, put
+from labrun_broker.standby import add_etcd, etcd_of, listens_at
 from labrun_broker.texts import addresses_of
 from tests.brokers import BAY, COMMAND, LIMIT, free_port, station, until
-from tests.etcds import OnEtcd
+from tests.etcds import Member, OnEtcd
 
 LEASE = 2
 
@@ -137,6 +140,57 @@ class Standing(OnEtcd):
         self.brokers[0].process.send_signal(signal.SIGCONT)
         self.assertEqual(self.brokers[0].process.wait(LIMIT), 74)
         self.brokers[0].says("labrun-broker: ends: ")
+
+
+@unittest.skipUnless(shutil.which("etcd") and shutil.which("etcdctl") and shutil.which("openssl"), "there is no etcd, or etcdctl, or openssl")
+class Secured(unittest.TestCase):
+    """An etcd with TLS both ways, and users."""
+
+    def test_certificates_and_a_user(self) -> None:
+        folder = self.enterContext(tempfile.TemporaryDirectory())
+        certificate, key, password = (f"{folder}/{name}" for name in ("certificate", "key", "password"))
+        words = ["openssl", "req", "-x509", "-newkey", "ec", "-pkeyopt", "ec_paramgen_curve:prime256v1", "-nodes", "-days", "2", "-subj", "/CN=labrun"]
+        subprocess.run([*words, "-addext", "subjectAltName=IP:127.0.0.1", "-keyout", key, "-out", certificate], check=True, capture_output=True)
+        for path, text in ((password, "of-labrun-alone\n"), (f"{folder}/wrong", "another\n")):
+            with open(path, "w", encoding="ascii") as file:
+                file.write(text)
+        tls = ["--etcd-ca", certificate, "--etcd-cert", certificate, "--etcd-key", key]
+        parser = argparse.ArgumentParser()
+        add_etcd(parser)
+        credentials = etcd_of(parser.parse_args(["--etcd", "127.0.0.1:1", *tls]))._credentials
+        # (by the certificate's name nobody is a user)
+        its = ["--cert-file", certificate, "--key-file", key, "--trusted-ca-file", certificate, "--client-cert-auth", "--bcrypt-cost", "4"]
+        member = Member(folder, *its, credentials=credentials)
+        self.addCleanup(member.ends)
+        ctl = ["etcdctl", f"--endpoints=https://{member.endpoint}", f"--cacert={certificate}", f"--cert={certificate}", f"--key={key}"]
+        for line in (
+            "user add root:root", "user grant-role root root", "role add labrun", "role grant-permission labrun --prefix=true readwrite /labrun/",
+            "user add broker --interactive=false", "user grant-role broker labrun", "auth enable",
+        ):  # fmt: skip
+            given = "of-labrun-alone\n" if "interactive" in line else None
+            done = subprocess.run([*ctl, *line.split()], env={**os.environ, "ETCDCTL_API": "3"}, input=given, capture_output=True, text=True, timeout=LIMIT)
+            self.assertEqual(done.returncode, 0, done.stderr)
+
+        def asks(*words: str, key: bytes = b"/labrun/north/places") -> None:
+            one = etcd_of(parser.parse_args(["--etcd", member.endpoint, *words]))
+            self.addCleanup(one.close)
+            one.txn([], [put(key, b"{}")])
+            self.assertEqual([it.value for it in one.all_of(key)], [b"{}"])
+            lease = one.grant(5)
+            self.assertEqual(one.keeps_alive(lease.ID, 2.0), 5)
+            one.revoke(lease.ID)
+
+        user = ["--etcd-user", "broker", "--etcd-password-file"]
+        asks(*tls, *user, password)
+        for words, fault, text in (
+            ((*tls, *user, f"{folder}/wrong"), EtcdError, "authentication failed"),
+            (("--etcd-ca", certificate, *user, password), NoAnswer, ""),
+            (user + [password], NoAnswer, ""),
+        ):
+            with self.subTest(words), self.assertRaisesRegex(fault, text):
+                asks(*words)
+        with self.assertRaisesRegex(EtcdError, "permission denied"):
+            asks(*tls, *user, password, key=b"another's key")
 
 
 class Lists(unittest.TestCase):
