@@ -42,6 +42,10 @@ def behind(prefix: bytes) -> bytes:
     return prefix[:-1] + bytes([prefix[-1] + 1])
 
 
+# gRPC shuts itself down with the last channel of a process, and may hang in that: so one is always there, which nobody asks by
+_always_there: list[Any] = []
+
+
 class Channel:
     """It is closed once it was given up, and nobody asks by it any more. (gRPC doesn't like it earlier.)"""
 
@@ -56,6 +60,8 @@ class Etcd:
         self._at, self._token = 0, ""
         self._channels: dict[str, Channel] = {}
         self._lock = threading.Lock()
+        if not _always_there:
+            _always_there.append(grpc.insecure_channel("127.0.0.1:1", OPTIONS))
 
     def txn(self, compare: list[Any], success: list[Any], failure: Iterable[Any] = (), timeout: float = SHORT) -> Any:
         return self._asks("KV/Txn", pb.TxnRequest(compare=compare, success=success, failure=failure), pb.TxnResponse, timeout)
@@ -99,16 +105,17 @@ class Etcd:
             if code is grpc.StatusCode.RESOURCE_EXHAUSTED and "space exceeded" in text:
                 raise EtcdError(errno.ENOSPC, "etcd is full") from None
             if code is None or code.name in AGAIN or "too many requests" in text:
-                self._goes_on(at)
+                self._goes_on(at, code is grpc.StatusCode.UNAVAILABLE)
                 raise NoAnswer(f"{self.endpoints[at % len(self.endpoints)]}: {'no answer' if code is None else text or code.name}") from None
             raise EtcdError(errno.EIO, f"etcd says no: {text}") from None
 
-    def _goes_on(self, at: int) -> None:
+    def _goes_on(self, at: int, is_cut: bool) -> None:
         """To the next endpoint, unless another thread has by now. A channel that couldn't connect would go on only while it is asked
-        something, and answers at once that it can't: so it is made anew."""
+        something, and answers at once that it can't: so it is made anew. One that is only slow is kept."""
         if self._at == at:
             self._at += 1
-            self._gives_up(self.endpoints[at % len(self.endpoints)])
+            if is_cut:
+                self._gives_up(self.endpoints[at % len(self.endpoints)])
 
     def _calls(self, name: str, wish: Any, answer: Any, timeout: float) -> Any:
         if self._user and not self._token and name != "Auth/Authenticate":

@@ -67,7 +67,7 @@ class Leading:
     # ---- to lead
 
     def leads(self, says: Callable[[str], None]) -> bool:
-        """Returns once this broker leads; False if it was closed before. EtcdError says why that can't be."""
+        """Returns once this broker leads; False if it was closed before."""
         while not self._over.is_set():
             try:
                 self._stands_by()
@@ -76,6 +76,11 @@ class Leading:
                     return True
             except NoAnswer as fault:
                 self._says(says, f"stands by: etcd doesn't answer ({fault})")
+            except EtcdError as fault:
+                # (the lease may be over, because etcd was slow: then it takes another)
+                self._sure_until = 0.0
+                if "lease not found" not in str(fault):
+                    self._says(says, f"stands by: {fault.strerror}")
             self._over.wait(LOOKS)
         return False
 
@@ -87,9 +92,9 @@ class Leading:
     def _stands_by(self) -> None:
         """It has a lease, and all see that it is there."""
         now = clock()
-        if now < self._sure_until - self.seconds / 2:
+        if now < self._sure_until - 3 * self.seconds / 4:
             return
-        if now < self._sure_until and (left := self.etcd.keeps_alive(self.lease, self.seconds / 4)):
+        if now < self._sure_until and (left := self.etcd.keeps_alive(self.lease, self.seconds / 2)):
             self._sure_until = now + left
             return
         lease = self.etcd.grant(self.seconds)
@@ -136,12 +141,6 @@ class Leading:
                 if clock() > begun + self.seconds:
                     raise
                 self._over.wait(PAUSE)
-            except EtcdError as fault:
-                # (while nobody looked, the lease came to its end)
-                if "lease not found" in str(fault):
-                    self._sure_until = 0.0
-                    return False
-                raise
         if told.succeeded:
             self.fence = told.header.revision
             return True
@@ -160,7 +159,7 @@ class Leading:
             if begun >= self._sure_until:
                 return self._loses(f"etcd hasn't answered for {self.seconds} s")
             try:
-                left = self.etcd.keeps_alive(self.lease, max(0.05, min(self.seconds / 4, self._sure_until - begun)))
+                left = self.etcd.keeps_alive(self.lease, max(0.05, min(self.seconds / 2, self._sure_until - begun)))
                 if not left:
                     return self._loses("its lease is over")
                 self._sure_until = begun + left

@@ -272,7 +272,7 @@ def main() -> int:
     parser = argparse.ArgumentParser(usage=__doc__)
     parser.add_argument("faults", type=int, nargs="?", default=100)
     parser.add_argument("--seed", type=int, default=1)
-    parser.add_argument("--lease", type=int, default=2)
+    parser.add_argument("--lease", type=int, default=5)
     parser.add_argument("--only", choices=tuple(KINDS))
     parser.add_argument("--disk", action="store_true")
     args = parser.parse_args()

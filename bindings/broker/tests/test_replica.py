@@ -221,6 +221,17 @@ class Next(Brokers):
         self.assertFalse(await asyncio.wait_for(leads, 5))
         self.assertEqual(self.values("standby/"), {})
 
+    async def test_one_whose_lease_is_over(self) -> None:
+        """It stood by for long without an answer: it takes another lease."""
+        first, second = await self.broker("first"), Broker(self, "second")
+        leads = asyncio.create_task(asyncio.to_thread(second.leading.leads, second.said.append))
+        await asyncio.sleep(0.6)
+        self.etcd.revoke(second.leading.lease)
+        await asyncio.sleep(LEASE)
+        self.assertEqual(list(self.values("standby/")), ["standby/second"])
+        await first.keeping.close()
+        self.assertTrue(await asyncio.wait_for(leads, 10))
+
     async def test_another_bays_file(self) -> None:
         """It is told of at once, and doesn't lead while a broker is there that has the file of the one that led last."""
         first = await self.broker("first")
