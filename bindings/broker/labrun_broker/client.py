@@ -23,9 +23,11 @@ import labrun
 
 from . import broker_pb2 as pb
 from .errors import BadWish, why_lost
+from .finding import Brokers
 from .held import Held
 from .quick import DEFAULT, Quick, user
 from .stream import Stream
+from .texts import addresses_of
 from .work import Result, Work, loop_of_this_process
 
 # a question that a broker doesn't answer for so long won't be answered
@@ -61,21 +63,11 @@ class Lab:
         atexit.register(self._at_exit)
 
     async def _open(self) -> None:
-        if self._certificate is None or self.address.startswith("unix:"):
-            # (there it is for guards alone)
-            self._channel = grpc.aio.insecure_channel(self.address, OPTIONS)
-        else:
-            self._channel = grpc.aio.secure_channel(self.address, grpc.ssl_channel_credentials(self._certificate), OPTIONS)
-        kinds = {
-            "Status": (self._channel.unary_unary, pb.StatusWish, pb.Bay),
-            "Watch": (self._channel.unary_stream, pb.StatusWish, pb.Bay),
-            "Guard": (self._channel.unary_stream, pb.GuardWish, pb.Holders),
-            "Release": (self._channel.unary_unary, pb.ReleaseWish, pb.Released),
-            "Apply": (self._channel.unary_unary, pb.ApplyWish, pb.Applied),
-            "Outage": (self._channel.unary_unary, pb.OutageWish, pb.Noted),
-            "Hold": (self._channel.stream_stream, pb.Ask, pb.Told),
-        }
-        self._methods = {name: kind(SERVICE + name, wish.SerializeToString, answer.FromString) for name, (kind, wish, answer) in kinds.items()}
+        self._brokers = Brokers(addresses_of(self.address), self._certificate, OPTIONS, methods_of)
+
+    @property
+    def _methods(self) -> dict[str, Any]:
+        return self._brokers.methods
 
     def _run(self, work: Coroutine[Any, Any, Result]) -> Result:
         """Waits for work on the lab's loop; an interrupt cancels it, and waits for that."""
@@ -136,6 +128,7 @@ class Lab:
 
     async def _watch(self) -> Any:
         self._may_go_on()
+        await self._brokers.looks(self._brokers.patience)
         return self._methods["Watch"](pb.StatusWish(), metadata=self._metadata)
 
     async def _reads(self, call: Any) -> Any:
@@ -172,6 +165,7 @@ class Lab:
 
     async def _unary(self, name: str, wish: Any, within: Optional[float] = ANSWER) -> Any:
         self._may_go_on()
+        await self._brokers.looks(self._brokers.patience)
         try:
             answer = await self._methods[name](wish, metadata=self._metadata, timeout=within)
             self._was_there = True
@@ -213,7 +207,7 @@ class Lab:
             stream.cancel()
         with contextlib.suppress(builtins.TimeoutError):
             async with asyncio.timeout(CLOSING):
-                await self._channel.close()
+                await self._brokers.close()
         if fault is not None:
             raise fault
 
@@ -225,6 +219,19 @@ class Lab:
 
     def __exit__(self, kind: Optional[type[BaseException]], fault: Optional[BaseException], at: Optional[TracebackType]) -> None:
         self.close()
+
+
+def methods_of(channel: Any) -> dict[str, Any]:
+    kinds = {
+        "Status": (channel.unary_unary, pb.StatusWish, pb.Bay),
+        "Watch": (channel.unary_stream, pb.StatusWish, pb.Bay),
+        "Guard": (channel.unary_stream, pb.GuardWish, pb.Holders),
+        "Release": (channel.unary_unary, pb.ReleaseWish, pb.Released),
+        "Apply": (channel.unary_unary, pb.ApplyWish, pb.Applied),
+        "Outage": (channel.unary_unary, pb.OutageWish, pb.Noted),
+        "Hold": (channel.stream_stream, pb.Ask, pb.Told),
+    }
+    return {name: kind(SERVICE + name, wish.SerializeToString, answer.FromString) for name, (kind, wish, answer) in kinds.items()}
 
 
 def _as_dict(message: Any) -> dict[str, Any]:
@@ -244,7 +251,7 @@ def _as_dict(message: Any) -> dict[str, Any]:
 def connect(
     address: Optional[str] = None, station: str = "", token_file: Optional[str] = None, certificate_file: Optional[str] = None, by: Optional[str] = None
 ) -> Lab:
-    """The bay of the broker at an address, `unix:PATH` or `HOST:PORT`; without one, that of LABRUN_BROKER, or the usual socket. `station` is
+    """The bay of the broker at an address, `unix:PATH` or `HOST:PORT`, or at one of several, `HOST:PORT,HOST:PORT`; without one, that of LABRUN_BROKER, or the usual socket. `station` is
     whom the program is; without it each session is a guest's. A broker of another machine wants its token, and its certificate to know it by. `by`
     is what people read of who holds: `ann@bench-3 4711 measure.py` if nothing is said."""
     token = certificate = None

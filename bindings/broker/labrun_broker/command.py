@@ -55,7 +55,7 @@ def lines_of(status: dict[str, Any]) -> list[str]:
         held_for = span(at - one["since"]) if one["holder"] else ""
         rows.append([one["name"], one["holder"] or "-", held_for, " ".join(one["waiting"]), plain(one.get("label", ""))])
     outs = [out_of(it, at) for it in status["instruments"] if it.get("out") is not None]
-    lines = [f"bay {plain(status['bay'])}, {counted(status['sessions'], 'session')} since {since}", *disk_of(status), *outs, "", *aligned(rows), ""]
+    lines = [f"bay {plain(status['bay'])}, {counted(status['sessions'], 'session')} since {since}", *brokers_of(status), *disk_of(status), *outs, "", *aligned(rows), ""]
     rows = [["STATION", "", "FOR", "INSTRUMENTS", "BY"]]
     for one in status["stations"]:
         if one["state"] != "idle":
@@ -70,6 +70,13 @@ def lines_of(status: dict[str, Any]) -> list[str]:
 def out_of(it: dict[str, Any], at: float) -> str:
     why = f": {plain(it['out'])}" if it["out"] else ""
     return f"{it['name']} is out of order for {span(at - it['out_since'])}{why} (says {plain(it['out_by'])})"
+
+
+def brokers_of(status: dict[str, Any]) -> list[str]:
+    """Who leads, of brokers that stand by for one another."""
+    if not status["leads"]:
+        return []
+    return [plain(f"{status['leads']} leads, and {', '.join(status['stands_by']) or 'no other'} stands by")]
 
 
 def disk_of(status: dict[str, Any]) -> list[str]:

@@ -11,7 +11,7 @@ from labrun import JournalError, LabrunError
 from labrun.store import FileStore, Store
 
 from .places import Places, places_of
-from .records import Record, Records
+from .records import Record, Records, Written
 from .sessions import recent_records
 
 JOURNAL, PLACES, RECORDS = "bay.journal", "bay.json", "records.jsonl"
@@ -24,7 +24,9 @@ class State(Protocol):
     """What of a bay outlives its broker."""
 
     store: Store
-    records: Records
+    records: Written
+    # whether another broker may have taken it over without this one's knowing
+    lets_wait: bool
 
     def places(self, is_needed: bool) -> Places:
         """As they were written last. If they never were: empty ones, or a JournalError if they are needed."""
@@ -35,11 +37,19 @@ class State(Protocol):
     def recent(self) -> list[Record]:
         """The last records that there are, as many as a broker that begins has to know."""
 
+    async def fence(self) -> None:
+        """Returns once it is known that no other had, at some moment since this was called. If one had, it never returns."""
+
+    def brokers(self) -> tuple[str, tuple[str, ...]]:
+        """Who leads, and who stands by; nothing if no other can."""
+
     def close(self) -> None: ...
 
 
 class Folder:
     """A folder of this process alone. LabrunError and OSError say why it can't be."""
+
+    lets_wait = False
 
     def __init__(self, path: str, syncs: bool) -> None:
         self.path, self._syncs = path, syncs
@@ -53,7 +63,7 @@ class Folder:
         except JournalError:
             raise LabrunError(f"{path}: another broker keeps its state there") from None
         try:
-            self.records = Records(f"{path}/{RECORDS}", syncs)
+            self.records: Written = Records(f"{path}/{RECORDS}", syncs)
         except BaseException:
             self.store.close()
             raise
@@ -87,6 +97,11 @@ class Folder:
 
     def recent(self) -> list[Record]:
         return recent_records(self.path)
+
+    async def fence(self) -> None: ...
+
+    def brokers(self) -> tuple[str, tuple[str, ...]]:
+        return "", ()
 
     def close(self) -> None:
         self.store.close()

@@ -180,7 +180,8 @@ class Held:
     async def _comes_to_hold(self, loop: asyncio.AbstractEventLoop, until: Optional[float]) -> bool:
         """Whether it holds; if not, the stream ended, and it is worth another try."""
         lab = self.lab
-        is_new = not lab._idle
+        if is_new := not lab._idle:
+            await lab._brokers.looks()
         stream = Stream(lab) if is_new else lab._idle.pop()
         stream.session = self
         try:
@@ -197,9 +198,12 @@ class Held:
         except Lost as lost:
             self._raises_taken()
             # (one that was idle may be of a broker that is gone)
-            is_over = self._lost_at is not None and loop.time() > self._lost_at + GRACE or until is not None and loop.time() > until
-            if is_new and (lost.code not in AGAIN or not lab._was_there or is_over):
+            patience = GRACE if lab._was_there else lab._brokers.patience
+            is_over = self._lost_at is not None and loop.time() > self._lost_at + patience or until is not None and loop.time() > until
+            if is_new and (lost.code not in AGAIN or not patience or is_over):
                 raise lab._why_lost(lost.code, str(lost)) from None
+            if is_new and self._lost_at is None and lab._brokers.is_list:
+                self._waits_for(f"no broker of {lab.address} answers")
             if is_new:
                 await asyncio.sleep(PAUSE)
             return False
@@ -293,6 +297,7 @@ class Held:
         owner waits who asked for something."""
         wish = pb.Wish(ticket=self._wish.ticket, by=self._wish.by, comes_back=True, pings=True, wants_warning=self._wish.wants_warning)
         while True:
+            await self.lab._brokers.looks()
             stream, sent = Stream(self.lab), clock()
             stream.session = self
             try:

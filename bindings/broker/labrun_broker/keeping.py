@@ -22,6 +22,7 @@ from .folder import Folder, State
 from .journals import notes_of
 from .opening import Opened
 from .records import News, Record
+from .settling import Settling, settled
 from .shell import Shell
 from .standing import Owner, Session, Standings, free_label
 from .taking_up import carries, takes_up
@@ -65,6 +66,7 @@ class Keeping:
         self._news.file = None if it.state is None else it.state.records
         store = None if it.state is None else it.state.store
         self._shell = Shell(it.machine, store, it.first, self._is_told, self._news.sync, self._says_of_the_disk)
+        self.settling = Settling(it.state, self._shell)
         # (who only waited is in the records alone)
         asked = (record["session"] for record in it.recent if record.get("session"))
         self._next, self.opened_at = max(1, it.machine.next_number(), 1 + max(asked, default=0)), self._shell.now()
@@ -106,6 +108,7 @@ class Keeping:
 
     # ---- sessions
 
+    @settled
     async def hold(self, wish: Wish, owner: Owner, waits: Optional[Callable[[Session], None]] = None) -> Session:
         """Returns the session once it holds what the client wishes, and that is on the disk. Whoever is cancelled meanwhile leaves. `waits`
         is called with the session once there is one."""
@@ -113,6 +116,8 @@ class Keeping:
             wishes.check_form(wish, self.bay)
             key = wishes.owner_of(wish.ticket)
             await self._shell.turns.may_go_on()
+            if wish.comes_back or key in self._by_key:
+                await self.settling.leads()
             held = await self._session_of(key)
             if held is not None and held.holds:
                 return self._comes_back(held, wish, owner)
@@ -216,7 +221,8 @@ class Keeping:
         if not session.told.done():
             session.told.set_exception(Ended("TakenAway", UNTOLD))
         elif owner is not None:
-            owner.taken(f"{session.name}: the session was taken away {what}" + ("" if how == GRACE else f": {held}"))
+            text = f"{session.name}: the session was taken away {what}" + ("" if how == GRACE else f": {held}")
+            self.settling.tells(owner.taken, text)
 
     def _leaves(self, session: Session, fault: BaseException) -> None:
         """The client waits no longer, or can't be told any more that it holds."""
@@ -244,6 +250,7 @@ class Keeping:
         if session.owner is not owner or not session.holds:
             raise NotHeld("the session is over, or another connection came for it")
 
+    @settled
     async def let_go(self, session: Session, owner: Owner, failed: Optional[str] = None) -> None:
         """Who waits comes to hold, and is told once both are on the disk. `failed` is what the client says of work that failed."""
         await self._shell.turns.may_go_on()
@@ -259,7 +266,9 @@ class Keeping:
         self._shell.pump()
         self._news.write()
         await self._shell.turns.stands()
+        await self.settling.kept()
 
+    @settled
     async def note(self, session: Session, owner: Owner, text: str) -> None:
         """It is on the disk then."""
         await self._shell.turns.may_go_on()
@@ -279,6 +288,7 @@ class Keeping:
             position = self._shell.machine.note(session.number, it)
         return position
 
+    @settled
     async def release(self, station: str, by: str, number: int = 0) -> tuple[str, ...]:
         """Ends the session that a station holds, for its owner; its instruments. With its number, no other session of the station."""
         await self._shell.turns.may_go_on()
@@ -386,7 +396,8 @@ class Keeping:
         await self._shell.durable()
 
     def status(self) -> dict[str, Any]:
-        return Standings(self).status()
+        leads, stands_by = ("", ()) if self._opened.state is None else self._opened.state.brokers()
+        return {**Standings(self).status(), "leads": leads, "stands_by": list(stands_by)}
 
     def disk_fault(self) -> tuple[str, Optional[int]]:
         """What is wrong with the disk, mostly nothing, and since when."""

@@ -7,7 +7,7 @@ import asyncio
 import contextlib
 import json
 import os
-from typing import Any, AsyncIterator, Optional
+from typing import Any, AsyncIterator, Optional, Protocol
 
 Record = dict[str, Any]
 
@@ -15,6 +15,18 @@ KEPT_IN_MEMORY = 1000
 AGAIN = 0.2  # seconds after which what couldn't be written is tried again
 MOST_WAITING = 1 << 24  # bytes that can't be written; what comes then is lost but for what the journal has
 LINE = json.JSONEncoder(separators=(",", ":"))
+
+
+class Written(Protocol):
+    """Where records are kept."""
+
+    def add(self, record: Record) -> None: ...
+
+    def write(self) -> None: ...
+
+    def sync(self) -> None: ...
+
+    def close(self) -> None: ...
 
 
 class Records:
@@ -90,7 +102,7 @@ class News:
 
     def __init__(self) -> None:
         self.history: list[Record] = []
-        self.file: Optional[Records] = None
+        self.file: Optional[Written] = None
         self._watchers: set[asyncio.Event] = set()
 
     def add(self, record: Record, **more: Any) -> None:

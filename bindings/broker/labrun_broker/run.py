@@ -13,7 +13,7 @@ from typing import TYPE_CHECKING, Callable, Iterator, Optional, TypeVar, Union
 
 from .family import Family, adopting, ends
 from .quick import DEFAULT, Absent, Odd, Quick, Silent, Wish, user
-from .texts import last, plain, seconds
+from .texts import addresses_of, last, plain, seconds
 from .words import CANT_RUN, NOT_FOUND, PROGRAM, TAKEN, USAGE, add_client, lab_of, say
 
 if TYPE_CHECKING:
@@ -152,7 +152,7 @@ def holds(args: argparse.Namespace, wish: Wish, waits: Waits, signals: Signals, 
     def left() -> Optional[float]:
         return wish.timeout and max(0.0, wish.timeout + began - time.monotonic())
 
-    if address.startswith("unix:") and not address.startswith("unix://"):
+    if address.startswith("unix:") and not address.startswith("unix://") and len(addresses_of(address)) == 1:
         tried: list[Quick] = []
 
         def quickly() -> Quick:

@@ -9,7 +9,6 @@ import dataclasses
 import os
 import resource
 import signal
-import socket
 import sys
 from typing import TYPE_CHECKING, Any, Awaitable, Callable
 
@@ -17,8 +16,9 @@ import labrun
 
 from .bay import BadAddress, read_bay
 from .quick import DEFAULT
+from .standby import add_etcd, until_it_leads
 from .texts import counted, mebibytes, plain, seconds
-from .words import USAGE, say
+from .words import USAGE, say, tell_systemd
 
 if TYPE_CHECKING:
     from .door import Door
@@ -45,6 +45,7 @@ def add_serve(parser: argparse.ArgumentParser) -> None:
     parser.add_argument("--tls-certificate", metavar="FILE", help="for other machines: the broker's certificate")
     parser.add_argument("--tls-key", metavar="FILE", help="its key")
     parser.add_argument("--token-file", metavar="FILE", help="what clients have to know that come by the network")
+    add_etcd(parser)
     parser.add_argument("--sync", choices=("data", "none"), default="data", help="none: what is written outlives the broker, and may not the machine")
 
 
@@ -56,6 +57,7 @@ async def serve(args: argparse.Namespace) -> int:
     # (what only the broker needs: a client begins sooner without)
     from . import door, service
     from .entrance import Entrance
+    from .folder import Folder
     from .keeping import Keeping
 
     bay = read_bay(args.bay)
@@ -70,7 +72,13 @@ async def serve(args: argparse.Namespace) -> int:
     its_door.check()
     by_http = dataclasses.replace(its_door, addresses=tuple(args.http))
     by_http.check()
-    keeping = Keeping(bay, args.state, args.grace, args.sync == "data")
+    end = the_end()
+    state, opens = args.state, None
+    if args.etcd is not None:
+        state, opens = await until_it_leads(args, bay, its_door, end)
+        if opens is None:
+            return 0
+    keeping = Keeping(bay, state, args.grace, args.sync == "data", opens or Folder)
     keeping.most_bytes = args.journal_size
     # (at first stands which bay it is, and where)
     begins = list[str]()
@@ -89,9 +97,10 @@ async def serve(args: argparse.Namespace) -> int:
         for it in (*keeping.complaints, *begins):
             say(plain(it))
         keeping.says = lambda text: say(plain(text)[:MOST_TOLD]) if door.is_read() else None
-        tell_systemd("READY=1")
+        tell_systemd("READY=1\nSTATUS=")
         asyncio.get_running_loop().add_signal_handler(signal.SIGHUP, lambda: hears(keeping, args.bay))
-        await until_the_end()
+        await end.wait()
+        tell_systemd("STOPPING=1")
         return 0
     finally:
         await ends.aclose()
@@ -143,15 +152,9 @@ async def shown(option: str, serves: Callable[..., Awaitable[Any]], *given: Any)
         raise BadAddress(f"{option} {fault}") from None
 
 
-async def until_the_end() -> None:
+def the_end() -> asyncio.Event:
+    """Somebody ends the broker."""
     loop, end = asyncio.get_running_loop(), asyncio.Event()
     for number in (signal.SIGINT, signal.SIGTERM):
         loop.add_signal_handler(number, end.set)
-    await end.wait()
-    tell_systemd("STOPPING=1")
-
-
-def tell_systemd(text: str) -> None:
-    if path := os.environ.get("NOTIFY_SOCKET"):
-        with contextlib.suppress(OSError), socket.socket(socket.AF_UNIX, socket.SOCK_DGRAM) as to:
-            to.sendto(text.encode(), f"\0{path[1:]}" if path.startswith("@") else path)
+    return end

@@ -96,6 +96,8 @@ class Client:
 
     async def _ping(self, asked: Any) -> None:
         holds = self.session is not None and self.keeping.heard(self.session, self, True)
+        if self.session is not None:
+            await self.keeping.settling.leads()
         await self._tell(pb.Told(pong=pb.Pong(at=asked.at, holds=holds)))
 
     async def _tell(self, told: Any) -> None:
@@ -182,6 +184,7 @@ class Client:
         waiting.cancel()
         await asyncio.wait({waiting})
         self._waiting = None
+        await self.keeping.settling.kept()
         await self._tell(GONE)
 
     def _held(self) -> Session:

@@ -63,3 +63,9 @@ def span_of(text: str) -> Optional[float]:
     """In seconds; None: it is none."""
     found = re.fullmatch(r"(\d{1,9}(?:\.\d{1,3})?)\s*(s|m|min|h|d)?", text)
     return float(found[1]) * {None: 1, "s": 1, "m": 60, "min": 60, "h": 3600, "d": 86400}[found[2]] if found else None
+
+
+def addresses_of(text: str) -> tuple[str, ...]:
+    """Of one broker, or of several: those of `a:7443,b:7443`."""
+    parts = tuple(it.strip() for it in text.split(","))
+    return parts if all(re.fullmatch(r"unix:.+|[^/]+:\d+", it) for it in parts) else (text,)

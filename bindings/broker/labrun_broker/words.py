@@ -3,7 +3,9 @@
 from __future__ import annotations
 
 import argparse
+import contextlib
 import os
+import socket
 import sys
 from typing import TYPE_CHECKING, Any, Callable, NamedTuple
 
@@ -46,8 +48,14 @@ def say(text: str) -> None:
     print(f"{PROGRAM}: {text}", file=sys.stderr, flush=True)
 
 
+def tell_systemd(text: str) -> None:
+    if path := os.environ.get("NOTIFY_SOCKET"):
+        with contextlib.suppress(OSError), socket.socket(socket.AF_UNIX, socket.SOCK_DGRAM) as to:
+            to.sendto(text.encode(), f"\0{path[1:]}" if path.startswith("@") else path)
+
+
 def add_client(parser: argparse.ArgumentParser) -> None:
-    parser.add_argument("--broker", metavar="ADDR", help=f"where the broker listens; without, LABRUN_BROKER says it, or it is {DEFAULT}")
+    parser.add_argument("--broker", metavar="ADDR", help=f"where the broker listens, or several, with commas between; without, LABRUN_BROKER says it, or it is {DEFAULT}")
     parser.add_argument("--token-file", metavar="FILE", help="the token, for a broker on another machine")
     parser.add_argument("--certificate", metavar="FILE", help="the certificate to know that broker by, and guards; of several, one behind the other")
 

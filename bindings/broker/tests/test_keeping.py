@@ -476,7 +476,7 @@ class Jumps(OnFolder):
 class Memory:
     """A bay's state that is no folder: all that another store has to be."""
 
-    path = "memory"
+    path, lets_wait = "memory", False
 
     def __init__(self) -> None:
         self.store, self.records, self._text, self._places, self.told = self, self, b"", Places(), list[dict[str, Any]]()
@@ -499,6 +499,9 @@ class Memory:
     def sync(self) -> None: ...
 
     def close(self) -> None: ...
+
+    def brokers(self) -> tuple[str, tuple[str, ...]]:
+        return "", ()
 
     def add(self, record: dict[str, Any]) -> None:
         self.told.append(record)

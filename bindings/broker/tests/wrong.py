@@ -138,6 +138,37 @@ WRONG = {
     "a release of whatever the station holds by now": Wrong(
         "test_keeping.Gone.test_released_by_an_operator", "keeping.py", (("if number and session.number != number:", "if number and session.number < number:"),)
     ),
+    "a leader that doesn't look whether it still leads": Wrong(
+        "test_replica.Deposed.test_it_grants_nothing", "leading.py", (("[is_of(self.key, self.fence)], what,", "[], what,"),)
+    ),
+    "one that comes back without a fence": Wrong(
+        "test_replica.Deposed.test_nor_says_that_one_is_back", "keeping.py", (("                await self.settling.leads()\n", "                pass\n"),)
+    ),
+    "a fault without a fence": Wrong("test_replica.Deposed.test_nor_refuses", "settling.py", (("            await keeping.settling.answers()\n", ""),)),
+    "a let-go that etcd doesn't have": Wrong(
+        "test_replica.Deposed.test_nor_lets_go", "keeping.py", (("        await self.settling.kept()\n", ""),)
+    ),
+    "taken away before it is kept": Wrong(
+        "test_replica.Deposed.test_nor_takes_away", "keeping.py", (("self.settling.tells(owner.taken, text)", "owner.taken(text)"),)
+    ),
+    "a word of a client answered without a fence": Wrong(
+        "test_replica.Deposed.test_nor_that_a_client_is_heard", "service.py", (("            await self.keeping.settling.leads()\n", "            pass\n"),)
+    ),
+    "a batch that isn't tried again as it was": Wrong(
+        "test_replica.Stores.test_full", "replica.py", (("        if self._batch is None:\n", "        if True:\n"),)
+    ),
+    "what is handed out again is there twice": Wrong(
+        "test_replica.Stores.test_full", "replica.py", (("        self._known, self._is_read = known, True\n", "        self._known, self._is_read = 0, True\n"),)
+    ),
+    "a standby that leads by another file": Wrong(
+        "test_replica.Next.test_another_bays_file", "leading.py", (("is_other = others.led not in (\"\", self._mark)", "is_other = False"),)
+    ),
+    "one that isn't answered for long": Wrong(
+        "test_replica.Deposed.test_its_clock", "leading.py", (("            if begun >= self._sure_until:\n", "            if False:\n"),)
+    ),
+    "a fence that began before it was asked for": Wrong(
+        "test_replica.Fences.test_it_begins_after_the_question", "replica.py", (("        self._next = None\n        fault", "        fault"), ("loop.call_soon_threadsafe(_is_answered, one, fault)", "self._next = None\n            loop.call_soon_threadsafe(_is_answered, one, fault)"),)
+    ),
     "one that waits is told once": Wrong("test_service.Clients.test_for_whom_one_waits", "service.py", ((" or now > said_at + AGAIN", ""),)),
     "one that waits isn't told that the client is gone": Wrong("test_service.Clients.test_whose_client_is_gone", "standing.py", ((", why.count(GONE),", ","),)),
     "one that waits isn't told that the disk doesn't keep it any more": Wrong(

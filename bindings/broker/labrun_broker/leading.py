@@ -1,0 +1,212 @@
+"""That one broker of a bay leads, of several at one etcd, and the others stand by.
+
+A broker leads by a key that only one can make, and that goes with its lease. The key's create revision is the *fence*: each of its
+transactions is done only if the key is still the one that it made. So one that was stopped, or cut off, and doesn't know that another leads
+by now, changes nothing. That alone makes it safe; the clock only decides when it gives up.
+
+    /labrun/BAY/leader          where the leader listens
+    /labrun/BAY/bay             which file the bay has by the broker that led last
+    /labrun/BAY/standby/NAME    the same of one that stands by, as long as its lease"""
+
+from __future__ import annotations
+
+import contextlib
+import hashlib
+import json
+import threading
+from dataclasses import asdict, dataclass
+from typing import Any, Callable, Optional
+
+from .bay import Bay
+from .etcd import SHORT, Etcd, EtcdError, NoAnswer, behind, delete, get, is_of, put
+from .work import clock
+
+LOOKS, PAUSE = 0.25, 0.05  # seconds: so often one that stands by looks; after so long what wasn't answered is asked again
+MOST_STANDING_BY = 8  # that are told of
+
+
+class Deposed(Exception):
+    """Another broker leads, or may."""
+
+
+@dataclass(frozen=True)
+class Others:
+    """What there is of a bay at one moment: who leads, since which revision, and by which lease; the mark of the file that led last; and who
+    stands by, each with the mark of its file."""
+
+    leader: str
+    fence: int
+    lease: int
+    led: str
+    standing_by: dict[str, str]
+
+
+def file_mark(bay: Bay) -> str:
+    """By which two brokers see whether they have the same bay. (Comments, and the order of keys, don't matter.)"""
+    return hashlib.sha256(json.dumps(asdict(bay), sort_keys=True).encode()).hexdigest()[:16]
+
+
+class Leading:
+    """`lost` is called, once and on any thread, with why this broker doesn't lead any more. Whoever waits for something of it then waits until
+    `close`, and gets Deposed: so nobody is answered."""
+
+    def __init__(self, etcd: Etcd, bay: Bay, name: str, seconds: int, lost: Callable[[str], None]) -> None:
+        self.etcd, self.name, self.seconds, self._lost = etcd, name, seconds, lost
+        self.prefix, self._mark = f"/labrun/{bay.name}/".encode(), file_mark(bay)
+        self.key, self._bay, self._standby = (self.prefix + it for it in (b"leader", b"bay", b"standby/"))
+        self._own = self._standby + name.encode()
+        self.fence = self.lease = 0
+        self.standing_by: tuple[str, ...] = ()
+        # until when the lease is there for sure
+        self._sure_until = 0.0
+        self._said = ""
+        self._free_since: Optional[float] = None
+        self._over, self._lock = threading.Event(), threading.Lock()
+        self.is_lost = False
+
+    # ---- to lead
+
+    def leads(self, says: Callable[[str], None]) -> bool:
+        """Returns once this broker leads; False if it was closed before."""
+        while not self._over.is_set():
+            try:
+                self._stands_by()
+                if self._may_lead(self._others(), says) and self._makes_key():
+                    threading.Thread(target=self._keeps, name="lease", daemon=True).start()
+                    return True
+            except NoAnswer as fault:
+                self._says(says, f"stands by: etcd doesn't answer ({fault})")
+            except EtcdError as fault:
+                # (the lease may be over, because etcd was slow: then it takes another)
+                self._sure_until = 0.0
+                if "lease not found" not in str(fault):
+                    self._says(says, f"stands by: {fault.strerror}")
+            self._over.wait(LOOKS)
+        return False
+
+    def _says(self, says: Callable[[str], None], text: str) -> None:
+        if text != self._said:
+            self._said = text
+            says(text)
+
+    def _stands_by(self) -> None:
+        """It has a lease, and all see that it is there."""
+        now = clock()
+        if now < self._sure_until - 3 * self.seconds / 4:
+            return
+        if now < self._sure_until and (left := self.etcd.keeps_alive(self.lease, self.seconds / 2)):
+            self._sure_until = now + left
+            return
+        lease = self.etcd.grant(self.seconds)
+        self.etcd.txn([], [put(self._own, self._mark.encode(), lease.ID)])
+        self.lease, self._sure_until = lease.ID, now + lease.TTL
+
+    def _others(self, timeout: float = SHORT) -> Others:
+        told = self.etcd.txn([], [get(self.key), get(self._bay), get(self._standby, behind(self._standby))], timeout=timeout)
+        leads, led, stand_by = (list(it.response_range.kvs) for it in told.responses)
+        rows = {it.key[len(self._standby) :].decode(errors="replace"): it.value.decode(errors="replace") for it in stand_by if it.key != self._own}
+        last = led[0].value.decode(errors="replace") if led else ""
+        if not leads:
+            return Others("", 0, 0, last, rows)
+        return Others(leads[0].value.decode(errors="replace"), leads[0].create_revision, leads[0].lease, last, rows)
+
+    def _may_lead(self, others: Others, says: Callable[[str], None]) -> bool:
+        """Nobody leads, and no broker that is there has the file of the one that led last while this one has another."""
+        is_other = others.led not in ("", self._mark)
+        if others.leader:
+            self._free_since = None
+            more = ", by another bay file than this one has: this one won't lead while a broker with that file is there" if is_other else ""
+            self._says(says, f"stands by: {others.leader} leads{more}")
+            return False
+        self._free_since = self._free_since or clock()
+        if not is_other:
+            return True
+        if its := [name for name, mark in others.standing_by.items() if mark == others.led]:
+            self._says(says, f"stands by: {its[0]} has the bay file that led last, and this one has another")
+            return False
+        # (whoever led last may be just beginning again)
+        if clock() < self._free_since + self.seconds:
+            return False
+        self._says(says, "leads by another bay file than the last one did, because no broker with that is there any more")
+        return True
+
+    def _makes_key(self) -> bool:
+        begun, listens = clock(), self.name.encode()
+        makes = [put(self.key, listens, self.lease), put(self._bay, self._mark.encode()), delete(self._own)]
+        while True:
+            try:
+                told = self.etcd.txn([is_of(self.key, 0)], makes, [get(self.key)])
+                break
+            except NoAnswer:  # (it may have been done)
+                if clock() > begun + self.seconds:
+                    raise
+                self._over.wait(PAUSE)
+        if told.succeeded:
+            self.fence = told.header.revision
+            return True
+        found = told.responses[0].response_range.kvs
+        if not found or found[0].lease != self.lease:
+            return False
+        self.fence = found[0].create_revision
+        return True
+
+    # ---- while it leads
+
+    def _keeps(self) -> None:
+        """On a thread of its own: keeps the lease. (The clock proves nothing: the fence does. But clients are to go elsewhere soon.)"""
+        while not self._over.is_set():
+            begun = clock()
+            if begun >= self._sure_until:
+                return self._loses(f"etcd hasn't answered for {self.seconds} s")
+            try:
+                left = self.etcd.keeps_alive(self.lease, max(0.05, min(self.seconds / 2, self._sure_until - begun)))
+                if not left:
+                    return self._loses("its lease is over")
+                self._sure_until = begun + left
+                self._over.wait(self.seconds / 8)
+                self.standing_by = tuple(sorted(self._others(self.seconds / 8).standing_by)[:MOST_STANDING_BY])
+            except (NoAnswer, EtcdError):
+                self._over.wait(PAUSE)
+                continue
+            self._over.wait(self.seconds / 8)
+
+    def _loses(self, why: str) -> None:
+        with self._lock:
+            is_first, self.is_lost = not self.is_lost, True
+        if is_first and not self._over.is_set():
+            self._lost(why)
+
+    def does(self, what: list[Any]) -> None:
+        """Returns once that is done, and this broker led then. It is asked for again until it is answered: that does no harm, for nobody else
+        writes between, or it fails. EtcdError: it isn't done, and may be tried again. Deposed: see above."""
+        while not self._over.is_set() and not self.is_lost:
+            try:
+                told = self.etcd.txn([is_of(self.key, self.fence)], what, timeout=min(SHORT, self.seconds / 2))
+            except NoAnswer:
+                self._over.wait(PAUSE)
+                continue
+            if told.succeeded:
+                return
+            self._loses("it leads no more")
+        self._over.wait()
+        raise Deposed
+
+    def reads(self, prefix: bytes) -> list[tuple[bytes, bytes]]:
+        """All keys behind a prefix, with their values. Nobody else writes them while this broker leads."""
+        while True:
+            try:
+                return [(it.key[len(prefix) :], it.value) for it in self.etcd.all_of(prefix)]
+            except NoAnswer:
+                if self.is_lost or self._over.is_set():
+                    raise Deposed from None
+                self._over.wait(PAUSE)
+
+    def close(self) -> None:
+        """The next one may lead at once."""
+        if self._over.is_set():
+            return
+        self._over.set()
+        if self.lease and not self.is_lost:
+            with contextlib.suppress(NoAnswer, EtcdError):
+                self.etcd.revoke(self.lease)
+        self.etcd.close()

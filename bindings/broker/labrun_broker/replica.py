@@ -1,0 +1,269 @@
+"""A bay's state in etcd, for brokers that stand by for one another.
+
+    /labrun/BAY/places                  as `places.py` writes them
+    /labrun/BAY/journal/PAGE/OFFSET     whole lines of the journal, from so many bytes on
+    /labrun/BAY/records/OFFSET          records, a line for each; those before the last few megabytes are deleted
+
+A batch of both is one transaction. etcd may do a transaction that it didn't answer later than anybody thinks. So what was once tried is what
+is tried again, byte by byte, until it is known to be there; and what the bay hands out once more after a fault, which is the same text,
+isn't taken twice."""
+
+from __future__ import annotations
+
+import asyncio
+import contextlib
+import errno
+import threading
+from collections import deque
+from concurrent.futures import ThreadPoolExecutor
+from typing import Any, Callable, NamedTuple, Optional
+
+from labrun import JournalError
+from labrun.store import Store
+
+from .etcd import EtcdError, delete, put
+from .leading import Deposed, Leading
+from .places import Places, places_of
+from .records import LINE, Record, Records, Written
+from .sessions import parsed
+
+# bytes of a key (a request of etcd's has 1.5 MiB at most), of all records that etcd keeps, and of those that wait for it
+MOST, MOST_RECORDS, MOST_WAITING = 1 << 19, 1 << 22, 1 << 24
+KEPT = 20000  # records in memory
+PAGE = 1
+
+
+def cut(text: bytearray) -> bytes:
+    """As many whole lines as one key may have."""
+    if len(text) <= MOST:
+        return bytes(text)
+    return bytes(text[: text.rfind(b"\n", 0, MOST) + 1 or text.find(b"\n") + 1 or len(text)])
+
+
+class Waiting:
+    """Text that one thread adds to, and another takes from its beginning. `at` is how much was taken before."""
+
+    def __init__(self, most: Optional[int] = None) -> None:
+        self.at, self._text, self._most, self._lock = 0, bytearray(), most, threading.Lock()
+
+    def add(self, text: bytes) -> None:
+        with self._lock:
+            if self._most is None or len(self._text) <= self._most:
+                self._text += text
+
+    def next(self) -> bytes:
+        with self._lock:
+            return cut(self._text)
+
+    def is_taken(self, length: int) -> None:
+        with self._lock:
+            self.at += length
+            del self._text[:length]
+
+    @property
+    def end(self) -> int:
+        with self._lock:
+            return self.at + len(self._text)
+
+
+class Batch(NamedTuple):
+    """What one transaction writes: so much of the journal and of the records."""
+
+    text: int
+    records: int
+    what: list[Any]
+
+
+class EtcdStore:
+    """The journal. `write` only takes the text; once `sync` returns etcd has it, and this broker led then. All but `write` runs on one thread."""
+
+    def __init__(self, leading: Leading, records: EtcdRecords) -> None:
+        self._leading, self._records = leading, records
+        self._prefix = leading.prefix + b"journal/%06d/" % PAGE
+        self.path = f"etcd, {self._prefix.decode()}"
+        self._waiting = Waiting()
+        # how much of what is written next is here already
+        self._known, self._is_read = 0, False
+        self._batch: Optional[Batch] = None
+
+    def text(self) -> bytes:
+        parts, at = list[bytes](), 0
+        for key, value in self._leading.reads(self._prefix):
+            if int(key) != at:
+                raise JournalError(self.path, f"what was written from byte {at} on is missing")
+            parts.append(value)
+            at += len(value)
+        self._waiting.at = at
+        return b"".join(parts)
+
+    def cut(self, length: int) -> None:
+        known = self._waiting.end - length
+        if known < 0 or known and not self._is_read:
+            raise OSError(errno.EINVAL, f"{self.path}: it ends in the midst of a line")
+        self._known, self._is_read = known, True
+
+    def append(self, text: bytes) -> None:
+        self.write(text)
+        self.sync()
+
+    def write(self, text: bytes) -> None:
+        known = min(self._known, len(text))
+        self._known -= known
+        self._waiting.add(text[known:])
+
+    def sync(self) -> None:
+        end = self._waiting.end
+        while self._waiting.at < end:
+            self.sends()
+
+    def sends(self) -> None:
+        """A batch is there, if anything waits."""
+        if self._batch is None:
+            text, (records, what) = self._waiting.next(), self._records.next()
+            if text:
+                what = [put(self._prefix + b"%012d" % self._waiting.at, text), *what]
+            self._batch = Batch(len(text), records, what)
+        if self._batch.what:
+            self._leading.does(self._batch.what)
+        self._waiting.is_taken(self._batch.text)
+        self._records.are_kept(self._batch.records)
+        self._batch = None
+
+    def close(self) -> None: ...
+
+
+class EtcdRecords:
+    """They go along with the journal's lines, and are written without one when there is time. A file has them, too, if one is given."""
+
+    def __init__(self, leading: Leading, file: Optional[Records]) -> None:
+        self._prefix, self._file = leading.prefix + b"records/", file
+        self._waiting = Waiting(MOST_WAITING)
+        # where those are that etcd has, and how long each
+        self._kept = deque[tuple[int, int]]()
+        self.last = deque[Record](maxlen=KEPT)
+        self.sends: Callable[[], None] = lambda: None
+        for key, value in leading.reads(self._prefix):
+            self._kept.append((int(key), len(value)))
+            self._waiting.at = int(key) + len(value)
+            self.last.extend(it for it in map(parsed, value.splitlines()) if it is not None)
+
+    def add(self, record: Record) -> None:
+        self.last.append(record)
+        self._waiting.add(LINE.encode(record).encode() + b"\n")
+        if self._file is not None:
+            self._file.add(record)
+
+    def next(self) -> tuple[int, list[Any]]:
+        """How much of them is written next, and how."""
+        if not (text := self._waiting.next()):
+            return 0, []
+        what, total = [put(self._key(self._waiting.at), text)], len(text)
+        for at, length in reversed(self._kept):
+            total += length
+            if total > MOST_RECORDS:
+                return len(text), [*what, delete(self._prefix, self._key(at + 1))]
+        return len(text), what
+
+    def _key(self, at: int) -> bytes:
+        return self._prefix + b"%016d" % at
+
+    def are_kept(self, length: int) -> None:
+        if length:
+            self._kept.append((self._waiting.at, length))
+            self._waiting.is_taken(length)
+            while sum(it[1] for it in self._kept) > MOST_RECORDS:
+                self._kept.popleft()
+
+    def write(self) -> None:
+        if self._file is not None:
+            self._file.write()
+
+    def sync(self) -> None:
+        """As far as that can be."""
+        if self._file is not None:
+            self._file.sync()
+        end = self._waiting.end
+        with contextlib.suppress(EtcdError):
+            while self._waiting.at < end:
+                self.sends()
+
+    def close(self) -> None:
+        if self._file is not None:
+            self._file.close()
+
+
+class Fence:
+    """Asks etcd whether this broker still leads, once for all who want to know at one time."""
+
+    def __init__(self, leading: Leading) -> None:
+        self._leading, self._thread = leading, ThreadPoolExecutor(1, "fence")
+        self._next: Optional[asyncio.Future[None]] = None
+
+    async def passes(self) -> None:
+        loop = asyncio.get_running_loop()
+        if (one := self._next) is None:
+            one = self._next = loop.create_future()
+            self._thread.submit(self._asks, loop, one)
+        await asyncio.shield(one)
+
+    def _asks(self, loop: asyncio.AbstractEventLoop, one: asyncio.Future[None]) -> None:
+        # (who comes from here on waits for the next one)
+        self._next = None
+        fault: Optional[Exception] = None
+        try:
+            self._leading.does([])
+        except Deposed:
+            return
+        except Exception as it:
+            fault = it
+        with contextlib.suppress(RuntimeError):  # (the loop is closed)
+            loop.call_soon_threadsafe(_is_answered, one, fault)
+
+    def close(self) -> None:
+        self._thread.shutdown(wait=False)
+
+
+def _is_answered(one: asyncio.Future[None], fault: Optional[Exception]) -> None:
+    if not one.done():
+        one.set_result(None) if fault is None else one.set_exception(fault)
+
+
+class Replica:
+    """The state of a broker that leads."""
+
+    lets_wait = True
+
+    def __init__(self, leading: Leading, file: Optional[Records] = None) -> None:
+        self._leading, self._key = leading, leading.prefix + b"places"
+        its = EtcdRecords(leading, file)
+        store = EtcdStore(leading, its)
+        its.sends = store.sends
+        self.store: Store = store
+        self.records: Written = its
+        self._last, self._fence = its.last, Fence(leading)
+
+    def places(self, is_needed: bool) -> Places:
+        found = self._leading.reads(self._key)
+        if not found and is_needed:
+            raise JournalError(self._key.decode(), "it isn't there, and the journal can't be read without it")
+        try:
+            return places_of(found[0][1].decode()) if found else Places()
+        except ValueError as fault:
+            raise JournalError(self._key.decode(), f"it isn't as the broker wrote it, and the journal can't be read without it: {fault}") from None
+
+    def keeps(self, places: Places) -> None:
+        self._leading.does([put(self._key, places.text().encode())])
+
+    def recent(self) -> list[Record]:
+        return list(self._last)
+
+    async def fence(self) -> None:
+        await self._fence.passes()
+
+    def brokers(self) -> tuple[str, tuple[str, ...]]:
+        return self._leading.name, self._leading.standing_by
+
+    def close(self) -> None:
+        self._leading.close()
+        self._fence.close()
+        self.records.close()

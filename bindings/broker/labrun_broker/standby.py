@@ -1,0 +1,125 @@
+"""labrun-broker serve --etcd: the broker stands by until it leads. It doesn't listen before."""
+
+from __future__ import annotations
+
+import argparse
+import asyncio
+import os
+import socket
+from typing import TYPE_CHECKING, Any, Callable, Optional
+
+from labrun import LabrunError
+
+from .bay import BadAddress, Bay
+from .sockets import parsed
+from .words import NOT_WRITTEN, say, tell_systemd
+
+if TYPE_CHECKING:
+    from .door import Door
+    from .etcd import Etcd
+    from .folder import State
+
+# seconds of a lease. (etcd has none that is much shorter; and a broker that etcd doesn't answer ends before it would tell anybody that his wish
+# wasn't written)
+LEAST_LEASE, MOST_LEASE = 2, 10
+EVERYWHERE = ("", "0.0.0.0", "::")
+
+
+def add_etcd(parser: argparse.ArgumentParser) -> None:
+    where = "keep the journal in etcd, at HOST:PORT,HOST:PORT: of several brokers with the same words one leads, and the others stand by"
+    parser.add_argument("--etcd", metavar="ADDRS", help=where)
+    lease = f"for how long one that leads may be silent before another does, {LEAST_LEASE} to {MOST_LEASE}; 5 without"
+    parser.add_argument("--lease", metavar="SECONDS", type=lease_of, default=5, help=lease)
+    parser.add_argument("--etcd-ca", metavar="FILE", help="the certificate to know etcd by, for TLS")
+    parser.add_argument("--etcd-cert", metavar="FILE", help="the certificate by which etcd knows this broker")
+    parser.add_argument("--etcd-key", metavar="FILE", help="its key")
+    parser.add_argument("--etcd-user", metavar="NAME", help="as which user of etcd")
+    parser.add_argument("--etcd-password-file", metavar="FILE", help="that user's password")
+
+
+def lease_of(text: str) -> int:
+    if not text.isascii() or not text.isdigit() or not LEAST_LEASE <= int(text) <= MOST_LEASE:
+        raise argparse.ArgumentTypeError(f"{text}: whole seconds from {LEAST_LEASE} to {MOST_LEASE} are wanted")
+    return int(text)
+
+
+def content(path: Optional[str]) -> Optional[bytes]:
+    if path is None:
+        return None
+    with open(path, "rb") as file:
+        return file.read()
+
+
+def etcd_of(args: argparse.Namespace) -> Etcd:
+    import grpc
+
+    from .etcd import Etcd
+
+    if (args.etcd_cert is None) != (args.etcd_key is None):
+        raise BadAddress("a certificate and its key belong together: --etcd-cert FILE --etcd-key FILE")
+    if (args.etcd_user is None) != (args.etcd_password_file is None):
+        raise BadAddress("a user and a password belong together: --etcd-user NAME --etcd-password-file FILE")
+    endpoints = args.etcd.split(",")
+    for it in endpoints:
+        parsed(it.removeprefix("http://").removeprefix("https://"))
+    credentials = None
+    if args.etcd_ca is not None or args.etcd_cert is not None or any(it.startswith("https:") for it in endpoints):
+        credentials = grpc.ssl_channel_credentials(content(args.etcd_ca), content(args.etcd_key), content(args.etcd_cert))
+    password = (content(args.etcd_password_file) or b"").decode().strip()
+    return Etcd(endpoints, credentials, args.etcd_user or "", password)
+
+
+def listens_at(addresses: tuple[str, ...]) -> str:
+    """Where others reach this broker, as far as its own words say so."""
+    for it in addresses:
+        if not isinstance(at := parsed(it), str):
+            host = socket.gethostname() if at[0] in EVERYWHERE else at[0]
+            return f"[{host}]:{at[1]}" if ":" in host else f"{host}:{at[1]}"
+    return f"{socket.gethostname()}, {addresses[0]}"
+
+
+async def until_it_leads(
+    args: argparse.Namespace, bay: Bay, door: Door, end: asyncio.Event
+) -> tuple[str, Optional[Callable[[str, bool], State]]]:
+    """What its keeping is opened with; nothing, if the broker is ended before it leads."""
+    from .leading import Leading
+    from .replica import Replica
+
+    file = records_in(args.state, args.sync == "data")
+    leading = Leading(etcd_of(args), bay, listens_at(door.addresses), args.lease, ends)
+    leads = asyncio.create_task(asyncio.to_thread(leading.leads, stands_by))
+    ended = asyncio.create_task(end.wait())
+    await asyncio.wait({leads, ended}, return_when=asyncio.FIRST_COMPLETED)
+    if not leads.done():
+        await asyncio.to_thread(leading.close)
+    if not await leads:
+        return "", None
+    ended.cancel()
+    return args.etcd, lambda *_: Replica(leading, file)
+
+
+def stands_by(text: str) -> None:
+    say(text)
+    tell_systemd(f"READY=1\nSTATUS={text}")
+
+
+def ends(why: str) -> None:
+    """At once, and without an answer to anybody: those who asked ask the one that leads."""
+    from .door import is_read
+
+    if is_read():
+        say(f"ends: {why}")
+    os._exit(NOT_WRITTEN)
+
+
+def records_in(folder: Optional[str], syncs: bool) -> Any:
+    """The file of the records of what this broker does while it leads."""
+    from .folder import JOURNAL, RECORDS
+    from .records import Records
+
+    if folder is None:
+        return None
+    if os.path.exists(path := f"{folder}/{JOURNAL}") and os.path.getsize(path):
+        raise LabrunError(f"{path}: a broker without --etcd kept it, and etcd doesn't know who holds by it. Once all have let go, move it away")
+    os.makedirs(folder, 0o750, exist_ok=True)
+    return Records(f"{folder}/{RECORDS}", syncs)

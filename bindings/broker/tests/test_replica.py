@@ -1,0 +1,458 @@
+"""Brokers that stand by for one another at an etcd: what one that leads no more, and doesn't know it, can still do, and what the next one
+has."""
+
+from __future__ import annotations
+
+import asyncio
+import threading
+import time
+import unittest
+from typing import Any, Coroutine
+from unittest import mock
+
+import labrun
+from labrun_broker import broker_pb2 as pb
+from labrun_broker import leading, replica, shell
+from labrun_broker.bay import bay_of
+from labrun_broker.errors import TimeoutError as TimedOut
+from labrun_broker.etcd import EtcdError, NoAnswer, delete, get, put
+from labrun_broker.keeping import Keeping
+from labrun_broker.leading import Leading
+from labrun_broker.places import Places
+from labrun_broker.replica import EtcdRecords, EtcdStore, Replica
+from labrun_broker.service import Client
+from labrun_broker.wishes import Ended, Wish
+from tests.etcds import OnEtcd
+from tests.test_keeping import TICKET, Owner, how
+
+BAY = 'bay = "NAME"\ninstruments = ["scope", "supply"]\n[stations]\nboard = ["scope"]\n[guests]\ncount = 4\n'
+RELEASE = 'gone = "release"\n'
+LEASE = 2
+
+
+class Broker:
+    """One that leads, in this process. `said` is what it says as it stands by; `why` it leads no more is known once `is_lost` is set."""
+
+    def __init__(self, test: OnEtcd, name: str, bay: str = BAY) -> None:
+        self.bay = bay_of(bay.replace("NAME", test.bay))
+        self.said, self.why = list[str](), list[str]()
+        self.loop, self.is_lost = asyncio.get_running_loop(), asyncio.Event()
+        self.leading = Leading(test.member.client(), self.bay, name, LEASE, self._lost)
+        test.addCleanup(self.leading.close)
+        self.keeping: Any = None
+
+    def _lost(self, why: str) -> None:
+        self.why.append(why)
+        self.loop.call_soon_threadsafe(self.is_lost.set)
+
+    async def opens(self, grace: float = 60.0) -> None:
+        self.keeping = Keeping(self.bay, "etcd", grace, True, lambda *_: Replica(self.leading))
+        await self.keeping.open()
+
+
+class Brokers(OnEtcd):
+    def setUp(self) -> None:
+        super().setUp()
+        self.enterContext(mock.patch.object(shell, "CLOSING", 1.0))
+
+    async def broker(self, name: str, bay: str = BAY, grace: float = 60.0) -> Broker:
+        """Returns once it leads."""
+        one = Broker(self, name, bay)
+        async with asyncio.timeout(20):
+            self.assertTrue(await asyncio.to_thread(one.leading.leads, one.said.append))
+        await one.opens(grace)
+        self.addAsyncCleanup(one.keeping.close)
+        return one
+
+    async def deposed(self, one: Broker, bay: str = BAY, grace: float = 60.0) -> Broker:
+        """The first was stopped for longer than its lease, and goes on: it doesn't know. The one that leads."""
+        one.leading._sure_until = float("inf")
+        self.enterContext(mock.patch.object(one.leading.etcd, "keeps_alive", lambda lease, timeout: 1000))
+        self.etcd.revoke(one.leading.lease)
+        return await self.broker("second", bay, grace)
+
+    async def never(self, one: Broker, work: Coroutine[Any, Any, Any]) -> None:
+        """It isn't answered, and the broker finds that it leads no more."""
+        task = asyncio.ensure_future(work)
+        await asyncio.wait_for(one.is_lost.wait(), 5)
+        await asyncio.wait({task}, timeout=0.3)
+        self.assertIsNone(task.done() and not task.cancelled() and (task.exception() or task.result()) or None)
+        self.assertFalse(task.done())
+        self.assertEqual(one.why, ["it leads no more"])
+        task.cancel()
+        await asyncio.wait({task})
+
+
+class Deposed(Brokers):
+    """What is told by one that leads no more: nothing."""
+
+    async def test_it_grants_nothing(self) -> None:
+        first = await self.broker("first")
+        second = await self.deposed(first)
+        await second.keeping.hold(Wish(("scope",)), Owner())
+        await self.never(first, first.keeping.hold(Wish(("scope",)), Owner()))
+
+    async def test_nor_says_that_one_is_back(self) -> None:
+        first = await self.broker("first")
+        await first.keeping.hold(Wish(("scope",), ticket=TICKET), Owner())
+        second = await self.deposed(first)
+        await second.keeping.release("guest-1", "an operator")
+        await second.keeping.hold(Wish(("scope",)), Owner())
+        await self.never(first, first.keeping.hold(Wish(ticket=TICKET, comes_back=True), Owner()))
+
+    async def test_nor_that_it_knows_no_such_ticket(self) -> None:
+        first = await self.broker("first")
+        second = await self.deposed(first)
+        await second.keeping.hold(Wish(("scope",), ticket=TICKET), Owner())
+        await self.never(first, first.keeping.hold(Wish(ticket=TICKET, comes_back=True), Owner()))
+
+    async def test_nor_refuses(self) -> None:
+        first, owner = await self.broker("first"), Owner()
+        session = await first.keeping.hold(Wish(("scope",)), owner)
+        await self.deposed(first)
+        await self.never(first, first.keeping.let_go(session, Owner()))
+
+    async def test_nor_lets_go(self) -> None:
+        first, owner = await self.broker("first"), Owner()
+        session = await first.keeping.hold(Wish(("scope",), ticket=TICKET), owner)
+        second = await self.deposed(first)
+        await self.never(first, first.keeping.let_go(session, owner))
+        back = await second.keeping.hold(Wish(ticket=TICKET, comes_back=True), Owner())
+        self.assertEqual(back.instruments, ("scope",))
+
+    async def test_nor_takes_away(self) -> None:
+        """Neither the operator is told so, nor the client."""
+        first, owner = await self.broker("first"), Owner()
+        session = await first.keeping.hold(Wish(("scope",), ticket=TICKET), owner)
+        second = await self.deposed(first)
+        await self.never(first, first.keeping.release(session.name, "an operator"))
+        self.assertEqual(owner.told, [])
+        back = await second.keeping.hold(Wish(ticket=TICKET, comes_back=True), Owner())
+        self.assertEqual(back.instruments, ("scope",))
+
+    async def test_nor_that_its_time_is_over(self) -> None:
+        """Its session may hold by now where another leads."""
+        first = await self.broker("first")
+        await first.keeping.hold(Wish(("scope",)), Owner())
+        await self.deposed(first)
+        await self.never(first, first.keeping.hold(Wish(("scope",), timeout=0.1), Owner()))
+
+    async def test_nor_that_a_client_is_heard(self) -> None:
+        """That would be another while for which it may hold, with gone = "release"."""
+        first = await self.broker("first", RELEASE + BAY)
+        told, context = list[Any](), mock.Mock()
+        context.write = mock.AsyncMock(side_effect=told.append)
+        client = Client(first.keeping, context)
+        client.session = await first.keeping.hold(Wish(("scope",), pings=True), client)
+        await client._ping(pb.Ping(at=1.0))
+        self.assertEqual([it.pong.holds for it in told], [True])
+        await self.deposed(first, RELEASE + BAY)
+        await self.never(first, client._ping(pb.Ping(at=2.0)))
+        self.assertEqual(len(told), 1)
+
+    async def test_its_clock(self) -> None:
+        """It ends once etcd hasn't answered for the length of its lease, though nobody asks it anything."""
+        first = await self.broker("first")
+        begun = time.monotonic()
+        self.enterContext(mock.patch.object(first.leading.etcd, "_calls", side_effect=StopIteration))
+        await asyncio.wait_for(first.is_lost.wait(), 10)
+        self.assertTrue(LEASE / 2 < time.monotonic() - begun < LEASE + 1.5)
+        self.assertEqual(first.why, [f"etcd hasn't answered for {LEASE} s"])
+
+    async def test_its_lease(self) -> None:
+        first = await self.broker("first")
+        self.etcd.revoke(first.leading.lease)
+        await asyncio.wait_for(first.is_lost.wait(), 10)
+        self.assertIn(first.why, (["its lease is over"], ["it leads no more"]))
+
+
+class Next(Brokers):
+    async def test_it_has_all_that_was_told(self) -> None:
+        first, owner = await self.broker("first"), Owner()
+        session = await first.keeping.hold(Wish(("scope",), station="board", by="ann", ticket=TICKET), owner)
+        other = await first.keeping.hold(Wish(("supply",)), owner)
+        await first.keeping.note(session, owner, "12.5 V")
+        await first.keeping.let_go(other, owner)
+        second = await self.deposed(first)
+        status = second.keeping.status()
+        self.assertEqual([(it["name"], it["holder"]) for it in status["instruments"]], [("scope", "board"), ("supply", None)])
+        self.assertEqual((how(second.keeping, "board")["state"], status["leads"]), ("gone", "second"))
+        with self.assertRaises(TimedOut):
+            await second.keeping.hold(Wish(("scope",), timeout=0.05), Owner())
+        back = await second.keeping.hold(Wish(ticket=TICKET, comes_back=True), owner)
+        self.assertEqual((back.instruments, back.by, back.note), (("scope",), "ann", "12.5 V"))
+        await second.keeping.let_go(back, owner)
+        with self.assertRaises(Ended) as found:
+            await second.keeping.hold(Wish(ticket=TICKET, comes_back=True), owner)
+        self.assertEqual(found.exception.kind, "LetGo")
+
+    async def test_it_has_the_recent_past(self) -> None:
+        first, owner = await self.broker("first"), Owner()
+        session = await first.keeping.hold(Wish(("scope",), by="ann"), owner)
+        await first.keeping.let_go(session, owner)
+        with mock.patch.object(shell, "CLOSING", 20.0):
+            await first.keeping.close()
+        second = await self.broker("second")
+        self.assertEqual([it["what"] for it in second.keeping.recent()], ["opened", "asked", "held", "let_go", "closed", "opened"])
+        third = await second.keeping.hold(Wish(("scope",)), owner)
+        self.assertGreater(third.number, session.number)
+
+    async def test_one_that_ends_gives_its_lease_back(self) -> None:
+        first = await self.broker("first")
+        second = Broker(self, "second")
+        leads = asyncio.create_task(asyncio.to_thread(second.leading.leads, second.said.append))
+        await asyncio.sleep(0.6)
+        self.assertEqual((second.said, first.keeping.status()["leads"]), (["stands by: first leads"], "first"))
+        await asyncio.sleep(LEASE / 4 + 0.5)
+        self.assertEqual(first.keeping.status()["stands_by"], ["second"])
+        begun = time.monotonic()
+        await first.keeping.close()
+        self.assertTrue(await asyncio.wait_for(leads, 5))
+        self.assertLess(time.monotonic() - begun, LEASE)
+        self.assertEqual((self.values("leader"), self.values("standby")), ({"leader": b"second"}, {}))
+
+    async def test_one_that_is_ended_before_it_leads(self) -> None:
+        await self.broker("first")
+        second = Broker(self, "second")
+        leads = asyncio.create_task(asyncio.to_thread(second.leading.leads, second.said.append))
+        await asyncio.sleep(0.6)
+        self.assertEqual(list(self.values("standby/")), ["standby/second"])
+        second.leading.close()
+        self.assertFalse(await asyncio.wait_for(leads, 5))
+        self.assertEqual(self.values("standby/"), {})
+
+    async def test_one_whose_lease_is_over(self) -> None:
+        """It stood by for long without an answer: it takes another lease."""
+        first, second = await self.broker("first"), Broker(self, "second")
+        leads = asyncio.create_task(asyncio.to_thread(second.leading.leads, second.said.append))
+        await asyncio.sleep(0.6)
+        self.etcd.revoke(second.leading.lease)
+        await asyncio.sleep(LEASE)
+        self.assertEqual(list(self.values("standby/")), ["standby/second"])
+        await first.keeping.close()
+        self.assertTrue(await asyncio.wait_for(leads, 10))
+
+    async def test_another_bays_file(self) -> None:
+        """It is told of at once, and doesn't lead while a broker is there that has the file of the one that led last."""
+        first = await self.broker("first")
+        await first.keeping.hold(Wish(("scope",)), Owner())
+        wrong, right = Broker(self, "wrong", BAY.replace("count = 4", "count = 1")), Broker(self, "right", "# a comment\n" + BAY)
+        tries = [asyncio.create_task(asyncio.to_thread(it.leading.leads, it.said.append)) for it in (wrong, right)]
+        self.addCleanup(wrong.leading.close)
+        await asyncio.sleep(0.8)
+        self.assertIn("first leads, by another bay file than this one has: this one won't lead while a broker with that file is there", wrong.said[-1])
+        self.assertEqual(right.said, ["stands by: first leads"])
+        await first.keeping.close()
+        self.assertTrue(await asyncio.wait_for(tries[1], 10))
+        await right.opens()
+        await asyncio.sleep(0.6)
+        self.assertIn("right leads, by another bay file", wrong.said[-1])
+        await right.keeping.close()
+        begun = time.monotonic()
+        # (nobody else is there any more)
+        self.assertTrue(await asyncio.wait_for(tries[0], 20))
+        self.assertGreater(time.monotonic() - begun, LEASE - 0.5)
+        self.assertIn("leads by another bay file than the last one did", wrong.said[-1])
+
+    async def test_two_bays(self) -> None:
+        """They share an etcd, and nothing else."""
+        first = await self.broker("first")
+        self.bay += "-and-more"
+        second = await self.broker("first")
+        for it in (first, second):
+            await it.keeping.hold(Wish(("scope",)), Owner())
+        self.assertEqual(len(self.values("journal/")), len({*self.values("journal/")}))
+
+
+class OnStore(OnEtcd):
+    """The store alone."""
+
+    def setUp(self) -> None:
+        super().setUp()
+        self.lost = list[str]()
+        self.leading = self.leads("one")
+        self.records = EtcdRecords(self.leading, None)
+        self.store = self.opened()
+
+    def leads(self, name: str) -> Leading:
+        one = Leading(self.member.client(), bay_of(BAY.replace("NAME", self.bay)), name, 5, self.lost.append)
+        self.addCleanup(one.close)
+        self.assertTrue(one.leads(lambda text: None))
+        return one
+
+    def opened(self) -> EtcdStore:
+        store = EtcdStore(self.leading, self.records)
+        self.records.sends = store.sends
+        store.cut(len(store.text()))
+        return store
+
+    def text(self) -> bytes:
+        return b"".join(self.values("journal/").values())
+
+
+class Stores(OnStore):
+    def test_batches(self) -> None:
+        self.store.write(b"one\n")
+        self.assertEqual(self.text(), b"")
+        self.store.write(b"two\n")
+        self.store.sync()
+        self.store.sync()
+        self.store.append(b"three\n")
+        self.assertEqual(self.values("journal/"), {"journal/000001/000000000000": b"one\ntwo\n", "journal/000001/000000000008": b"three\n"})
+        self.assertEqual(self.opened().text(), b"one\ntwo\nthree\n")
+
+    def test_a_large_one(self) -> None:
+        """In keys that end with a line each."""
+        text = b"".join(b"%099d\n" % number for number in range(15000))
+        self.store.append(text)
+        values = list(self.values("journal/").values())
+        self.assertEqual((b"".join(values), {it[-1:] for it in values}, len(values)), (text, {b"\n"}, 3))
+
+    def test_one_that_isnt_answered_is_done_again(self) -> None:
+        calls, fails = self.leading.etcd._calls, ["before", "behind", "behind"]
+
+        def lost(name: str, *given: Any) -> Any:
+            if name == "KV/Txn" and fails:
+                if fails.pop(0) == "behind":
+                    calls(name, *given)
+                raise StopIteration
+            return calls(name, *given)
+
+        with mock.patch.object(self.leading.etcd, "_calls", lost):
+            self.store.append(b"one\n")
+        self.store.append(b"two\n")
+        self.assertEqual((self.text(), fails, self.lost), (b"one\ntwo\n", [], []))
+
+    def test_full(self) -> None:
+        """What was tried is tried again as it was, whatever is handed out meanwhile: etcd may still do it late. And what is handed out once
+        more isn't there twice."""
+        self.store.append(b"one\n")
+        txn, asked = self.leading.etcd.txn, list[Any]()
+
+        def full(compare: Any, what: Any, *given: Any, **more: Any) -> Any:
+            asked.append([(it.request_put.key, it.request_put.value) for it in what])
+            if len(asked) == 1:
+                raise EtcdError(28, "etcd is full")
+            return txn(compare, what, *given, **more)
+
+        with mock.patch.object(self.leading.etcd, "txn", full):
+            self.store.write(b"two\n")
+            with self.assertRaisesRegex(OSError, "etcd is full"):
+                self.store.sync()
+            self.store.write(b"three\n")
+            self.store.cut(4)
+            self.store.write(b"two\nthree\nfour\n")
+            self.store.sync()
+        self.assertEqual(asked[0], asked[1])
+        self.assertEqual(self.text(), b"one\ntwo\nthree\nfour\n")
+        # (one that synced more than it says)
+        self.store.cut(8)
+        self.store.write(b"three\nfour\nfive\n")
+        self.store.sync()
+        self.assertEqual(self.text(), b"one\ntwo\nthree\nfour\nfive\n")
+
+    def test_a_batch_that_is_missing(self) -> None:
+        for text in (b"one\n", b"two\n", b"three\n"):
+            self.store.append(text)
+        self.etcd.txn([], [delete(f"/labrun/{self.bay}/journal/000001/000000000004".encode())])
+        with self.assertRaisesRegex(labrun.JournalError, "from byte 4 on is missing"):
+            self.opened()
+
+    def test_who_leads_no_more(self) -> None:
+        """Nothing of it is written, and whoever waits is never answered."""
+        self.etcd.revoke(self.leading.lease)
+        self.leads("two")
+        thread = threading.Thread(target=self.store.append, args=(b"one\n",), daemon=True)
+        with mock.patch("threading.excepthook"):
+            thread.start()
+            thread.join(1)
+            self.assertTrue(thread.is_alive())
+            self.assertIn(self.lost[0], ("it leads no more", "its lease is over"))
+            self.assertEqual(self.text(), b"")
+            self.leading.close()
+            thread.join(5)
+            self.assertFalse(thread.is_alive())
+
+    def test_records(self) -> None:
+        """They go along; the oldest make room."""
+        self.enterContext(mock.patch.object(replica, "MOST_RECORDS", 1000))
+        self.records.add({"t": 1.0, "what": "opened"})
+        self.store.append(b"one\n")
+        self.assertEqual(list(self.values("records/").values()), [b'{"t":1.0,"what":"opened"}\n'])
+        for number in range(100):
+            self.records.add({"t": 2.0, "what": "note", "text": "x" * 60, "session": number})
+            self.records.sync()
+            size = sum(map(len, self.values("records/").values()))
+            self.assertLess(size, 1000)
+        self.assertGreater(size, 700)
+        again = EtcdRecords(self.leading, None)
+        self.assertEqual([it["session"] for it in again.last][-3:], [97, 98, 99])
+        again.add({"t": 3.0, "what": "closed"})
+        EtcdStore(self.leading, again).sends()
+        self.assertEqual([it["what"] for it in EtcdRecords(self.leading, None).last][-2:], ["note", "closed"])
+
+    def test_places(self) -> None:
+        state = Replica(self.leading)
+        self.assertEqual(state.places(False), Places())
+        with self.assertRaisesRegex(labrun.JournalError, "it isn't there"):
+            state.places(True)
+        state.keeps(Places(("scope",), ("board",), None))
+        self.assertEqual(Replica(self.leading).places(True), Places(("scope",), ("board",), None))
+        self.etcd.txn([], [put(f"/labrun/{self.bay}/places".encode(), b"{}")])
+        with self.assertRaisesRegex(labrun.JournalError, "names of instruments"):
+            state.places(True)
+
+
+class Fences(OnStore):
+    async def test_it_begins_after_the_question(self) -> None:
+        """Who asks while one is under way waits for the next; all who ask then share it."""
+        state, txn, asked, may = Replica(self.leading), self.leading.etcd.txn, list[Any](), threading.Event()
+
+        def slow(*given: Any, **more: Any) -> Any:
+            # (the lease's thread looks for the others meanwhile)
+            if given[0]:
+                asked.append(given)
+                may.wait(5)
+            return txn(*given, **more)
+
+        with mock.patch.object(self.leading.etcd, "txn", slow):
+            first = asyncio.create_task(state.fence())
+            while not asked:
+                await asyncio.sleep(0.01)
+            others = [asyncio.create_task(state.fence()) for _ in range(5)]
+            await asyncio.sleep(0.05)
+            others[0].cancel()
+            may.set()
+            await asyncio.gather(first, *others[1:])
+        self.assertEqual(len(asked), 2)
+
+
+class Clients(OnEtcd):
+    """The little of etcd that there is."""
+
+    def test_it_goes_on_at_another_endpoint(self) -> None:
+        one = leading.Etcd(["127.0.0.1:1", f"http://{self.member.endpoint}"])
+        self.addCleanup(one.close)
+        with self.assertRaises(NoAnswer):
+            one.txn([], [put(b"key", b"value")])
+        for _ in range(3):
+            one.txn([], [put(b"key", b"value")])
+        self.assertEqual(one.txn([], [get(b"key")]).responses[0].response_range.kvs[0].value, b"value")
+
+    def test_leases(self) -> None:
+        lease = self.etcd.grant(5).ID
+        self.etcd.txn([], [put(b"leased", b"value", lease)])
+        self.assertEqual(self.etcd.keeps_alive(lease, 1.0), 5)
+        self.etcd.revoke(lease)
+        self.assertEqual((self.etcd.keeps_alive(lease, 1.0), list(self.etcd.all_of(b"leased"))), (0, []))
+        with self.assertRaisesRegex(EtcdError, "lease not found"):
+            self.etcd.txn([], [put(b"leased", b"value", lease)])
+
+    def test_more_than_are_read_at_once(self) -> None:
+        for number in range(150):
+            self.etcd.txn([], [put(b"many/%03d" % number, b"%d" % number)])
+        self.assertEqual([int(it.value) for it in self.etcd.all_of(b"many/")], list(range(150)))
+
+
+if __name__ == "__main__":
+    unittest.main()

@@ -1,0 +1,248 @@
+"""Brokers that stand by for one another, as processes, and clients that know where each of them may be."""
+
+from __future__ import annotations
+
+import argparse
+import json
+import os
+import shutil
+import signal
+import socket
+import subprocess
+import tempfile
+import threading
+import time
+import unittest
+from typing import Any
+from unittest import mock
+
+import labrun_broker
+from labrun_broker import finding
+from labrun_broker.errors import Unreachable
+from labrun_broker.etcd import EtcdError, NoAnswer, put
+from labrun_broker.standby import add_etcd, etcd_of, listens_at
+from labrun_broker.texts import addresses_of
+from tests.brokers import BAY, COMMAND, LIMIT, free_port, station, until
+from tests.etcds import Member, OnEtcd
+
+LEASE = 2
+
+
+class Serving:
+    """`labrun-broker serve --etcd`, and what it has said."""
+
+    def __init__(self, test: OnEtcd, port: int, *words: str) -> None:
+        folder = test.enterContext(tempfile.TemporaryDirectory())
+        with open(f"{folder}/bay.toml", "w", encoding="utf-8") as file:
+            file.write(BAY.replace("north", test.bay))
+        self.address, etcd = f"127.0.0.1:{port}", test.member.endpoint
+        line = [*COMMAND, "serve", f"{folder}/bay.toml", "--listen", self.address, "--etcd", etcd, "--lease", str(LEASE), *words]
+        self.process = subprocess.Popen(line, stderr=subprocess.PIPE, text=True)
+        self.said = list[str]()
+        self._reader = threading.Thread(target=self._reads, daemon=True)
+        self._reader.start()
+        test.addCleanup(self.ends)
+
+    def _reads(self) -> None:
+        assert self.process.stderr is not None
+        for line in self.process.stderr:
+            self.said.append(line.rstrip("\n"))
+
+    def says(self, text: str) -> None:
+        until(lambda: any(text in it for it in self.said), f"{text}, and not only {self.said}")
+
+    def end(self, number: int) -> int:
+        self.process.send_signal(number)
+        return self.process.wait(LIMIT)
+
+    def ends(self) -> None:
+        self.process.kill()
+        self.process.wait()
+        self._reader.join(5)
+        if self.process.stderr is not None:
+            self.process.stderr.close()
+
+
+class Standing(OnEtcd):
+    def setUp(self) -> None:
+        super().setUp()
+        self.ports = [free_port(), free_port()]
+        self.addresses = ",".join(f"127.0.0.1:{it}" for it in self.ports)
+        self.brokers = [Serving(self, self.ports[0])]
+        self.brokers[0].says("4 instruments, at ")
+        self.brokers.append(Serving(self, self.ports[1]))
+        self.brokers[1].says(f"labrun-broker: stands by: 127.0.0.1:{self.ports[0]} leads")
+
+    def lab(self, **more: Any) -> labrun_broker.Lab:
+        return self.enterContext(labrun_broker.connect(self.addresses, by="tester", **more))
+
+    def ran(self, *words: str) -> subprocess.CompletedProcess[str]:
+        environment = {**os.environ, "LABRUN_BROKER": self.addresses}
+        return subprocess.run([*COMMAND, *words], env=environment, capture_output=True, text=True, timeout=2 * LIMIT)
+
+    def test_one_that_is_killed(self) -> None:
+        """The session goes on at the next one, and so does whoever waited; who was let go stays so."""
+        lab, held = self.lab(), list[str]()
+        with lab.hold("supply"):
+            pass
+        mine = lab.hold("scope")
+        mine.acquire()
+
+        def waits() -> None:
+            with lab.hold("scope"):
+                held.append("scope")
+
+        other = threading.Thread(target=waits, daemon=True)
+        other.start()
+        time.sleep(0.3)
+        self.assertEqual(self.brokers[0].end(signal.SIGKILL), -signal.SIGKILL)
+        self.brokers[1].says("4 instruments, at ")
+        until(lambda: station(lab, "guest-1")["state"] == "holding", "guest-1 is back")
+        mine.note("12.5 V")
+        self.assertEqual(held, [])
+        mine.release()
+        other.join(LIMIT)
+        self.assertEqual(held, ["scope"])
+        self.assertEqual([it["holder"] for it in lab.status()["instruments"]], [None] * 4)
+
+    def test_one_that_is_ended(self) -> None:
+        """The next one leads at once; and a command that begins meanwhile waits for it."""
+        started = subprocess.Popen(
+            [*COMMAND, "hold", "scope", "--broker", self.addresses, "--", "sh", "-c", "echo held; read it"], stdin=subprocess.PIPE, stdout=subprocess.PIPE, text=True
+        )
+        assert started.stdin is not None and started.stdout is not None
+        self.assertEqual(started.stdout.readline(), "held\n")
+        begun = time.monotonic()
+        self.assertEqual(self.brokers[0].end(signal.SIGTERM), 0)
+        done = self.ran("hold", "supply", "--", "echo", "held")
+        self.assertEqual((done.returncode, done.stdout), (0, "held\n"), done.stderr)
+        self.assertLess(time.monotonic() - begun, 15)
+        started.communicate("\n", timeout=LIMIT)
+        self.assertEqual(started.returncode, 0)
+
+    def test_status(self) -> None:
+        until(lambda: self.lab().status()["stands_by"], "it is known who stands by")
+        done = self.ran("status")
+        self.assertIn(f"127.0.0.1:{self.ports[0]} leads, and 127.0.0.1:{self.ports[1]} stands by", done.stdout)
+        status = json.loads(self.ran("status", "--json").stdout)
+        self.assertEqual((status["leads"], status["stands_by"]), tuple([it.address, [that.address]][at] for at, (it, that) in enumerate([self.brokers] * 2)))
+
+    def test_one_that_is_ended_while_it_stands_by(self) -> None:
+        with self.assertRaises(ConnectionRefusedError):
+            socket.create_connection(("127.0.0.1", self.ports[1])).close()
+        self.assertEqual(self.brokers[1].end(signal.SIGTERM), 0)
+        self.assertEqual(self.values("standby/"), {})
+
+    def test_one_that_is_stopped_for_long(self) -> None:
+        """It ends as soon as it goes on, with a status by which systemd begins it anew."""
+        self.brokers[0].process.send_signal(signal.SIGSTOP)
+        self.brokers[1].says("4 instruments, at ")
+        self.brokers[0].process.send_signal(signal.SIGCONT)
+        self.assertEqual(self.brokers[0].process.wait(LIMIT), 74)
+        self.brokers[0].says("labrun-broker: ends: ")
+
+
+@unittest.skipUnless(shutil.which("etcd") and shutil.which("etcdctl") and shutil.which("openssl"), "there is no etcd, or etcdctl, or openssl")
+class Secured(unittest.TestCase):
+    """An etcd with TLS both ways, and users."""
+
+    def test_certificates_and_a_user(self) -> None:
+        folder = self.enterContext(tempfile.TemporaryDirectory())
+        certificate, key, password = (f"{folder}/{name}" for name in ("certificate", "key", "password"))
+        words = ["openssl", "req", "-x509", "-newkey", "ec", "-pkeyopt", "ec_paramgen_curve:prime256v1", "-nodes", "-days", "2", "-subj", "/CN=labrun"]
+        subprocess.run([*words, "-addext", "subjectAltName=IP:127.0.0.1", "-keyout", key, "-out", certificate], check=True, capture_output=True)
+        for path, text in ((password, "of-labrun-alone\n"), (f"{folder}/wrong", "another\n")):
+            with open(path, "w", encoding="ascii") as file:
+                file.write(text)
+        tls = ["--etcd-ca", certificate, "--etcd-cert", certificate, "--etcd-key", key]
+        parser = argparse.ArgumentParser()
+        add_etcd(parser)
+        credentials = etcd_of(parser.parse_args(["--etcd", "127.0.0.1:1", *tls]))._credentials
+        # (by the certificate's name nobody is a user)
+        its = ["--cert-file", certificate, "--key-file", key, "--trusted-ca-file", certificate, "--client-cert-auth", "--bcrypt-cost", "4"]
+        member = Member(folder, *its, credentials=credentials)
+        self.addCleanup(member.ends)
+        ctl = ["etcdctl", f"--endpoints=https://{member.endpoint}", f"--cacert={certificate}", f"--cert={certificate}", f"--key={key}"]
+        for line in (
+            "user add root:root", "user grant-role root root", "role add labrun", "role grant-permission labrun --prefix=true readwrite /labrun/",
+            "user add broker --interactive=false", "user grant-role broker labrun", "auth enable",
+        ):  # fmt: skip
+            given = "of-labrun-alone\n" if "interactive" in line else None
+            done = subprocess.run([*ctl, *line.split()], env={**os.environ, "ETCDCTL_API": "3"}, input=given, capture_output=True, text=True, timeout=LIMIT)
+            self.assertEqual(done.returncode, 0, done.stderr)
+
+        def asks(*words: str, key: bytes = b"/labrun/north/places") -> None:
+            one = etcd_of(parser.parse_args(["--etcd", member.endpoint, *words]))
+            self.addCleanup(one.close)
+            one.txn([], [put(key, b"{}")])
+            self.assertEqual([it.value for it in one.all_of(key)], [b"{}"])
+            lease = one.grant(5)
+            self.assertEqual(one.keeps_alive(lease.ID, 2.0), 5)
+            one.revoke(lease.ID)
+
+        user = ["--etcd-user", "broker", "--etcd-password-file"]
+        asks(*tls, *user, password)
+        for words, fault, text in (
+            ((*tls, *user, f"{folder}/wrong"), EtcdError, "authentication failed"),
+            (("--etcd-ca", certificate, *user, password), NoAnswer, ""),
+            (user + [password], NoAnswer, ""),
+        ):
+            with self.subTest(words), self.assertRaisesRegex(fault, text):
+                asks(*words)
+        with self.assertRaisesRegex(EtcdError, "permission denied"):
+            asks(*tls, *user, password, key=b"another's key")
+
+
+class Lists(unittest.TestCase):
+    def test_addresses(self) -> None:
+        self.assertEqual(addresses_of("a:7443,b.lab:7443, 10.0.0.1:7443"), ("a:7443", "b.lab:7443", "10.0.0.1:7443"))
+        for one in ("a:7443", "unix:/run/labrun/bay.sock", "unix:/run/a,b/bay.sock", "a,b"):
+            self.assertEqual(addresses_of(one), (one,))
+
+    def test_where_it_listens(self) -> None:
+        self.assertEqual(listens_at(("unix:/run/bay.sock", "bench-1:7443")), "bench-1:7443")
+        self.assertEqual(listens_at(("0.0.0.0:7443",)), f"{socket.gethostname()}:7443")
+        self.assertEqual(listens_at(("[::1]:7443",)), "[::1]:7443")
+
+    def test_none_answers(self) -> None:
+        """It is waited for, as long as another may take to lead; and then it is said."""
+        said = list[str]()
+        with mock.patch.object(finding, "FAILOVER", 1.0):
+            with labrun_broker.connect(f"127.0.0.1:{free_port()},127.0.0.1:{free_port()}") as lab:
+                begun = time.monotonic()
+                with self.assertRaisesRegex(Unreachable, "Connection refused"):
+                    lab.hold("scope", waits=said.append).acquire()
+                with self.assertRaisesRegex(Unreachable, "Connection refused"):
+                    lab.status()
+        self.assertTrue(1.0 < time.monotonic() - begun < 10)
+        self.assertRegex(said[0], "^no broker of 127.0.0.1:.* answers$")
+
+
+class Words(unittest.TestCase):
+    def says(self, *words: str) -> tuple[int, str]:
+        with tempfile.TemporaryDirectory() as folder:
+            with open(f"{folder}/bay.toml", "w", encoding="utf-8") as file:
+                file.write(BAY)
+            os.mkdir(f"{folder}/state")
+            with open(f"{folder}/state/bay.journal", "w", encoding="utf-8") as file:
+                file.write("a line\n")
+            line = [*COMMAND, "serve", f"{folder}/bay.toml", "--listen", f"unix:{folder}/bay.sock", *(it.replace("FOLDER", folder) for it in words)]
+            done = subprocess.run(line, capture_output=True, text=True, timeout=LIMIT)
+            return done.returncode, done.stderr
+
+    def test_faults(self) -> None:
+        for words, status, text in (
+            (("--etcd", "127.0.0.1:1", "--lease", "1"), 2, "whole seconds from 2 to 10"),
+            (("--etcd", "nowhere"), 78, "nowhere: unix:PATH or HOST:PORT is wanted"),
+            (("--etcd", "127.0.0.1:1", "--etcd-cert", "FOLDER/bay.toml"), 78, "--etcd-cert FILE --etcd-key FILE"),
+            (("--etcd", "127.0.0.1:1", "--etcd-user", "ann"), 78, "--etcd-user NAME --etcd-password-file FILE"),
+            (("--etcd", "127.0.0.1:1", "--state", "FOLDER/state"), 1, "a broker without --etcd kept it"),
+        ):
+            with self.subTest(words):
+                found = self.says(*words)
+                self.assertEqual(found[0], status, found[1])
+                self.assertIn(text, found[1])
+
+
+if __name__ == "__main__":
+    unittest.main()
