@@ -1,7 +1,7 @@
 """A bay's state in etcd, for brokers that stand by for one another.
 
     /labrun/BAY/places                  as `places.py` writes them
-    /labrun/BAY/journal/PAGE/OFFSET     whole lines of the journal, from so many bytes on
+    /labrun/BAY/journal/PAGE/OFFSET     whole lines of the journal, from so many bytes on; PAGE counts how often it began anew
     /labrun/BAY/records/OFFSET          records, a line for each; those before the last few megabytes are deleted
 
 A batch of both is one transaction. etcd may do a transaction that it didn't answer later than anybody thinks. So what was once tried is what
@@ -30,7 +30,6 @@ from .sessions import parsed
 # bytes of a key (a request of etcd's has 1.5 MiB at most), of all records that etcd keeps, and of those that wait for it
 MOST, MOST_RECORDS, MOST_WAITING = 1 << 19, 1 << 22, 1 << 24
 KEPT = 20000  # records in memory
-PAGE = 1
 
 
 def cut(text: bytearray) -> bytes:
@@ -78,18 +77,25 @@ class EtcdStore:
     """The journal. `write` only takes the text; once `sync` returns etcd has it, and this broker led then. All but `write` runs on one thread."""
 
     def __init__(self, leading: Leading, records: EtcdRecords) -> None:
-        self._leading, self._records = leading, records
-        self._prefix = leading.prefix + b"journal/%06d/" % PAGE
-        self.path = f"etcd, {self._prefix.decode()}"
+        self._leading, self._records, self._page = leading, records, 1
+        self.path = f"etcd, {leading.prefix.decode()}journal/"
         self._waiting = Waiting()
+        # what was tried as the beginning of the next page, and may be there by now
+        self._begun: Optional[bytes] = None
         # how much of what is written next is here already
         self._known, self._is_read = 0, False
         self._batch: Optional[Batch] = None
 
+    def _of(self, page: int) -> bytes:
+        return self._leading.prefix + b"journal/%06d/" % page
+
     def text(self) -> bytes:
         parts, at = list[bytes](), 0
-        for key, value in self._leading.reads(self._prefix):
-            if int(key) != at:
+        for key, value in self._leading.reads(self._leading.prefix + b"journal/"):
+            page, _, offset = key.partition(b"/")
+            # (there is one page: the next one comes as this one goes)
+            self._page = int(page)
+            if int(offset) != at:
                 raise JournalError(self.path, f"what was written from byte {at} on is missing")
             parts.append(value)
             at += len(value)
@@ -121,13 +127,29 @@ class EtcdStore:
         if self._batch is None:
             text, (records, what) = self._waiting.next(), self._records.next()
             if text:
-                what = [put(self._prefix + b"%012d" % self._waiting.at, text), *what]
+                what = [put(self._of(self._page) + b"%012d" % self._waiting.at, text), *what]
             self._batch = Batch(len(text), records, what)
         if self._batch.what:
             self._leading.does(self._batch.what)
         self._waiting.is_taken(self._batch.text)
         self._records.are_kept(self._batch.records)
         self._batch = None
+
+    def anew(self, text: bytes) -> None:
+        """The next page comes, and this one goes, by one transaction. (All that was written is there: a page begins when nothing is owed.)"""
+        while self._batch is not None:
+            self.sends()
+        begun = self._begun if self._begun is not None else text
+        if len(begun) > MOST or not text.startswith(begun):
+            raise OSError(errno.EFBIG, f"{self.path}: its new page is too long")
+        self._begun = begun
+        page = self._of(self._page)
+        self._leading.does([delete(page, page[:-1] + b"0"), put(self._of(self._page + 1) + b"%012d" % 0, begun)])
+        self._page, self._begun, self._waiting = self._page + 1, None, Waiting()
+        self._waiting.at = len(begun)
+        self._known = 0
+        if rest := text[len(begun) :]:
+            self.append(rest)
 
     def close(self) -> None: ...
 
