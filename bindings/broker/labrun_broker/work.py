@@ -4,7 +4,6 @@ from __future__ import annotations
 
 import asyncio
 import concurrent.futures
-import contextlib
 import os
 import threading
 import time
@@ -49,9 +48,7 @@ class Work(Generic[Result]):
         except BaseException:
             if not self._done.done():
                 self._loop.call_soon_threadsafe(self._give_up)
-                # (concurrent.futures.wait doesn't see that it is cancelled)
-                with contextlib.suppress(Exception):
-                    self._done.exception(5)
+                concurrent.futures.wait([self._done], 5)
             raise
 
     # what follows runs on the loop
@@ -80,5 +77,5 @@ class Work(Generic[Result]):
 
     def _is_cancelled(self) -> None:
         self._done.cancel()
-        # (else whoever waits for it goes on to wait)
+        # (concurrent.futures.wait sees one that is cancelled only once this is said)
         self._done.set_running_or_notify_cancel()

@@ -5,6 +5,7 @@ pub mod Overtaken
 pub mod Fair
 pub mod InOrder
 pub mod Waiting
+pub mod LaterOnes
 pub mod FirstCome
 pub mod Chain
 pub mod AllOf

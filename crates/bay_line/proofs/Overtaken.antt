@@ -38,7 +38,7 @@ pub record Goes (most free needs ask : ℕ) (w : Wish) (place : ℕ) (new : List
   pub counted : it.passed ≡ w.passed + one_if (counts most free needs w)
   pub bound : one_if (passes free needs w) + now ≤ place + one_if (counts most free needs w)
 
-at_most_one : (b : Bool) → one_if b ≤ 1
+pub at_most_one : (b : Bool) → one_if b ≤ 1
 at_most_one true = omega arith
 at_most_one false = omega arith
 
@@ -98,7 +98,7 @@ pub lt_says : (a b : ℕ) → nat_lt a b ≡ false → nat_le b a ≡ true
 lt_says a b h = search (rules, h)
 
 -- one that goes before it is counted, unless its instruments are kept for it
-is_counted : (most free needs : ℕ) (w : Wish) → (is_kept most free w ≡ true → passes free needs w ≡ true → ⊥) → one_if (passes free needs w) ≤ one_if (counts most free needs w)
+pub is_counted : (most free needs : ℕ) (w : Wish) → (is_kept most free w ≡ true → passes free needs w ≡ true → ⊥) → one_if (passes free needs w) ≤ one_if (counts most free needs w)
 is_counted most free needs w none = elim (cases_Bool (passes free needs w)) [
   | inl p ↦ elim (cases_Bool (nat_lt w.passed most)) [
     | inl less ↦ let same : counts most free needs w ≡ true = and_is (passes free needs w) (nat_lt w.passed most) p less in

@@ -38,7 +38,7 @@ its_place_inside ws w place st =
     let sum = length-append st.before (w ∷ st.behind) in let same : length ws ≡ length (st.before ++ w ∷ st.behind) = ap length st.is in omega (arith, sum, same)
 
 -- whoever goes before one for which its instruments are kept, and needs one of them, stands before it
-stands_ahead : (most in_use free needs k : ℕ) (ws : List Wish) (w : Wish) (place : ℕ) (st : Stands w place ws) → MayGoIn most in_use free ws k
+pub stands_ahead : (most in_use free needs k : ℕ) (ws : List Wish) (w : Wish) (place : ℕ) (st : Stands w place ws) → MayGoIn most in_use free ws k
     → (wish_at ws k).needs ≡ needs → (wish_at ws k).ask ≢ w.ask → is_kept most free w ≡ true → passes free needs w ≡ true → k < length st.before
 stands_ahead most in_use free needs k ws w place st may same other kept p = elim (cases_lt k (length st.before)) [
   | inl before ↦ before
@@ -90,17 +90,23 @@ pub record Goes_on (w : Wish) (place all : ℕ) (old new : LineView) : Type 0 wh
   pub in_order : IsInOrder new
   pub most : new.most ≡ old.most
 
-goes_in : (in_use free : ℕ) (s : Seated) (old new : LineView) (w : Wish) (place : ℕ) → IsInOrder old → Stands w place old.wishes → s.ask ≢ w.ask
-    → LetsIn in_use free old (Some s) new → Goes_on w place (one_if (passes free s.needs w)) old new
-goes_in in_use free s old new w place x st other lets =
+pub one_gone : (in_use free : ℕ) (s : Seated) (old new : LineView) (w : Wish) (place : ℕ) → Stands w place old.wishes → s.ask ≢ w.ask
+    → LetsIn in_use free old (Some s) new → Goes old.most free s.needs s.ask w place new.wishes
+one_gone in_use free s old new w place st other lets =
     let g : GoesIn old.most in_use free old.wishes s new.wishes = lets.goes in
-    let k = g.place in let most = ap (λ (v : LineView). v.most) lets.same in
+    let k = g.place in
     let then : new.wishes ≡ others s.ask (pass_all old.most free s.needs old.wishes) =
     g.then ∙ ap (λ (z : ℕ × ℕ). others z.0 (pass_all old.most free z.1 old.wishes)) (λ i. (sym g.next.ask i, sym g.next.needs i)) in
     let ahead = stands_ahead old.most in_use free s.needs k old.wishes w place st g.next.first.1 (sym g.next.needs) (λ e. other (g.next.ask ∙ e)) in
     let one = let_in_once old.most free s.needs s.ask k old.wishes w place st (sym g.next.ask) (λ e. other (sym e)) ahead in
+    subst (Goes old.most free s.needs s.ask w place) (sym then) one
+
+pub goes_in : (in_use free : ℕ) (s : Seated) (old new : LineView) (w : Wish) (place : ℕ) → IsInOrder old → Stands w place old.wishes → s.ask ≢ w.ask
+    → LetsIn in_use free old (Some s) new → Goes_on w place (one_if (passes free s.needs w)) old new
+goes_in in_use free s old new w place x st other lets =
+    let most = ap (λ (v : LineView). v.most) lets.same in
     record {
-      waited = has_gone old.most free s.needs s.ask w place new most (subst (Goes old.most free s.needs s.ask w place) (sym then) one);
+      waited = has_gone old.most free s.needs s.ask w place new most (one_gone in_use free s old new w place st other lets);
       in_order = subst IsInOrder (sym lets.same) (in_order_goes old.limit old.most in_use free old.wishes (Some s) new.wishes lets.goes x);
       most = most;
     }
@@ -165,7 +171,7 @@ one_leaves other old new w place x st apart is =
       most = refl;
     })
 
-once : (ask : ℕ) (old new : LineView) (w : Wish) (place : ℕ) → IsInOrder old → w.ask ≡ ask → Stands w place old.wishes → (o : WaitsOnce ask old new)
+pub once : (ask : ℕ) (old new : LineView) (w : Wish) (place : ℕ) → IsInOrder old → w.ask ≡ ask → Stands w place old.wishes → (o : WaitsOnce ask old new)
     → Goes_on w place (goes_before ask old new o w) old new
 once ask old new w place x is st (inl (in_use, free, s, lets, other)) = goes_in in_use free s old new w place x st (λ e. other (e ∙ is)) lets
 once ask old new w place x is st (inr (inl (other, sets, classes, d, below, same, few))) = one_asks other sets classes d old new w place x st below same few
@@ -221,7 +227,7 @@ waits_add_up ask n (suc m) old mid new first (there, before, last) =
     let x = waits_add_up ask n m old mid there first before in
     (suc x.0, omega (arith, x.1), (there, x.2, last), λ w. let sum = x.3 w in omega (arith, sum))
 
-seldom_at : (most : ℕ) (xs : List Wish) (w : Wish) (ys : List Wish) → Seldom most (xs ++ w ∷ ys) → w.passed ≤ most
+pub seldom_at : (most : ℕ) (xs : List Wish) (w : Wish) (ys : List Wish) → Seldom most (xs ++ w ∷ ys) → w.passed ≤ most
 seldom_at most [] w ys h = h.0
 seldom_at most (x ∷ xs) w ys h = seldom_at most xs w ys h.1
 

@@ -2,6 +2,7 @@ pub mod Wishes
 pub mod Turns
 pub mod Lines
 pub mod Bounds
+pub mod Later
 pub mod Chains
 pub mod Wanted
 pub mod InLine

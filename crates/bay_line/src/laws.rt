@@ -4,6 +4,7 @@ ghost use Rattle.bay_line.specs.Lines.{NextIsLetIn};
 ghost use Rattle.bay_line.specs.Wanted.{IsLateFromFirst};
 ghost use Rattle.bay_line.specs.InLine.{StaysInLine, WhatWasAskedStays};
 ghost use Rattle.bay_line.specs.Keepers.{EachLacksSomething};
+ghost use Rattle.bay_line.specs.Later.{FewLaterGoBefore};
 ghost use Rattle.bay_line.specs.Bounds.{IsPassedAtMost, WaitsAddUp, IsFirstComeFirstServed, IsServedBefore, NobodyWaitsForNothing, NobodyWaitsForItself};
 
 /// Once nobody is let in any more, nobody waits whose instruments are all free, kept for nobody before it, and for whom a place is free.
@@ -32,6 +33,11 @@ pub fn nobody_waits_for_itself()
 /// it asked.
 pub fn is_passed_at_most()
     ensures { IsPassedAtMost }
+{}
+
+/// Of those that asked later, and need one of its instruments, at most `most` are let in before it while a place is free for it.
+pub fn few_later_go_before()
+    ensures { FewLaterGoBefore }
 {}
 
 /// What happens in one time and then in another happens in both together.
