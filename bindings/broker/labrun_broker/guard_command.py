@@ -138,7 +138,7 @@ def run_guard(args: argparse.Namespace) -> int:
 async def guards(table: dict[str, dict[str, Any]], args: argparse.Namespace, lab: Lab, context: Optional[ssl.SSLContext]) -> int:
     """Goes on until it is ended. Then its connections are reset with this process."""
     from .guard import Guard, Way
-    from .serve import tell_systemd
+    from .words import tell_systemd
 
     where, its = Where(args), dict[str, Guard]()
     for name, row in table.items():

@@ -85,7 +85,7 @@ def whole(key: str, given: Any) -> int:
     return given
 
 
-WISH: Fields = {"instruments": names, "any_of": choices, "station": text, "by": text, "timeout": number, "ticket": text}
+WISH: Fields = {"instruments": names, "any_of": choices, "station": text, "by": text, "timeout": number, "limit": number, "ticket": text}
 NOTE: Fields = {"text": text}
 RELEASE: Fields = {"station": text, "session": whole, "by": text}
 

@@ -20,11 +20,20 @@ LINE = json.JSONEncoder(separators=(",", ":"))
 class Written(Protocol):
     """Where records are kept."""
 
+    path: str
+
     def add(self, record: Record) -> None: ...
 
     def write(self) -> None: ...
 
+    @property
+    def is_written(self) -> bool:
+        """Whether `syncs` has to do with all that was added."""
+
     def sync(self) -> None: ...
+
+    def syncs(self) -> None:
+        """All that was written outlives a crash. OSError: it doesn't. Another thread may call it."""
 
     def close(self) -> None: ...
 

@@ -159,6 +159,7 @@ class EtcdRecords:
 
     def __init__(self, leading: Leading, file: Optional[Records]) -> None:
         self._prefix, self._file = leading.prefix + b"records/", file
+        self.path = f"etcd, {self._prefix.decode()}"
         self._waiting = Waiting(MOST_WAITING)
         # where those are that etcd has, and how long each
         self._kept = deque[tuple[int, int]]()
@@ -200,14 +201,19 @@ class EtcdRecords:
         if self._file is not None:
             self._file.write()
 
+    is_written = True
+
     def sync(self) -> None:
         """As far as that can be."""
         if self._file is not None:
             self._file.sync()
-        end = self._waiting.end
         with contextlib.suppress(EtcdError):
-            while self._waiting.at < end:
-                self.sends()
+            self.syncs()
+
+    def syncs(self) -> None:
+        end = self._waiting.end
+        while self._waiting.at < end:
+            self.sends()
 
     def close(self) -> None:
         if self._file is not None:

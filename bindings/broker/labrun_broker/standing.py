@@ -225,7 +225,7 @@ class Standings:
         bit = self._keeping.places.instruments.index(name)
         holder, since = self._held.get(bit, (None, None))
         bay, out = self._keeping.bay, self._keeping.places.out.get(name)
-        row = {"name": name, "label": bay.labels.get(name, ""), "tags": [tag for tag, its in bay.tags.items() if name in its]}
+        row: dict[str, Any] = {"name": name, "label": bay.labels.get(name, ""), "tags": [tag for tag, its in bay.tags.items() if name in its]}
         row |= {"holder": None if holder is None else holder.name, "since": self.when(since), "waiting": waiting.get(bit, [])}
         return {**row, "out": None if out is None else out.why, "out_since": out and out.since, "out_by": out and out.by}
 

@@ -16,7 +16,7 @@ from labrun import JournalError
 from labrun.machine import NOT_NOW, Refusal, base_of
 
 if TYPE_CHECKING:
-    from .records import Records
+    from .records import Written
     from .shell import Shell
 
 MOST_BYTES = 4 << 20  # of a journal, before it begins anew
@@ -41,7 +41,7 @@ class Turns:
     def __init__(self, shell: Shell) -> None:
         self._shell = shell
         self.most, self.count = MOST_BYTES, 0
-        self.records: Optional[Records] = None
+        self.records: Optional[Written] = None
         self.classes: Callable[[], Classes] = tuple
         self.notes: Callable[[], Iterable[tuple[int, bytes]]] = tuple
         self._wish: Optional[Wish] = None

@@ -41,6 +41,8 @@ class Visit:
         # once it is in the line; and why it is over
         self.session: Optional[Session] = None
         self.fault: Optional[LabrunError] = None
+        # that its limit is over soon
+        self.warning: Optional[str] = None
         self._visits, self._keeping, self._open = visits, visits.keeping, 0
         self._quiet: Optional[asyncio.TimerHandle] = None
         self._changed = asyncio.Event()
@@ -79,6 +81,9 @@ class Visit:
 
     def taken(self, why: str) -> None:
         self._ends(Ended("TakenAway", why))
+
+    def warned(self, text: str, seconds: float) -> None:
+        self.warning = text
 
     # ---- whether it is there
 
@@ -175,6 +180,7 @@ class Visit:
         it, waits, lease = self.session, self.state == WAITING, self._keeping.lease if self.state == HOLDING else None
         keepers, why, _ = Standings(self._keeping).for_whom(it) if waits and it is not None else ([], "", ())
         about: dict[str, Any] = {"state": self.state, "ticket": self.wish.ticket, "station": it and it.name, "session": it and it.number}
+        about |= {"token": it.token if it is not None and self.state == HOLDING else None, "warning": self.warning}
         about |= {"instruments": list(it.instruments) if it else [], "text": why, "waits_for": keepers}
         beat = QUIET / BEATS_OF_QUIET if lease is None else lease / BEATS_OF_LEASE
         return {**about, "grace": None if lease is None else self._keeping.grace, "lease": lease, "ping": round(beat, 3)}

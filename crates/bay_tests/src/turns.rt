@@ -7,7 +7,8 @@ use std::alloc::Global;
 use std::process::Abort;
 use std::rt::HostRuntime;
 
-/// The new file behind one of 303 bytes: all numbers below 7 and the first token were given, and 5 holds 0 and 1 for owner 9, since 4. (The sums are those of another SHA-256.)
+/// The new file behind one of 303 bytes: all numbers below 7 and the first token were given, and 5 holds 0 and 1 for owner 9, since 4. (The sums
+/// are those of another SHA-256.)
 const TEXT: &[u8] =
     b"90d62ff7b52e8fee bay 000102030405060708090a0b0c0d0e0f101112131415161718191a1b1c1d1e1f 000000000000012f 0000000000000007 0000000000000001\nb91889e7dc16abde hold 0000000000000005 00000000 0000000000000003 00000000000000000000000000000009 0000000000000004 ---------------- 0000000000000004 0000000000000001\n";
 
