@@ -8,7 +8,6 @@ from typing import TYPE_CHECKING, Any, AsyncIterator, Optional
 from urllib.parse import unquote
 
 from labrun import JournalError
-from labrun.machine import HOLDS
 
 from . import broker_pb2 as pb
 from .wishes import digits_of
@@ -17,47 +16,31 @@ if TYPE_CHECKING:
     from .keeping import Keeping
     from .standing import Session
 
-NUMBERS = 20  # bits
-
-
-class Tokens:
-    """The token of each session that holds: of two that held an instrument, the later one has the greater, whatever became of the broker
-    meanwhile. It is the moment at which it came to hold, and, where two have the same, its number."""
-
-    def __init__(self, keeping: Keeping) -> None:
-        self._keeping = keeping
-        self._of: dict[int, int] = {}
-
-    def of(self, session: Session) -> int:
-        if session.number not in self._of:
-            rows = (row for row in self._keeping.machine.standings() if row.what == HOLDS)
-            self._of = {row.number: row.since << NUMBERS | row.number % (1 << NUMBERS) for row in rows}
-        # (0: it ends just now)
-        return self._of.get(session.number, 0)
-
 
 def host_of(session: Session) -> Optional[str]:
     """The address that its client comes from; `here`: from the broker's machine; None: its client is gone."""
     if session.owner is None:
         return None
+    if (host := getattr(session.owner, "host", None)) is not None:
+        return str(host)
     context = getattr(session.owner, "context", None)
     kind, _, rest = unquote(context.peer() if context is not None else "").partition(":")
     return rest.rpartition(":")[0].strip("[]") if kind in ("ipv4", "ipv6") else "here"
 
 
-def holder_of(instrument: str, session: Optional[Session], tokens: Tokens) -> Any:
-    if session is None or not (token := tokens.of(session)):
+def holder_of(instrument: str, session: Optional[Session]) -> Any:
+    if session is None:
         return pb.Holder(instrument=instrument)
-    told = pb.Holder(instrument=instrument, token=token, ticket_hash=digits_of(session.key), station=session.name, by=session.by or "")
+    told = pb.Holder(instrument=instrument, token=session.token, ticket_hash=digits_of(session.key), station=session.name, by=session.by or "")
     if (host := host_of(session)) is not None:
         told.host = host
     return told
 
 
-def holders_now(keeping: Keeping, names: tuple[str, ...], tokens: Tokens) -> dict[str, Any]:
+def holders_now(keeping: Keeping, names: tuple[str, ...]) -> dict[str, Any]:
     """Of each instrument. (A session that holds, and isn't told so, may be another's after all, if its line doesn't reach the disk.)"""
     of = {name: session for session in keeping.by_number.values() if session.holds for name in session.instruments}
-    return {name: holder_of(name, of.get(name), tokens) for name in names}
+    return {name: holder_of(name, of.get(name)) for name in names}
 
 
 def why_not(keeping: Keeping, wish: Any) -> Optional[str]:
@@ -70,14 +53,14 @@ def why_not(keeping: Keeping, wish: Any) -> Optional[str]:
 
 async def holders(keeping: Keeping, names: tuple[str, ...]) -> AsyncIterator[Any]:
     """Who holds them now, and whenever that has changed."""
-    tokens, said = Tokens(keeping), dict[str, Any]()
+    said = dict[str, Any]()
     changes = keeping.changes()
     waits: asyncio.Future[None] = asyncio.ensure_future(anext(changes))
     try:
         # (it has begun to look before anything is looked at)
         await asyncio.sleep(0)
         while True:
-            now = holders_now(keeping, names, tokens)
+            now = holders_now(keeping, names)
             if ends := [pb.Holder(instrument=name) for name, it in said.items() if it.token and it.token != now[name].token]:
                 said |= {it.instrument: it for it in ends}
                 yield pb.Holders(holders=ends)
@@ -85,7 +68,7 @@ async def holders(keeping: Keeping, names: tuple[str, ...]) -> AsyncIterator[Any
                 await keeping.confirmed()
             except JournalError:
                 continue
-            now = holders_now(keeping, names, tokens)
+            now = holders_now(keeping, names)
             if not said or (news := [it for name, it in now.items() if it != said[name]]):
                 yield pb.Holders(holders=news if said else list(now.values()))
                 said = now

@@ -127,6 +127,7 @@ class HttpDoor:
     async def _asks(self, request: web.Request) -> web.Response:
         span = wait_of(request)
         visit = await self.visits.asks(http_words.wish_of_body(await self._body(request)))
+        visit.host = request.remote or "here"
         with visit.asking(lambda: is_there(request)):
             await visit.outlasts(WAITING, span, lambda: is_there(request))
         return shown(visit)
@@ -167,7 +168,9 @@ class HttpDoor:
         return answer({"state": OVER})
 
     async def _visit(self, request: web.Request) -> Visit:
-        return await self.visits.of(http_words.text("the ticket", request.match_info["ticket"]))
+        visit = await self.visits.of(http_words.text("the ticket", request.match_info["ticket"]))
+        visit.host = request.remote or "here"
+        return visit
 
     async def _events(self, request: web.Request) -> web.StreamResponse:
         visit = await self._visit(request)

@@ -394,6 +394,7 @@ class Keeping:
     async def confirmed(self) -> None:
         """Returns once all that was told is known to go on to be so."""
         await self._shell.durable()
+        await self.settling.leads()
 
     def status(self) -> dict[str, Any]:
         leads, stands_by = ("", ()) if self._opened.state is None else self._opened.state.brokers()

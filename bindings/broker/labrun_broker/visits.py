@@ -41,6 +41,8 @@ class Visit:
         # once it is in the line; and why it is over
         self.session: Optional[Session] = None
         self.fault: Optional[LabrunError] = None
+        # where its last request came from; `here`: from this machine
+        self.host = "here"
         # that its limit is over soon
         self.warning: Optional[str] = None
         self._visits, self._keeping, self._open = visits, visits.keeping, 0
