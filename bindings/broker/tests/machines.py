@@ -41,7 +41,7 @@ PROGRAMS, MACHINES = 6, 3
 BAY = f'bay = "north"\ninstruments = {json.dumps(NAMES)}\n[guests]\ncount = {PROGRAMS + 1}\n'
 KINDS = {"kill": 3, "end": 2, "stop": 3, "cut": 3, "etcd": 2}  # and how often each of them comes
 NET, HERE = "10.78.0", 9
-LONG = 90.0  # seconds, within which somebody holds after a fault
+LONG = 180.0  # seconds, within which somebody holds after a fault, on a machine that is busy with other things
 CLONE_NEWNET = 0x40000000
 
 # it says `held MOMENT` and `did SESSION` of each session
