@@ -773,6 +773,17 @@ static void is_late(void) {
     free(names.at);
 }
 
+/* Whether something still runs that the command started; after a moment that is said, once. */
+static bool others_run(double *tells) {
+    double time = now();
+    bool is_time = time > *tells;
+    if (isinf(*tells))
+        *tells = time + TELLING;
+    if (is_time)
+        *tells = 1e300;
+    return still_runs(is_time);
+}
+
 /* Until the command has ended, and after a signal all that it started: who holds next would meet it at the instruments. */
 static void works(void) {
     struct talk it = {.socket = -1};
@@ -780,10 +791,8 @@ static void works(void) {
     double next = 0, tells = INFINITY;
     double span = isnan(held.lease) ? LONG : held.beat, late = isnan(held.lease) ? LATE : fmin(LATE, held.lease / 2);
     putf(&rest, "/%s?while=holding&wait=%.3f", ticket, span);
-    while (status < 0 || (were_sent && still_runs(now() > tells))) {
+    while (status < 0 || (were_sent && others_run(&tells))) {
         double time = now();
-        if (status >= 0)
-            tells = isinf(tells) ? time + TELLING : time > tells ? 1e300 : tells;
         if (!is_taken && time >= held.until)
             is_late();
         if (!is_taken && it.socket < 0 && time >= next && call(&it, "GET", rest.at, "", span + late) != PENDING)
