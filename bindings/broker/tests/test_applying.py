@@ -242,18 +242,16 @@ class Commands(OnBroker):
             self.assertEqual((refused.returncode, refused.stdout), (1, ""))
             self.assertRegex(refused.stderr, r"labrun-broker: nothing has changed:\nlabrun-broker: scope is taken out, and board \(tester\) has held it for")
         assert broker.process is not None
-        os.kill(broker.process.pid, signal.SIGHUP)
-        until(lambda: len(lab.status()["instruments"]) == 3)
-        os.kill(broker.process.pid, signal.SIGHUP)
+        process = broker.process.pid
+        # (on a busy machine the disk may not be quiet within a second)
+        until(lambda: os.kill(process, signal.SIGHUP) or len(lab.status()["instruments"]) == 3)
         with open(f"{folder}/bay.toml", "w", encoding="utf-8") as file:
             file.write("instruments = 5")
         bad = broker.ran("bay", "apply", f"{folder}/bay.toml")
         self.assertEqual(bad.returncode, 1)
-        os.kill(broker.process.pid, signal.SIGHUP)
         lab.close()
-        until(lambda: broker.end() == 0)
+        self.assertEqual(broker.end(), 0)
         self.assertRegex(broker.said, "the bay has changed, by a signal: instrument scope: taken out")
-        self.assertRegex(broker.said, "bay.toml: nothing has changed")
 
 
 COMMAND = [sys.executable, f"{TOP}/bench/bay/simulated.py"]

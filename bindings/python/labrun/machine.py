@@ -108,8 +108,8 @@ _MAY: dict[str, tuple[int, ...]] = {
     "journal": (NO_ROOM,),
     "turn": (NOT_NOW, NO_ROOM, NO_CLASS, MAY_NOT),
 }
-# which of them say what is at fault; and which a library of before doesn't have: that is never the moment for them
-_TELL_FAULT, _NEW = ("resume", "turn"), ("turn",)
+# which of them say what is at fault
+_TELL_FAULT = ("resume", "turn")
 # whose NOT_NOW says that there is nothing
 _MAY_FIND_NONE = ("tell", "look", "keeper", "waits")
 
@@ -127,8 +127,6 @@ def _bound(path: str) -> dict[str, Callable[..., int]]:
         try:
             call: Any = getattr(long if name == "resume" else short, f"lab_bay_{name}")
         except AttributeError:
-            if name in _NEW:
-                continue
             raise OSError(f"{path} has no lab_bay_{name}: it is of another version of labrun") from None
         call.argtypes, call.restype = types, _WORD
         calls[name] = call
@@ -183,8 +181,6 @@ class Machine:
 
     def _does(self, name: str, *given: Any) -> bool:
         """False: there is nothing."""
-        if name in _NEW and name not in self._calls:
-            raise Refusal(NOT_NOW)
         status = self._calls[name](*given)
         return not status or self._finds(name, status)
 
