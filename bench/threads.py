@@ -8,7 +8,7 @@ The workloads are the sixteen of `speed.py kit=wide`. Each run is made N times (
 workload, of all programs: so what else the machine does meets all alike. A program is labrun, or any that takes the same words, as the
 port of bench/peers. Told are, in milliseconds from a program's start to its end, the time in the middle and, in brackets, the worst. A
 run takes `limit` seconds at most (2 unless said), and is then ended and counted as so long, with a plus sign. Once the runs of one kind
-have taken twice as long together, the others of that kind are left out; so all takes five minutes or less on most machines.
+have taken twice as long together, the others of that kind are left out; so one program takes about seven minutes at worst.
 
 With busy=4 as many processes that compute are there meanwhile. Linux divides the processors among sessions first, if it does so (see
 /proc/sys/kernel/sched_autogroup_enabled), and then among the processes of each. The busy ones are of this program's session, as those
@@ -151,7 +151,7 @@ def main(words):
         print("%d is %s" % (number, program))
     speed.table(heads(programs), rows)
     goals_told = (SLOWER_GOAL, WORST_GOAL, "met" if all_met else "missed")
-    print("goals: at most %.1f times the better of rounds and threads 2, and no run above %.0f times the one in the middle: %s" % goals_told)
+    print("goals, at most: %.1f times the better of rounds and threads 2; no run above %.0f times the one in the middle: %s" % goals_told)
     print("load now: %.0f; %d processors" % (os.getloadavg()[0], len(os.sched_getaffinity(0))))
     return 0 if all_met else 1
 
