@@ -1,30 +1,34 @@
 -- Tokens outlive a crash.
-use Rattle.std.proofs.Common.{◌≡◌, ◌⊎◌, ℕ, ◌+◌, ◌≤◌, Bool, true, false, if◌then◌else◌, List, [], ◌∷◌, ◌++◌, append_assoc, Option, Some, None, refl, sym, ap, ◌∙◌, subst, inl, inr, arith}
+use Rattle.std.proofs.Common.{◌≡◌, ◌⊎◌, ℕ, zero, suc, ◌+◌, ◌≤◌, Bool, true, false, if◌then◌else◌, List, [], ◌∷◌, ◌++◌, length, append_assoc, Option, Some, None, refl, sym, ap, ◌∙◌, subst, inl, inr, arith}
 use Rattle.std.specs.Prelude.{◌==◌}
 use Rattle.std.proofs.lemmas.List.{append-nil}
 use Rattle.bay_book.specs.declared.ask.Heard.TheVariants.{Holds as HeardHolds}
 use Rattle.bay_book.specs.declared.ask.Ask.{Ask}
 use Rattle.bay_book.specs.declared.ask.Mark.TheVariants.{At}
-use Rattle.bay_book.specs.declared.ask.Stage.TheVariants.{Holds}
-use Rattle.bay_book.specs.Asks.{is_holding, no_ask, IsSoundAsk}
+use Rattle.bay_book.specs.declared.ask.Stage.{Stage}
+use Rattle.bay_book.specs.declared.ask.Stage.TheVariants.{Waits, Holds, Over}
+use Rattle.bay_book.specs.Asks.{ask_at, is_holding, no_ask, IsSoundAsk}
 use Rattle.bay_log.specs.declared.line.Entry.{Entry}
 use Rattle.bay_log.specs.declared.line.Line.{Line}
 use Rattle.bay_log.specs.declared.line.Line.TheVariants.{Head, Hold, Back, End, Note}
-use Rattle.bay_log.specs.Lines.{base_of}
-use Rattle.bay_log.specs.Logs.{LogView, adding, sending, failing}
+use Rattle.bay_log.specs.Lines.{base_of, bay_of}
+use Rattle.bay_log.specs.Logs.{LogView, end_of, turning, adding, sending, failing}
 use Rattle.bay_log.specs.Alive.{after, alive, alive_from}
 use Rattle.bay_log.specs.Laws.{BeginsWith, CutLinesAreRead, HoldsAtTheCut}
 use Rattle.bay.specs.Members.{Has}
 use Rattle.bay.specs.Views.{RoomView}
 use Rattle.bay.specs.Pages.{entry_of, pages}
 use Rattle.bay.specs.Restoring.{token_of}
+use Rattle.bay.specs.Cores.{core}
+use Rattle.bay.specs.Turning.{with_classes, hold_line, with_line_at, filled, log_after, book_after}
 use Rattle.bay.specs.Bays.{BayView, with_log, IsKept, IsBayCall, IsSure, TokensOutlive}
 use Rattle.bay.proofs.Members.{place_of, append_first}
 use Rattle.bay.proofs.Kept.{told_written}
 use Rattle.bay.proofs.LogLines.{base_more}
 use Rattle.bay.proofs.Given.{writes_give}
 use Rattle.bay.proofs.SafeLines.{given_is_written, same_entry}
-use Rattle.bay.proofs.Tokens.{rose_by_call, rose_by_tell}
+use Rattle.bay.proofs.Through.{goes_on}
+use Rattle.bay.proofs.Tokens.{Rose, rose_kept, rose_none, rose_by_call, rose_by_tell, have_tokens}
 
 -- ---- a hold has its token by a line
 
@@ -84,13 +88,14 @@ told_sure x k behind a position h holds told mark =
       line = says.0;
       has = says.1;
       its = omega (arith, token);
+      few = (have_tokens x.room.book k.room.book).within a h;
     }
 
 -- ---- it stays sure
 
-sure_more : (x new : BayView) (token : ℕ) → IsKept x → BeginsWith new.log.lines x.log.lines → x.room.book.durable ≤ new.room.book.durable → IsSure x token
-    → IsSure new token
-sure_more x new token k more later s =
+sure_more : (x new : BayView) (token : ℕ) → IsKept x → BeginsWith new.log.lines x.log.lines → x.room.book.durable ≤ new.room.book.durable
+    → x.room.book.granted ≤ new.room.book.granted → IsSure x token → IsSure new token
+sure_more x new token k more later risen s =
     let base : base_of new.log.lines ≡ base_of x.log.lines = ap base_of more.1 ∙ base_more x.log.lines more.0 k.standing.begun in
     record {
       front = s.front;
@@ -102,33 +107,71 @@ sure_more x new token k more later s =
       line = s.line;
       has = s.has;
       its = s.its;
+      few = (let f = s.few in omega (arith, f, risen));
     }
 
 same_lines : (x new : BayView) → new.log ≡ x.log → BeginsWith new.log.lines x.log.lines
 same_lines x new log = ([], ap (λ (l : LogView). l.lines) log ∙ sym (append-nil x.log.lines))
 
+has_with : (log : LogView) (line : Line) (s : Stage) (x : Line) → Has log.lines x → Has (with_line_at log line s).lines x
+has_with log line Waits x h = h
+has_with log line Holds x h = append_first log.lines (line ∷ []) x h
+has_with log line (Over how) x h = h
+
+-- the new file's head stays in it
+has_filled : (log : LogView) (asks : List Ask) (n : ℕ) (x : Line) → Has log.lines x → Has (filled log asks n).lines x
+has_filled log asks zero x h = h
+has_filled log asks (suc n) x h =
+    has_with (filled log asks n) (hold_line (ask_at asks n)) (ask_at asks n).stage x (has_filled log asks n x h)
+
+sure_turned : (keeps : Bool) (x new : BayView) (token : ℕ) → IsKept x → new.log ≡ log_after keeps x.room.book x.log
+    → (book_after keeps x.room.book x.log).durable ≤ new.room.book.durable → (book_after keeps x.room.book x.log).granted ≤ new.room.book.granted
+    → IsSure x token → IsSure new token
+sure_turned true x new token k log later risen s =
+    let book = x.room.book in
+    let head : Line = Head (bay_of x.log.lines) (end_of x.log) book.next book.granted in
+    let f = s.few in
+    record {
+      front = new.log.lines;
+      begins = ([], sym (append-nil new.log.lines));
+      within = (let size = ap end_of log in omega (arith, size, later));
+      line = head;
+      has = subst (λ (l : LogView). Has l.lines head) (sym log)
+          (has_filled (turning x.log book.next book.granted) book.asks (length book.asks) head (inl refl));
+      its = omega (arith, f);
+      few = omega (arith, f, risen);
+    }
+sure_turned false x new token k log later risen s = sure_more x new token k (same_lines x new log) later risen s
+
 stays_sure : (x new : BayView) (token : ℕ) → IsKept x → IsBayCall x new → IsSure x token → IsSure new token
-stays_sure x new token k (inl c) s = sure_more x new token k (same_lines x new c.1) (rose_by_call x.room new.room c.0.0 c.0.1).durable s
+stays_sure x new token k (inl c) s =
+    let rose = rose_by_call x.room new.room c.0.0 c.0.1 in sure_more x new token k (same_lines x new c.1) rose.durable rose.rises.largest s
 stays_sure x new token k (inr (inl c)) s =
-    sure_more x new token k (same_lines x new c.1) (rose_by_tell x.room new.room c.0.0 c.0.1 c.0.2).durable s
+    let rose = rose_by_tell x.room new.room c.0.0 c.0.1 c.0.2 in sure_more x new token k (same_lines x new c.1) rose.durable rose.rises.largest s
 stays_sure x new token k (inr (inr (inl c))) s =
     let old = pages x.room.book x.log in let given = pages new.room.book new.log in
     let only = given_is_written.only old given (writes_give c.0 old given k.room.book c.1.writes) in
     let durable = only.durable in
-    sure_more x new token k only.lines (omega (arith, durable)) s
+    let granted = only.granted in
+    sure_more x new token k only.lines (omega (arith, durable)) (omega (arith, granted)) s
 stays_sure x new token k (inr (inr (inr (inl c)))) s =
     subst (λ (y : BayView). IsSure y token) (sym c.3)
-    (sure_more x (with_log x (adding x.log (Note c.0 c.1))) token k (Note c.0 c.1 ∷ [], refl) (omega arith) s)
+    (sure_more x (with_log x (adding x.log (Note c.0 c.1))) token k (Note c.0 c.1 ∷ [], refl) (omega arith) (omega arith) s)
 stays_sure x new token k (inr (inr (inr (inr (inl c))))) s =
     subst (λ (y : BayView). IsSure y token) (sym c)
-    (sure_more x (with_log x (sending x.log)) token k ([], sym (append-nil x.log.lines)) (omega arith) s)
+    (sure_more x (with_log x (sending x.log)) token k ([], sym (append-nil x.log.lines)) (omega arith) (omega arith) s)
 stays_sure x new token k (inr (inr (inr (inr (inr (inl c)))))) s =
     let lines : new.log.lines ≡ x.log.lines = ap (λ (l : LogView). l.lines) c.2 in
     let durable = ap (λ (r : RoomView). r.book.durable) c.1 in
-    sure_more x new token k ([], lines ∙ sym (append-nil x.log.lines)) (omega (arith, durable)) s
-stays_sure x new token k (inr (inr (inr (inr (inr (inr c)))))) s =
+    let granted = ap (λ (r : RoomView). r.book.granted) c.1 in
+    sure_more x new token k ([], lines ∙ sym (append-nil x.log.lines)) (omega (arith, durable)) (omega (arith, granted)) s
+stays_sure x new token k (inr (inr (inr (inr (inr (inr (inl c))))))) s =
     subst (λ (y : BayView). IsSure y token) (sym c)
-    (sure_more x (with_log x (failing x.log)) token k ([], sym (append-nil x.log.lines)) (omega arith) s)
+    (sure_more x (with_log x (failing x.log)) token k ([], sym (append-nil x.log.lines)) (omega arith) (omega arith) s)
+stays_sure x new token k (inr (inr (inr (inr (inr (inr (inr c))))))) s =
+    let r = x.room in let keeps = r.terms.keeps in let book = book_after keeps r.book x.log in
+    let rose = goes_on (Rose book) (with_classes r c.0) (rose_kept keeps book) c.1 (core r.line book) new.room c.3.changes (rose_none book) in
+    sure_turned keeps x new token k c.3.log_is rose.durable rose.rises.largest s
 
 -- ---- the law
 

@@ -80,7 +80,7 @@ one_of : (a b : Ask) → Has (a ∷ []) b → a ≡ b
 one_of a b (inl is) = is
 one_of a b (inr h) = absurd h
 
-rose_kept : (keeps : Bool) (old : BookView) → IsKeptByChanges keeps (Rose old)
+pub rose_kept : (keeps : Bool) (old : BookView) → IsKeptByChanges keeps (Rose old)
 rose_kept keeps old = record {
   adds = λ x number class owner deadline limit now fits t.
       let v : Ask = asker number class owner deadline limit now in
@@ -124,7 +124,7 @@ rose_kept keeps old = record {
   };
 }
 
-rose_none : (x : BookView) → Rose x x
+pub rose_none : (x : BookView) → Rose x x
 rose_none x = record { rises = record { largest = omega arith; each = λ b h. inl (b, h, refl, refl) }; durable = omega arith }
 
 pub rose_by_call : (old new : RoomView) (now : ℕ) → IsCall now old new ⊎ Stops now old new → Rose old.book new.book

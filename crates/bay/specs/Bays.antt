@@ -131,7 +131,7 @@ PastStaysPast =
 
 -- ---- tokens outlive a crash
 
--- a line that ended where the file is durable by the book, or before, says this token, or a larger one
+-- a line that ended where the file is durable by the book, or before, says this token, or a larger one; and it isn't larger than the largest so far
 pub record IsSure (x : BayView) (token : ℕ) : Type 0 where
   pub front : List Line
   pub begins : BeginsWith x.log.lines front
@@ -139,6 +139,7 @@ pub record IsSure (x : BayView) (token : ℕ) : Type 0 where
   pub line : Line
   pub has : Has front line
   pub its : token ≤ token_of line
+  pub few : token ≤ x.room.book.granted
 
 -- The token of whoever was told that it holds is sure, from then on, whatever is called, also when the ask isn't in the book any more. Whatever is left of the
 -- file after a crash, if it has all that is durable by the book: in the bay that comes back from it no sure token is larger than the largest so far. So whoever

@@ -76,6 +76,7 @@ pub record GivesOnly (x y : Kept) : Type 0 where
   pub log_durable : y.log.durable ≡ x.log.durable
   pub sent : y.log.sent ≡ x.log.sent
   pub next : y.book.next ≡ x.book.next
+  pub granted : y.book.granted ≡ x.book.granted
   pub durable : y.book.durable ≡ x.book.durable
   pub many : length y.book.asks ≡ length x.book.asks
   pub asks : (j : ℕ) → j < length x.book.asks → IsAsBefore (ask_at y.book.asks j) (ask_at x.book.asks j)
