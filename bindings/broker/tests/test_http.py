@@ -424,7 +424,7 @@ class Doors(OnHttp):
     @unittest.skipIf(shutil.which("curl") is None, "there is no curl")
     def test_as_the_guide_says(self) -> None:
         """Its lines of curl, as they stand there."""
-        with open(f"{TOP}/docs/GUIDE.md", encoding="utf-8") as file:
+        with open(f"{TOP}/docs/broker.md", encoding="utf-8") as file:
             lines = file.read().split("\n")
         script = [it.strip().removeprefix("$ ") for it in lines if it.startswith("    $ curl ") or it.startswith("    $ B=")]
         self.assertEqual(len(script), 5)

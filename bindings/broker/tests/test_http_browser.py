@@ -34,7 +34,7 @@ class Quiet(http.server.SimpleHTTPRequestHandler):
 
 
 def code_of_the_guide() -> str:
-    with open(f"{TOP}/docs/GUIDE.md", encoding="utf-8") as file:
+    with open(f"{TOP}/docs/broker.md", encoding="utf-8") as file:
         return file.read().split("```js\n")[1].split("```")[0]
 
 

@@ -70,9 +70,9 @@ class Pages(unittest.TestCase):
         self.assertEqual((done.stdout, done.stderr), ("holds scope supply\n", ""))
 
     def test_guide(self) -> None:
-        program, told = block_after("docs/GUIDE.md", "Write `broker.py`:").split("$ python3 broker.py\n")
+        program, told = block_after("docs/programs.md", "Write `broker.py`:").split("$ python3 broker.py\n")
         with tempfile.TemporaryDirectory() as folder:
-            for name, text in (("bay.lab", block_after("docs/GUIDE.md", "Write `bay.lab`:")), ("broker.py", program)):
+            for name, text in (("bay.lab", block_after("docs/programs.md", "Write `bay.lab`:")), ("broker.py", program)):
                 with open(os.path.join(folder, name), "w", encoding="ascii") as file:
                     file.write(text)
             done = ran(["broker.py"], folder)

@@ -382,8 +382,8 @@ class Holding(OnLab):
 
 class Guide(unittest.TestCase):
     def test_shelf(self) -> None:
-        """The broker of docs/GUIDE.md, as it stands there."""
-        with open(os.path.join(TOP, "docs", "GUIDE.md"), encoding="utf-8") as file:
+        """The broker of docs/programs.md, as it stands there."""
+        with open(os.path.join(TOP, "docs", "programs.md"), encoding="utf-8") as file:
             lines = file.read().split("\n")
         first, last = lines.index("    import queue"), lines.index("    $ python3 shelf.py")
         program = "\n".join(line[4:] for line in lines[first:last])
