@@ -100,7 +100,7 @@ class Bay(model.Bay):
         """How the new file begins. What was durable stays so, wherever it stood."""
         self.base += len(self.text)
         self.text, self.sum, self.sent = b"", bytes(8), 0
-        self._line(f"bay {self.rules.head.hex()} {self.base:016x} {self.next:016x}")
+        self._line(f"bay {self.rules.head.hex()} {self.base:016x} {self.next:016x} {self.granted:016x}")
         for it in self.asks:
             it.hold_line = model.DUE if it.stage == model.HOLDS else model.NONE if it.hold_line == model.NONE else 0
             it.end_line = model.NONE if it.end_line == model.NONE else 0

@@ -70,7 +70,7 @@ class Machine:
     def _turns(self, bay: Bay) -> None:
         self.base += len(bay.text)
         bay.text, bay.sum = b"", bytes(8)
-        bay._line(f"bay {bay.rules.head.hex()} {self.base:016x} {bay.next:016x}")
+        bay._line(f"bay {bay.rules.head.hex()} {self.base:016x} {bay.next:016x} {bay.granted:016x}")
         for it in bay.asks:
             if it.stage == HOLDS:
                 bay.writes_hold(it)

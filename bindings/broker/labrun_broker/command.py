@@ -74,7 +74,7 @@ def out_of(it: dict[str, Any], at: float) -> str:
 
 def brokers_of(status: dict[str, Any]) -> list[str]:
     """Who leads, of brokers that stand by for one another."""
-    if not status["leads"]:
+    if not status.get("leads"):
         return []
     return [plain(f"{status['leads']} leads, and {', '.join(status['stands_by']) or 'no other'} stands by")]
 

@@ -18,6 +18,7 @@ STATUSES = {
     "BadWish": 400,
     "NoInstrument": 400,
     "MayNotUse": 403,
+    "OutOfOrder": 409,
     "TimeoutError": 409,
     "NotHeld": 409,
     "TakenAway": 410,

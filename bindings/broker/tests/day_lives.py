@@ -168,7 +168,7 @@ class Day:
             if it is None and number in over:
                 # (the journal began anew behind its end, which is in the records)
                 self.is_over.add(number)
-                self._keeps_notes(Left(number, 0, instruments, "", 0, 0))
+                self._keeps_notes(Left(number, 0, instruments, "", 0, 0, 0))
                 continue
             if it is None or set(it.names) != set(instruments):
                 raise Wrong(2, f"{number} was told that it holds {instruments}, and is lost by the {'kill' if has_power else 'power cut'}")

@@ -4,6 +4,7 @@ import re
 import tomllib
 import unittest
 from dataclasses import replace
+from typing import Any
 
 from labrun_broker.bay import Bay, BayFault, Limits, bay_of
 from labrun_broker.ways import Way, way_of
@@ -107,15 +108,16 @@ class Example(unittest.TestCase):
         self.assertEqual((bay.name, bay.gone, bay.guests, bay.overtakes, bay.limits), ("north", "keep", 8, None, Limits()))
         self.assertEqual((len(bay.instruments), list(bay.stations)), (6, ["board", "burn-in"]))
         whole = re.sub(r"(?m)^# (?=[\w-]+ = |\[)", "", text)
-        more = {"tags": {"precise": ("scope", "meter")}, "labels": {"scope": "DSO-X 3034, by the window"}, "guards": {"scope": "bench-1:5025"}}
+        more: dict[str, Any] = {"tags": {"precise": ("scope", "meter")}, "labels": {"scope": "DSO-X 3034, by the window"}, "guards": {"scope": "bench-1:5025"}}
+        more |= {"limit": 12 * 3600.0, "guests_limit": 2 * 3600.0, "station_limits": {"burn-in": 3 * 86400.0}}
         self.assertEqual(bay_of(whole), replace(bay, overtakes=16, **more))
         given = tomllib.loads(whole)
-        self.assertEqual(set(given), {"bay", "instruments", "gone", "overtakes", "stations", "guests", "limits", "tags", "labels", "guards"})
-        self.assertEqual((set(given["guests"]), set(given["limits"])), ({"count", "may_use"}, {"clients", "requests", "name", "note"}))
+        self.assertEqual(set(given), {"bay", "instruments", "gone", "overtakes", "stations", "guests", "limits", "tags", "labels", "guards", "limit", "station_limits"})
+        self.assertEqual((set(given["guests"]), set(given["limits"])), ({"count", "may_use", "limit"}, {"clients", "requests", "name", "note"}))
 
     def test_each_key_is_in_formats(self) -> None:
         with open(f"{TOP}/docs/FORMATS.md", encoding="utf-8") as file:
             part = file.read().partition("## A bay's file")[2].partition("\n## ")[0]
         rows = set(re.findall(r"(?m)^\| `([\w.]+)` \|", part))
         limits = {f"limits.{it}" for it in vars(Limits())}
-        self.assertEqual(rows, {"bay", "instruments", "gone", "overtakes", "stations.NAME", "guests.count", "guests.may_use", "tags.NAME", "labels.NAME", "guards.NAME", *limits})
+        self.assertEqual(rows, {"bay", "instruments", "gone", "overtakes", "stations.NAME", "guests.count", "guests.may_use", "tags.NAME", "labels.NAME", "guards.NAME", "limit", "guests.limit", "station_limits.NAME", *limits})

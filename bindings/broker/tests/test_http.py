@@ -56,7 +56,7 @@ class Sessions(OnHttp):
     def test_one_after_another(self) -> None:
         broker, one = self.http()
         status, told = one.asks("scope", "supply", station="board", by="ann")
-        its = {"state": "holding", "station": "board", "session": 1, "instruments": ["scope", "supply"], "text": "", "waits_for": []}
+        its = {"state": "holding", "station": "board", "session": 1, "instruments": ["scope", "supply"], "text": "", "waits_for": [], "token": 1, "warning": None}
         self.assertEqual((status, told), (200, {**its, "ticket": told["ticket"], "grace": None, "lease": None, "ping": 5.0}))
         self.assertGreaterEqual(len(told["ticket"]), 32)
         self.assertEqual(one.of(told["ticket"], "/notes", "POST", {"text": "V = 5"})[0], 200)

@@ -259,7 +259,7 @@ class Mended(unittest.TestCase):
     def test_what_it_says(self) -> None:
         it = Left(3, 1, 2, (0, 3), 5000, 5000, 3, "board", "ann", failed="smoke", how="let_go", until=6000)
         of = {"station": "board", "session": 3, "instruments": ["supply"], "by": "ann"}
-        expected = [{"t": 5.0, "what": "held", **of, "text": "as the journal has it"}, {"t": 6.0, "what": "failed", **of, "text": "smoke, as the journal has it"}]
+        expected = [{"t": 5.0, "what": "held", **of, "text": "as the journal has it", "ticket": f"{3:032x}"}, {"t": 6.0, "what": "failed", **of, "text": "smoke, as the journal has it"}]
         self.assertEqual(missing({3: it}, [], Places(("scope", "supply"), ("board",))), expected)
 
 

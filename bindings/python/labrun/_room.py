@@ -39,7 +39,7 @@ class Kind:
         choices = [(it,) if isinstance(it, str) else tuple(it) for it in any_of]
         if bool(choices) == bool(instruments) or not all(choices):
             raise ValueError("say which instruments, or of which sets of them it is to be one (any_of)")
-        sets = tuple(dict.fromkeys(bits for words in choices or (instruments,) for bits in self._sets(words)))
+        sets = tuple(bits for words in choices or (instruments,) for bits in self._sets(words))
         if instruments and len(self.known) < 1000:
             self.known[instruments] = sets
         return sets
