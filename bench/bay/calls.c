@@ -1013,15 +1013,15 @@ static void comes_back(void) {
 /* ---- a new file, and other classes */
 
 static const char begins[] =
-    "8b62830104538674 bay " BAY_HASH " 000000000000010d 0000000000000007\n"
-    "ebddcf371a59d4b4 hold 0000000000000005 00000000 0000000000000003 00000000000000070000000000000009 0000000000000004 ---------------- 0000000000000004\n";
+    "90d62ff7b52e8fee bay " BAY_HASH " 000000000000012f 0000000000000007 0000000000000001\n"
+    "a688d0eb7b17a061 hold 0000000000000005 00000000 0000000000000003 00000000000000070000000000000009 0000000000000004 ---------------- 0000000000000004 0000000000000001\n";
 #define GOES_ON                                                                                                                                      \
-    "ae717bb32b11796b end 0000000000000005 let_go 0000000000000009\n"                                                                                               \
-    "32286257e37ed0da hold 0000000000000006 00000000 0000000000000002 00000000000000000000000000000000 0000000000000009 ---------------- 0000000000000005\n"
+    "c099dffda8461300 end 0000000000000005 let_go 0000000000000009\n"                                                                                               \
+    "5cd2aa91f7546f68 hold 0000000000000006 00000000 0000000000000002 00000000000000000000000000000000 0000000000000009 ---------------- 0000000000000005 0000000000000002\n"
 
 /* The bay doesn't turn, by so many such classes and with such a room, and tells nothing but this. */
 static void no_turn(unsigned line, struct lab_class class, size_t count, size_t room, uint32_t wanted, size_t size, uint64_t number) {
-    static uint8_t text[512], before[512];
+    static uint8_t text[640], before[640];
     struct lab_class many[33];
     size_t written = 77;
     uint64_t fault = 77;
@@ -1037,7 +1037,7 @@ static void no_turn(unsigned line, struct lab_class class, size_t count, size_t 
 
 /* 5 holds 0 and 1, and 6 waits for 1, or for 1 and 2. */
 static void turns(void) {
-    static uint8_t file[512];
+    static uint8_t file[640];
     struct lab_standing standing;
     size_t written = 77, used = 77;
     uint64_t fault = 77, next = 77;
@@ -1045,9 +1045,9 @@ static void turns(void) {
     NO_TURN(7, 2, 2, 500, LAB_NOT_YET, 77, 77); /* (the head wasn't handed out) */
     IS(ask_as(7, 9, 5, 0, LAB_NEVER, LAB_NEVER, 4, SETS(3)) == LAB_DONE);
     NO_TURN(7, 2, 2, 500, LAB_NOT_YET, 77, 77);
-    IS(lab_bay_journal(&bay, file, sizeof file, &written, &fault) == LAB_DONE && written == 269);
+    IS(lab_bay_journal(&bay, file, sizeof file, &written, &fault) == LAB_DONE && written == 303);
     NO_TURN(7, 2, 2, 500, LAB_NOT_YET, 77, 77);
-    IS(lab_bay_durable(&bay, 269) == LAB_DONE);
+    IS(lab_bay_durable(&bay, 303) == LAB_DONE);
     IS(ask_as(0, 0, 6, 0, LAB_NEVER, LAB_NEVER, 5, SETS(2, 6)) == LAB_DONE);
     TOLD(5, LAB_HOLDS, 3);
     NO_TURN(6, 2, 2, 500, LAB_BAY_MAY_NOT, 77, 5);
@@ -1055,25 +1055,25 @@ static void turns(void) {
     NO_TURN(7, 2, 0, 500, LAB_BAY_MAY_NOT, 77, 5);
     NO_TURN(3, 2, 2, 500, LAB_BAY_MAY_NOT, 77, 6);
     NO_TURN(7, 2, 33, 500, LAB_BAY_NO_CLASS, 77, 77);
-    NO_TURN(7, 2, 2, 268, LAB_NO_ROOM, 269, 77);
+    NO_TURN(7, 2, 2, 302, LAB_NO_ROOM, 303, 77);
     fault = 77;
-    IS(lab_bay_turn(&bay, classes, 2, 6, file, 269, &written, &fault) == LAB_DONE && written == 269 && fault == 77);
-    IS(memcmp(file, begins, 269) == 0 && sizeof begins == 270);
+    IS(lab_bay_turn(&bay, classes, 2, 6, file, 303, &written, &fault) == LAB_DONE && written == 303 && fault == 77);
+    IS(memcmp(file, begins, 303) == 0 && sizeof begins == 304);
     QUIET();
-    TEXT("", 538);
+    TEXT("", 606);
     IS(lab_bay_let_go(&bay, 5, 9) == LAB_DONE);
-    TEXT(GOES_ON, 749);
+    TEXT(GOES_ON, 834);
     QUIET();
-    IS(lab_bay_durable(&bay, 749) == LAB_DONE);
+    IS(lab_bay_durable(&bay, 834) == LAB_DONE);
     TOLD(5, LAB_LET_GO, 0);
     TOLD(6, LAB_HOLDS, 2);
     QUIET();
     freed();
 
     /* from the new file 6 comes back */
-    memcpy(file + 269, GOES_ON, sizeof GOES_ON - 1);
+    memcpy(file + 303, GOES_ON, sizeof GOES_ON - 1);
     terms_are(8, LAB_NEVER, LAB_NEVER, 64, 1);
-    IS(lab_bay_resume(classes, 2, &terms, file, 480, 50, &bay, &used, &fault) == LAB_DONE && used == 480);
+    IS(lab_bay_resume(classes, 2, &terms, file, 531, 50, &bay, &used, &fault) == LAB_DONE && used == 531);
     IS(lab_bay_look(&bay, 0, &standing, &next) == LAB_DONE && standing.number == 6 && standing.what == LAB_HOLDS && standing.needs == 2 && next == 7);
     IS(lab_bay_look(&bay, 1, &standing, &next) == LAB_NOT_YET);
     freed();

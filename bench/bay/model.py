@@ -381,6 +381,8 @@ class Bay:
                 asked, token = int(more[6], 16), int(more[7], 16)
                 held[number] = Ask(number, kind, owner, None, limit, asked, since, needs, now, HOLDS, "", "holds", it.durable_to, token=token)
                 it.granted = max(it.granted, token)
+            elif word == b"bay":
+                it.next, it.granted = max(it.next, int(more[2], 16)), max(it.granted, int(more[3], 16))
             elif word == b"end":
                 held.pop(int(more[0], 16), None)
             it.next = max([it.next, *(int(one, 16) + 1 for one in more[:1] if word != b"bay")])

@@ -78,7 +78,7 @@ class Brokers(OnEtcd):
         await asyncio.wait({task}, timeout=0.3)
         self.assertIsNone(task.done() and not task.cancelled() and (task.exception() or task.result()) or None)
         self.assertFalse(task.done())
-        self.assertEqual(one.why, ["it leads no more"])
+        self.assertIn(one.why, (["it leads no more"], ["its lease is over"]))
         task.cancel()
         await asyncio.wait({task})
 
