@@ -5,9 +5,9 @@ use Rattle.std.proofs.lemmas.List.{append-nil}
 use Rattle.bay_book.specs.declared.ask.Mark.{Mark}
 use Rattle.bay_book.specs.declared.ask.Mark.TheVariants.{None as NoLine, At}
 use Rattle.bay_book.specs.declared.ask.Stage.TheVariants.{Holds}
-use Rattle.bay_book.specs.Asks.{ask_at, no_ask, is_over, holding, over, gone_since, back_again, hearing, IsSoundAt, IsSoundAsk}
+use Rattle.bay_book.specs.Asks.{ask_at, no_ask, is_over, over, gone_since, back_again, hearing, IsSoundAt, IsSoundAsk}
 use Rattle.bay_book.specs.Books.{BookView, IsSound, turn, reach, nobody}
-use Rattle.bay_book.proofs.Sound.{sound_set, sound_add, sound_holding, sound_over, sound_gone, sound_back, sound_hearing, sound_turn, sound_purge, sound_hold}
+use Rattle.bay_book.proofs.Sound.{sound_set, sound_add, sound_over, sound_gone, sound_back, sound_hearing, sound_turn, sound_purge, sound_hold}
 use Rattle.bay_log.specs.declared.line.Entry.{Entry}
 use Rattle.bay_log.specs.declared.line.Line.{Line}
 use Rattle.bay_log.specs.declared.line.Line.TheVariants.{Head, Hold as HoldLine, Back, End as EndLine, Note}

@@ -12,7 +12,7 @@ use Rattle.bay_book.specs.Telling.{to_tell}
 use Rattle.bay_book.specs.Books.{BookView, IsSound, with_ask, add, purge}
 use Rattle.bay_book.specs.Runs.{Call, IsAllowed, after_call}
 use Rattle.bay_book.specs.Runs.Call.{Add, Hold, Finish, SetGone, IsBack, Give, Turn, Reach, Tell, Purge}
-use Rattle.bay_book.proofs.Sound.{sound_holding, sound_over, sound_gone, sound_back, sound_hearing, sound_set, sound_add, sound_give, sound_turn, sound_reach, sound_purge, sound_hold}
+use Rattle.bay_book.proofs.Sound.{sound_over, sound_gone, sound_back, sound_hearing, sound_set, sound_add, sound_give, sound_turn, sound_reach, sound_purge, sound_hold}
 
 -- ---- soundness
 
