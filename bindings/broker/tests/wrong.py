@@ -73,7 +73,7 @@ WRONG = {
         "test_cuts.Programs.test_its_program_is_told_before_another_holds", "leases.py", (("LEASE, SILENT = 0.75, 1 / 3", "LEASE, SILENT = 1.5, 1 / 3"),)
     ),
     "by HTTP: who waits and asks nothing stays in the line": Wrong(
-        "test_http.Gone.test_one_that_waits_and_asks_nothing_leaves_the_line", "visits.py", (("            self._holding.cancel()\n            self._ends(Ended(\"NotHeld\", f\"its", "            self._ends(Ended(\"NotHeld\", f\"its"),)
+        "test_http.Gone.test_one_that_waits_and_asks_nothing_leaves_the_line", "visits.py", (("            self._holding.cancel()\n            self._ends(Ended(\"NotHeld\", \"its", "            self._ends(Ended(\"NotHeld\", \"its"),)
     ),
     "by HTTP: whose connection has ended is waited for like any other": Wrong(
         "test_http.Gone.test_whose_connection_ends_while_it_waits", "visits.py", (("self._is_quiet_from_now(CUT)", "self._is_quiet_from_now(QUIET)"),)
