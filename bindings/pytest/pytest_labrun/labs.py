@@ -5,6 +5,7 @@ from __future__ import annotations
 import contextlib
 import importlib
 import math
+import os
 import re
 import threading
 import time
@@ -95,6 +96,8 @@ class BrokerLab:
         self.address = address
         try:
             self.client = importlib.import_module("labrun_broker").connect(address)
+            # (which of somebody's runs it is)
+            self.client.by = f"{self.client.by} in {os.path.basename(os.getcwd())}"[:64]
             self.bay = {it["name"]: tuple(it["tags"]) for it in self.client.status()["instruments"]}
         except ImportError as fault:
             raise LabFault(f"--lab-broker needs the package labrun_broker: {fault}") from None

@@ -14,7 +14,7 @@ from typing import Any, Callable, Iterable, Mapping, Optional, Sequence, TypeVar
 import pytest
 from labrun.picks import NoSuch, counted, is_plain, matching
 
-MARK = "instruments"
+MARK, MISSPELT = "instruments", "instrument"
 NAME = re.compile(r"[A-Za-z][A-Za-z0-9._-]{0,63}")
 A_NAME = "at most 64 letters, digits, `-`, `_` and `.`, a letter first"
 MOST_WAYS = 1000
@@ -160,6 +160,8 @@ def place_of(node: Any, word: Optional[str]) -> str:
 
 def wishes_of(item: pytest.Item) -> list[Wish]:
     """Of its markers, those of its class and module too, and of the fixtures that it uses."""
+    for node, _ in item.iter_markers_with_node(MISSPELT):
+        raise Fault(f"{place_of(node, None)}: the marker is called {MARK}, and not {MISSPELT}: this one would hold nothing")
     marks = item.iter_markers_with_node(MARK)
     found = [read_wish(mark.args, mark.kwargs, functools.partial(place_of, node)) for node, mark in marks]
     return found + [wish for _, wish in _fixtures(item)]

@@ -101,3 +101,21 @@ def test_unknown_instruments_and_no_broker(pytester: pytest.Pytester, run: Run, 
         done = run("--lab-broker", f"unix:{tmp_path}/none.sock", *words)
         assert done.ret == pytest.ExitCode.USAGE_ERROR
         done.stderr.fnmatch_lines([f"ERROR: --lab-broker unix:{tmp_path}/none.sock: *can't be reached*"])
+
+
+def test_by(pytester: pytest.Pytester, run: Run, broker: str, monkeypatch: pytest.MonkeyPatch) -> None:
+    """Others see whose run it is, and in which folder."""
+    monkeypatch.setenv("BROKER", broker)
+    pytester.makepyfile(
+        """
+        import os
+        import labrun_broker, pytest
+
+        @pytest.mark.instruments("scope")
+        def test_it(instruments):
+            with labrun_broker.connect(os.environ["BROKER"]) as lab:
+                [by] = [it["by"] for it in lab.status()["stations"] if it["instruments"] == ["scope"]]
+            assert "@" in by and (len(by) == 64 or by.endswith(" in " + os.path.basename(os.getcwd()))), by
+        """
+    )
+    run("--lab-broker", broker).assert_outcomes(passed=1)

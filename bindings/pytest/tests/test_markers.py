@@ -89,6 +89,12 @@ def test_an_unknown_instrument_is_an_error_at_its_place(pytester: pytest.Pyteste
     assert done.ret == pytest.ExitCode.INTERRUPTED or workers
 
 
+def test_a_misspelt_marker_is_an_error(pytester: pytest.Pytester, run: Run) -> None:
+    pytester.makepyfile(test_it='import pytest\n\n@pytest.mark.instrument("scope")\ndef test_it():\n    pass\n')
+    told = "test_it.py:3: the marker is called instruments, and not instrument: this one would hold nothing"
+    run().stdout.fnmatch_lines(["*ERROR collecting test_it.py*", told])
+
+
 @pytest.mark.parametrize(
     "marker, told",
     [
