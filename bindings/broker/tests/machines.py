@@ -1,13 +1,14 @@
 """Three machines, each with a member of etcd and a broker that stands by for the others, and faults at random, while some programs on a fourth
 share instruments that refuse, and count, a second client.
 
-usage: python3 -m tests.machines [FAULTS] [--seed N] [--lease SECONDS] [--only KIND] [--disk]
+usage: python3 -m tests.machines [FAULTS] [--seed N] [--lease SECONDS] [--only KIND] [--disk] [--safe]
        so many faults (100), run in bindings/broker by root: the machines are network namespaces
 
 A fault ends the broker that leads by `kill -9` or SIGTERM, stops it for longer than its lease, cuts its machine off for as long, or kills a
 member of etcd; each is there again soon after. A program takes some instruments, talks to all of them at once, notes, and lets go. No
 instrument may refuse; no program may fail; and at the end everybody can hold everything. It tells for each kind how long it took from the
-fault until a program held. What etcd writes is in memory (/dev/shm), unless --disk says otherwise."""
+fault until a program held. What etcd writes is in memory (/dev/shm), unless --disk says otherwise. With --safe only what an instrument refuses counts, as on a machine
+that is too slow or too busy for leases of some seconds: there it may take long, and programs may give up."""
 
 from __future__ import annotations
 
@@ -275,6 +276,7 @@ def main() -> int:
     parser.add_argument("--lease", type=int, default=5)
     parser.add_argument("--only", choices=tuple(KINDS))
     parser.add_argument("--disk", action="store_true")
+    parser.add_argument("--safe", action="store_true")
     args = parser.parse_args()
     if why := why_not():
         print(f"left out: {why}")
@@ -306,10 +308,12 @@ def main() -> int:
                     pass
         except (AssertionError, labrun.LabrunError) as it:
             fault = f"{type(it).__name__}: {it}"
-        return tells(folder, bay, day, programs, fault)
+        refused = tells(folder, bay, day, programs, fault)
+        return 1 if refused or not args.safe and (programs.failed or fault) else 0
 
 
 def tells(folder: str, bay: Any, day: Optional[Day], programs: Programs, fault: str) -> int:
+    """How many talks were refused."""
     bay.process.stdin.close()
     counts = [line.split() for line in bay.process.stdout if line.strip()]
     talks, refused = (sum(int(it[at]) for it in counts) for at in (2, 4))
@@ -322,7 +326,7 @@ def tells(folder: str, bay: Any, day: Optional[Day], programs: Programs, fault: 
             with open(f"{folder}/{name}", encoding="utf-8", errors="replace") as file:
                 print(f"{name}: {file.read()[-2000:]}")
     print(f"{programs.done} sessions, {talks} talks, {refused} refused, {len(programs.failed)} programs failed{': ' if fault else ''}{fault}")
-    return 1 if refused or programs.failed or fault else 0
+    return refused
 
 
 if __name__ == "__main__":
