@@ -95,16 +95,17 @@ function drawDisk() {
 
 function rowOf(it, long) {
   const holder = it.holder && station(it.holder), isGone = holder && holder.state === "gone";
-  const kind = isGone ? "gone" : !it.holder ? (it.waiting.length ? "wait" : "free") : it.waiting.length ? "wait" : "use";
+  const isOut = it.out != null && !it.holder;
+  const kind = isGone ? "gone" : isOut ? "out" : !it.holder ? (it.waiting.length ? "wait" : "free") : it.waiting.length ? "wait" : "use";
   const row = make("div", `row ${kind}${it.holder ? " held" : ""}${long && it.holder === long.name && it.waiting.length ? " worst" : ""}`, make("span", "name", named(it.name)));
   row.dataset.instrument = it.name;
-  const state = make("span", "state", ...(it.holder ? [named(it.holder), isGone ? " is gone" : ""] : ["free"]));
+  const state = make("span", "state", ...(it.holder ? [named(it.holder), isGone ? " is gone" : ""] : [isOut ? "out of order" : "free"]));
   if (holder && holder.by) state.append(make("span", "soft", " by ", named(holder.by)));
   row.append(state, make("span", "since", since(it.holder ? it.since : null)));
   if (it.label) row.append(make("span", "line label", make("bdi", "", it.label)));
   if (it.waiting.length) row.append(make("span", "line", it.waiting.length === 1 ? "waits: " : `${it.waiting.length} wait: `, ...list(it.waiting)));
   if (holder && holder.note) row.append(make("span", "line of-note", make("bdi", "note", holder.note)));
-  if (it.out != null) row.append(make("span", "line of-note", "out of order", it.out && ": ", make("bdi", "note", it.out), " (says ", make("bdi", "", it.out_by), ")"));
+  if (it.out != null) row.append(make("span", "line", isOut ? "" : "out of order", !isOut && it.out ? ": " : "", make("bdi", "", it.out), " (says ", make("bdi", "", it.out_by), ")"));
   return row;
 }
 function links(why, seen) {
