@@ -485,7 +485,7 @@ static int refused(const struct talk *it) {
 static struct {
     char *station;
     struct text names; /* of the instruments, each behind a tab */
-    double lease, beat, until;
+    double lease, beat, until, token;
 } held;
 
 static void put_names(struct text *to, char *names, bool is_list) {
@@ -596,6 +596,7 @@ static void tell(const struct talk *it, struct text *said, double *said_at) {
 static bool is_held(const struct talk *it) {
     const char *body = body_of(it), *at = value_of(body, "instruments");
     held.lease = number_of(value_of(body, "lease"));
+    held.token = number_of(value_of(body, "token"));
     held.beat = number_of(value_of(body, "ping"));
     held.until = isnan(held.lease) ? (double)INFINITY : it->at + held.lease;
     free(held.station);
@@ -699,6 +700,9 @@ static void begin_command(void) {
         *at = ' ';
     setenv("LABRUN_HELD", names[0] ? names + 1 : names, 1);
     setenv("LABRUN_STATION", held.station, 1);
+    struct text token = {0};
+    putf(&token, "%.0f", isnan(held.token) ? 0 : held.token);
+    setenv("LABRUN_TOKEN", token.at, 1);
     setenv("LABRUN_AROUND", around.at, 1);
     execvp(wish.command[0], wish.command);
 }

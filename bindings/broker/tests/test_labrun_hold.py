@@ -63,9 +63,9 @@ class Held(OnBroker):
 
     def test_it_runs_a_command(self) -> None:
         broker, one = self.at(BAY, "--state", "FOLDER/state")
-        ran = self.ran(broker, "scope", "supply", "--station", "board", "--", "sh", "-c", 'echo "$LABRUN_HELD|$LABRUN_STATION|$LABRUN_AROUND"; exit 3')
-        held, station, around = ran.stdout.strip().split("|")
-        self.assertEqual((ran.returncode, held, station, ran.stderr), (3, "scope supply", "board", ""))
+        ran = self.ran(broker, "scope", "supply", "--station", "board", "--", "sh", "-c", 'echo "$LABRUN_HELD|$LABRUN_STATION|$LABRUN_TOKEN|$LABRUN_AROUND"; exit 3')
+        held, station, token, around = ran.stdout.strip().split("|")
+        self.assertEqual((ran.returncode, held, station, token, ran.stderr), (3, "scope supply", "board", "1", ""))
         self.assertEqual(around.split("\t")[1:], [broker.address, "board", "scope", "supply"])
         with open(f"{broker.folder}/state/records.jsonl", encoding="utf-8") as file:
             records = [json.loads(it) for it in file]
