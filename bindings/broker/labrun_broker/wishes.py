@@ -129,19 +129,30 @@ def resolved(wish: Wish, bay: Bay) -> Wish:
         return wish
     choices: dict[tuple[str, ...], None] = {}
     for words in wish.choices:
-        choices.update(dict.fromkeys(_sets(words, _may_use(wish, bay), bay)))
+        choices.update(dict.fromkeys(_sets(words, wish, bay)))
     if len(choices) > MOST_CHOICES:
         raise BadWish(f"these words stand for {len(choices)} choices; {MOST_CHOICES} are the most")
     return replace(wish, instruments=(), any_of=tuple(choices))
 
 
-def _sets(words: Sequence[str], may: Sequence[str], bay: Bay) -> tuple[tuple[str, ...], ...]:
+def _sets(words: Sequence[str], wish: Wish, bay: Bay) -> tuple[tuple[str, ...], ...]:
+    may = _may_use(wish, bay)
     try:
         return sets_of(words, may, bay.tags)
-    except NoSuch as fault:
+    except (NoSuch, TooFew) as fault:
+        if _is_there(words, bay):
+            raise MayNotUse(wish.station or "a guest", " ".join(words), may) from None
         raise NoInstrument(str(fault)) from None
-    except (TooFew, TooMany) as fault:
+    except TooMany as fault:
         raise BadWish(str(fault)) from None
+
+
+def _is_there(words: Sequence[str], bay: Bay) -> bool:
+    """Whether the bay has it for somebody."""
+    try:
+        return bool(sets_of(words, bay.instruments, bay.tags))
+    except ValueError:
+        return False
 
 
 def _no_such(name: str, bay: Bay) -> NoInstrument:
