@@ -15,7 +15,8 @@ from .texts import plain
 from .ways import Way, variable_of, way_of
 
 ANSWER = 20.0  # seconds: a guard asks for patience, and so may the instrument
-LAST = 2.0  # for what was written before the session lets go
+LAST = 5.0  # for what was written before the session lets go
+TURNS = 20  # of the loop, in which whoever has connected is taken
 
 
 class Local(End):
@@ -111,6 +112,9 @@ class Forward:
 
     async def lets_go(self) -> None:
         """No more is taken, and the instrument has what was written until now, if that doesn't take long."""
+        # (a program that connects, writes and ends may have done all that before this loop has seen it)
+        for _ in range(TURNS):
+            await asyncio.sleep(0)
         if self._server is not None:
             self._server.close()
         with contextlib.suppress(OSError, builtins.TimeoutError):
