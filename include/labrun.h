@@ -12,7 +12,6 @@
      6  LAB_NO_ROOM     what was to be written has more than `room` bytes; `written` says how many
      7  LAB_NOT_OPEN    the handle has nothing that the call could act on: it isn't open
      8  LAB_NOT_YET     not yet, or not now: what was asked for isn't so
-     9  LAB_NO_SESSION  the job has no session left to begin
     10  LAB_SESSIONS_LEFT  the job can't retire, because it is in a session or has one left
     11  LAB_IN_USE      the handle that is to be filled isn't empty: it is open, or closed and not freed, or it wasn't zeroed
     12  LAB_JOURNAL_FULL  the bench keeps its steps and has no room for those of this call: take its journal (`lab_journal`), and call again
@@ -49,7 +48,6 @@ extern "C" {
 #define LAB_NO_ROOM 6u
 #define LAB_NOT_OPEN 7u
 #define LAB_NOT_YET 8u
-#define LAB_NO_SESSION 9u
 #define LAB_SESSIONS_LEFT 10u
 #define LAB_IN_USE 11u
 #define LAB_JOURNAL_FULL 12u
@@ -110,24 +108,23 @@ uint32_t lab_upgrade(const uint8_t *script, size_t length, uint8_t *report, size
        nothing. A thread that is killed within a call leaves the handle busy for good.
      - Any thread may act for any job. If two threads act for one job, each sees what the other did: say among yourselves who does.
      - A thread that waits sleeps on a condition variable of yours. Whoever called `lab_settle` wakes the threads of the jobs that `came`
-       names, and whoever called `lab_end`, `lab_withdraw`, `lab_begin`, took single turns (`lab_turn`, `lab_serve`,
-       `lab_serve_others`), or set `lab_overtakes` lower, calls `lab_settle`. There is nothing else to wake anybody for, and nothing to look at from time to time.
-     - But a session with patience counts the calls of `lab_settle` and `lab_begin` in which it waits, whoever makes them: let somebody
-       call now and then, so that it does run out. A job that is outside (`lab_overtakes`) is in no session, and its patience doesn't run:
-       count yourself, and call `lab_withdraw`.
-     - A job gives up what a neighbour asks for in `lab_settle`, `lab_begin`, `lab_end` and `lab_retire` of whatever job. So a thread that
-       works, sleeps or has stopped keeps nobody waiting, as long as its job doesn't hold, or keep while it waits, an instrument that
-       the other needs.
+       names, and whoever called `lab_end` or `lab_withdraw`, or set `lab_overtakes` lower, calls `lab_settle`. There is nothing else to
+       wake anybody for, and nothing to look at from time to time.
+     - But a session with patience counts the calls of `lab_settle` in which it waits, whoever makes them: let somebody call now and then,
+       so that it does run out. A job that is outside (`lab_overtakes`) is in no session, and its patience doesn't run: count yourself,
+       and call `lab_withdraw`.
+     - A job gives up what a neighbour asks for in `lab_settle`, `lab_end` and `lab_retire` of whatever job. So a thread that works, sleeps
+       or has stopped keeps nobody waiting, as long as its job doesn't hold, or keep while it waits, an instrument that the other needs.
      - A thread that stops while its job holds keeps those instruments: others wait, and `lab_keepers` tells which jobs keep an
        instrument from one, and which of these hold it. Any thread may finish the session by `lab_end` for it. Nothing is lost if
        nobody does: the close then answers 3.
      - Who comes to hold though nobody waits for it any more is told in `came`, too. End such a session, or it keeps its instruments.
      - No call between the open and the close asks for memory, but `lab_add`, and `lab_journal` and `lab_more`.
      - A job or an instrument is a number from 0, in the order of the script; sessions are counted from 1.
-     - At each status but 0 nothing has changed and nothing is written, but for: `turned` and what was done, at 8 and 9 of `lab_begin`
-       and at 8 and 10 of `lab_retire`; `written` at 6; `told` at 1, 4 and 5 of an open and of `lab_bench_script` (at 4 all three are 0; at 5 `line` may be how
-       far the script was read, with `cause` 12) and at the close; what `lab_add` says of itself; and the close, which at 3 has written the
-       report, and at 3 and 6 has closed the bench. */
+     - At each status but 0 nothing has changed and nothing is written, but for: `turned` and what was done, at 8 and 10 of `lab_retire`;
+       `written` at 6; `told` at 1, 4 and 5 of an open and of `lab_bench_script` (at 4 all three are 0; at 5 `line` may be how far the script
+       was read, with `cause` 12) and at the close; what `lab_add` says of itself; and the close, which at 3 has written the report, and at
+       3 and 6 has closed the bench. */
 
 /* What C keeps of a bench. */
 struct lab_bench {
@@ -143,7 +140,7 @@ struct lab_size {
 struct lab_session {
     uint64_t needs;        /* its instruments: bit k for instrument k */
     size_t commands;       /* how many commands it has */
-    uint32_t patience;     /* after how many turns, or calls of `lab_settle`, in which it waited it is given up; 0 if it has none */
+    uint32_t patience;     /* after how many calls of `lab_settle` in which it waited it is given up; 0 if it has none */
     uint32_t has_patience; /* 1 if it has patience, else 0 */
 };
 
@@ -165,7 +162,7 @@ struct lab_keepers {
 };
 
 struct lab_state {
-    uint64_t turns;         /* how many turns it took, and calls of `lab_settle` or `lab_begin` that named it or in which it waited */
+    uint64_t turns;         /* how many calls of `lab_settle` named it or came while it waited; a first session that the open gave up counts as one */
     uint32_t dining;        /* 0 thinking, 1 hungry, 2 eating */
     uint32_t drinking;      /* 0 tranquil, 1 thirsty, 2 drinking, 3 reaching, 4 retired; at 2 and 3 it holds its instruments */
     uint32_t session;       /* the session that it is in, or was in last; 0 before the first */
@@ -174,7 +171,7 @@ struct lab_state {
     uint32_t sessions_done; /* how many sessions were ended, not counting those given up */
     uint32_t withdrawn;     /* how many were given up */
     uint32_t meals;         /* how many meals were begun */
-    uint32_t waited;        /* for how many turns, and calls of `lab_settle`, this session has waited */
+    uint32_t waited;        /* for how many calls of `lab_settle` this session has waited */
 };
 
 /* A command as it stands in its instrument's log. */
@@ -243,7 +240,7 @@ uint32_t lab_keepers(struct lab_bench *bench, uint32_t job, uint32_t instrument,
 uint32_t lab_settle(struct lab_bench *bench, uint32_t waiting, struct lab_came *came);
 
 /* Late thirst. A job that is in a session and waits keeps instruments for itself, though it may have to wait long for another one. So a bench
-   may leave jobs *outside*: `lab_settle` and `lab_begin` then begin the session of a job of `waiting` (it is *let in*) as soon as
+   may leave jobs *outside*: `lab_settle` then begins the session of a job of `waiting` (it is *let in*) as soon as
 
      (a) no job in a session needs one of its instruments: then it holds when the call ends; or
      (b) it has been *passed by* `most` times: that is, that many sessions that need one of its instruments were let in, by calls that wait
@@ -253,9 +250,8 @@ uint32_t lab_settle(struct lab_bench *bench, uint32_t waiting, struct lab_came *
    asked first goes first. At 0, as it is after the open, all of `waiting` are let in at once, as `lab_settle` says. The number may be set
    at any time, and counts from the next call on. Whoever calls `lab_settle` names all jobs that still wait: one that isn't named keeps its
    place, but is neither let in nor counted as passed by. After `lab_settle` each job of `waiting` that is left outside and may begin was passed by
-   fewer than `most` times, and one of its instruments is needed by a job in a session, which holds or waits for one that does. Sessions that
-   single turns (`lab_turn`) begin are let in by nobody, and count for nothing here. No journal keeps who is outside, nor this number: after
-   `lab_bench_resume` nobody is, and it is 0. 0, 7. */
+   fewer than `most` times, and one of its instruments is needed by a job in a session, which holds or waits for one that does. No journal
+   keeps who is outside, nor this number: after `lab_bench_resume` nobody is, and it is 0. 0, 7. */
 uint32_t lab_overtakes(struct lab_bench *bench, uint32_t most);
 
 /* Whether a job is outside: it has asked, and isn't let in yet. One that gives up asking (`lab_withdraw`) isn't any more. `lab_keepers` of a
@@ -274,21 +270,6 @@ uint32_t lab_outside(struct lab_bench *bench, uint32_t job, struct lab_outside *
    was no memory; 7; 14 if the job has retired. On a bench that keeps its steps see `lab_more`; there also 12: the sessions need more room for
    steps than there is, and there can be more only once those that are kept were taken by `lab_journal`. */
 uint32_t lab_add(struct lab_bench *bench, uint32_t job, const uint8_t *session, size_t length, struct lab_told *told);
-
-/* One turn of a job: it gives and asks at each of its edges, and does the first act that is due, also a command of a session
-   that it holds, or its end. 0, 2, 7. */
-uint32_t lab_turn(struct lab_bench *bench, uint32_t job, struct lab_turned *turned);
-
-/* Gives, asks, and ends or starts a meal: all that neighbours can wait for, and nothing of the job's sessions. 0, 2, 7. */
-uint32_t lab_serve(struct lab_bench *bench, uint32_t job, struct lab_turned *turned);
-
-/* `lab_serve` for each job but this one, in ascending order; `count` is of all. 0, 2, 7. */
-uint32_t lab_serve_others(struct lab_bench *bench, uint32_t job, struct lab_turned *turned);
-
-/* `lab_settle` for one job alone, at most `turns` times, until it holds; ends before that if nothing was due. If it holds already, nothing
-   is done. A session whose patience is used up is given up on the way, and the next one begun: `lab_state` says which session it
-   holds. Others may come to hold by it: the next `lab_settle` tells. 0 it holds; 8 not yet; 9 no session is left; 2, 7. */
-uint32_t lab_begin(struct lab_bench *bench, uint32_t job, uint32_t turns, struct lab_turned *turned);
 
 /* Does the next command of the session that a job holds, and tells its entry. 0; 8 if it doesn't hold, or no command is left;
    2, 7. */
@@ -327,14 +308,14 @@ uint32_t lab_bench_free(struct lab_bench *bench);
      - Write the script and the line `steps` whole before the first call: a file that was cut within its script is read as the shorter script
        that it is then.
      - Of a text `bench 1` the journal's script is what `lab_bench_script` gives. Write it together with the first text of `lab_journal`, which has
-       the steps that gave up the first sessions: without these steps a bench that is resumed has them to begin still (and then `lab_turn` and
-       `lab_withdraw` of each such job give them up).
+       the steps that gave up the first sessions: without these steps a bench that is resumed has them to begin still (`lab_settle` begins one
+       then: end it if it holds, or else it is given up).
      - A file that was cut while it was written comes back to its last whole line; `written` tells how many bytes that is. Cut the file
        there, take the journal of the bench that came back, and go on writing behind it.
      - A command that was in hand is done on the way back; the next journal tells it. All patience counts anew.
      - Room is kept for the steps of two calls. A call that does steps answers 12, and does nothing, if less than half of it is left: take
        the journal then, or rather after each call. That the room suffices isn't proved: if it ever didn't, `lab_journal` would answer 12
-       for good, and never give a journal that lacks a step. `lab_begin` settles once at most on such a bench.
+       for good, and never give a journal that lacks a step.
      - In the file, comments of your own begin with `# ` and stand between two texts. A journal has 1000000 steps at most: start a new one
        before. */
 
@@ -393,9 +374,6 @@ LAB_AT(lab_came, deeds, 12);
 LAB_IS(sizeof(struct lab_keepers) == 8);
 LAB_AT(lab_keepers, jobs, 0);
 LAB_AT(lab_keepers, holding, 4);
-LAB_IS(sizeof(struct lab_outside) == 8);
-LAB_AT(lab_outside, is_outside, 0);
-LAB_AT(lab_outside, passed, 4);
 LAB_IS(sizeof(struct lab_state) == 48);
 LAB_AT(lab_state, turns, 0);
 LAB_AT(lab_state, dining, 8);
@@ -418,6 +396,9 @@ LAB_IS(sizeof(struct lab_planned) == 12);
 LAB_AT(lab_planned, instrument, 0);
 LAB_AT(lab_planned, verb, 4);
 LAB_AT(lab_planned, number, 8);
+LAB_IS(sizeof(struct lab_outside) == 8);
+LAB_AT(lab_outside, is_outside, 0);
+LAB_AT(lab_outside, passed, 4);
 #undef LAB_AT
 #undef LAB_IS
 #endif

@@ -12,7 +12,7 @@
      LAB_NOT_WRITTEN  it came to hold in time, but the journal's line that says so wasn't durable within the bay's time for the disk
      LAB_LIMIT        it held for longer than its limit, and somebody waited for what it had
      LAB_TAKEN        somebody took it away
-     LAB_REPLACED     another ask has what it held
+     LAB_REPLACED     another ask has what it held (no call ends one so now; a journal from before may say it)
      LAB_STOPPED      the bay was stopped while it waited
    (An ask that left is told nothing of it. What comes of one whose client is gone may be told as well: nobody waits for that, so drop it.)
 
@@ -22,18 +22,18 @@
    session is over.
 
    What holds, whatever the calls: no two asks hold one instrument; whoever was told that it holds goes on to hold, until it lets go, leaves,
-   is taken away, or its limit or its grace is over; after each call nobody waits whose instruments are free, kept for nobody before it, and
-   for whom there is a place, and nobody waits whose deadline is over; while there is a place for it, an ask is passed at a set by at most
-   `overtakes` that came later, and of those that want the same, whoever asked first is served first. Of a journal that is cut at any byte at
-   or behind what was durable, each ask that was told that it holds and isn't over comes back, with its owner.
+   is taken away, or its limit or its grace is over; after each call nobody waits whose instruments are free, kept for nobody who goes
+   before it, and for whom there is a place, and nobody waits whose deadline is over; while there is a place for it, an ask is passed at a
+   set by at most `overtakes` that came later, and of those that want the same, whoever asked first is served first. Of a journal that is cut
+   at any byte at or behind what was durable, each ask that was told that it holds and isn't over comes back, with its owner.
 
    A whole shell, in any language:
 
      with your mutex:  call; then pump
      pump:             while lab_bay_tell answers 0, hand what is told to whoever waits for that ask, and give its serial number back in the
                        next lab_bay_tell; if there is text, wake the writer
-     writer:           with the mutex lab_bay_journal, without it write and fsync, with it lab_bay_durable and pump; if a write fails, cut the
-                       file back to what is durable, and lab_bay_failed: what wasn't durable is handed out again
+     writer:           with the mutex lab_bay_journal, without it write and fsync, with it lab_bay_durable and pump; if that fails, lab_bay_failed:
+                       the bytes that weren't durable are handed out again, to be written to the same place (or cut the file back before)
      timer:            with the mutex lab_bay_time, and pump; sleep until the moment that it tells
 */
 #ifndef LABRUN_BAY_H
@@ -90,7 +90,7 @@ struct lab_terms {
     uint64_t line;      /* for how many sets there is room in line */
     uint64_t grace;     /* how long what is held is kept once its client is gone, or LAB_NEVER */
     uint64_t disk;      /* how long a hold may wait for the disk, and always until its deadline; or LAB_NEVER */
-    uint32_t overtakes; /* by how many that came later an ask is passed at most */
+    uint32_t overtakes; /* how often an ask may be passed at a set (docs/BAY.md, *Who is let in*) */
     uint32_t keeps;     /* 1: the bay keeps a journal; 0: it doesn't, and nothing waits for one */
 };
 

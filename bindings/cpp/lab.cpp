@@ -24,6 +24,9 @@ static std::size_t waiting(const lab &in) {
     for (const labrun::standing &it : in.sessions()) count += !it.holds;
     return count;
 }
+static void until_spinning(const std::function<bool()> &is_so) {
+    while (!is_so()) std::this_thread::yield();
+}
 static void until_waits(const lab &in, std::size_t count) {
     until([&] { return waiting(in) == count; });
 }
@@ -133,8 +136,8 @@ static void a_limit() {
         expect("of nobody else", other.is_held());
     }
     expect("it is told", throws<labrun::taken_away>([&] { limited.finish(); }));
-    auto later_over = bay.hold({"scope"}, asking().limit(100ms));
     const auto begun = std::chrono::steady_clock::now();
+    auto later_over = bay.hold({"scope"}, asking().limit(100ms));
     bay.hold({"scope"}, LONG).finish();
     expect("not before its time", std::chrono::steady_clock::now() - begun >= 90ms && !later_over.is_held());
 }
@@ -409,6 +412,63 @@ static void signals() {
     expect("in the program's thread", signals_elsewhere == 0);
 }
 
+// Whoever waits is woken by signals, and waits on: no sooner than its time it is told, and it holds once it can.
+static void signals_to_one_that_waits() {
+    struct sigaction action {}, before {};
+    action.sa_handler = [](int) { signals_elsewhere++; };
+    sigaction(SIGUSR1, &action, &before); // (without SA_RESTART)
+    signals_elsewhere = 0;
+    lab bay(BAY);
+    auto held = bay.hold({"scope"});
+    std::atomic<bool> came{false}, is_over{false};
+    std::atomic<int> waits_at{0};
+    pthread_t threads[2];
+    auto waits = later([&] {
+        threads[0] = pthread_self();
+        waits_at++;
+        auto next = bay.hold({"scope"});
+        came = true;
+        until([&] { return is_over.load(); });
+    });
+    auto is_late = later([&] {
+        threads[1] = pthread_self();
+        waits_at++;
+        const auto begun = std::chrono::steady_clock::now();
+        const bool told = throws<labrun::timed_out>([&] { return bay.hold({"scope"}, asking().timeout(200ms)); });
+        expect("not before its time", told && std::chrono::steady_clock::now() - begun >= 200ms);
+        until([&] { return is_over.load(); });
+    });
+    until([&] { return waits_at == 2 && bay.sessions().size() == 3; });
+    for (int times = 0; times < 100; times++, usleep(500))
+        for (const pthread_t it : threads) pthread_kill(it, SIGUSR1);
+    until([&] { return bay.sessions().size() == 2; });
+    expect("the signals came, and it waits", signals_elsewhere > 0 && !came);
+    held.finish();
+    until([&] { return came.load(); });
+    is_over = true;
+    waits.get();
+    is_late.get();
+    sigaction(SIGUSR1, &before, nullptr);
+}
+
+// Two threads end the same session: it lets go once, and whoever comes second is told so.
+static void two_let_go() {
+    for (int times = 0; times < 100; times++) {
+        lab bay(BAY);
+        auto held = bay.hold({"scope"});
+        std::atomic<int> told{0}, at{0};
+        const auto ends = [&] {
+            at++;
+            until_spinning([&] { return at == 2; });
+            told += throws<labrun::not_held>([&] { held.finish(); });
+        };
+        auto other = later(ends);
+        ends();
+        other.get();
+        expect("one of two", told == 1 && bay.sessions().empty());
+    }
+}
+
 int main() {
     for (const auto &test : {what_is_free,
                              who_waits_is_woken,
@@ -429,7 +489,9 @@ int main() {
                              what_makes_no_sense,
                              the_line_is_full,
                              a_fork,
-                             signals})
+                             signals,
+                             signals_to_one_that_waits,
+                             two_let_go})
         test();
     return ended();
 }

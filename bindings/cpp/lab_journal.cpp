@@ -1,86 +1,17 @@
 // Tests a lab with a journal: c++ -std=c++17 -I include bindings/cpp/lab_journal.cpp -L FOLDER -llabrun -pthread
-#include "labrun/lab.hpp"
-#include "checks.hpp"
-#include "disk.hpp"
+#include "journal.hpp"
 #include <csignal>
-#include <fstream>
-#include <map>
 #include <random>
 #include <sys/wait.h>
 
-using labrun::asking;
-using labrun::journal_error;
-using labrun::lab;
-
-static const names BAY = {"scope", "supply", "load-1", "load-2"};
-static const auto NOW = asking().timeout(0s);
-static const auto LONG = asking().timeout(300s);
-static std::string path;
-
-// By how much the clock on the wall goes wrong, in seconds.
-static std::atomic<long> clock_is_wrong_by{0};
+// By how much the clock on the wall goes wrong, in seconds; and the one that nobody sets.
+static std::atomic<long> clock_is_wrong_by{0}, steady_is_ahead_by{0};
 extern "C" int clock_gettime(clockid_t which, timespec *it) noexcept {
     const long status = syscall(SYS_clock_gettime, which, it);
     if (which == CLOCK_REALTIME) it->tv_sec += clock_is_wrong_by;
+    if (which == CLOCK_MONOTONIC) it->tv_sec += steady_is_ahead_by;
     return static_cast<int>(status);
 }
-
-static labrun::lab_options options(labrun::sync how = labrun::sync::none) {
-    labrun::lab_options it;
-    it.stations = {{"board", {"scope", "supply"}}};
-    it.journal = path;
-    it.sync = how;
-    return it;
-}
-static lab opened() { return lab(BAY, options()); }
-
-// With so little patience for the disk that nobody waits for long.
-static lab impatient() {
-    labrun::lab_options it = options();
-    it.disk = 50ms;
-    return lab(BAY, it);
-}
-
-static std::string written() {
-    std::ifstream file(path, std::ios::binary);
-    return {std::istreambuf_iterator<char>(file), std::istreambuf_iterator<char>()};
-}
-static void put(const std::string &text) { std::ofstream(path, std::ios::binary | std::ios::trunc) << text; }
-static void anew() { std::remove(path.c_str()); }
-
-static std::size_t count(const std::string &text, const std::string &what) {
-    std::size_t found = 0;
-    for (std::size_t at = text.find(what); at != std::string::npos; at = text.find(what, at + 1)) found++;
-    return found;
-}
-
-// Does this until it doesn't fail. (When the disk is well again, a write that was under way may fail yet.)
-static void until_done(const std::function<void()> &call) {
-    while (throws<journal_error>(call)) {
-    }
-}
-
-// Which sessions hold by the lines of a file, as the words of its lines say it; and whether two ever held one instrument.
-struct by_lines {
-    std::map<std::uint64_t, std::uint64_t> held;
-    std::size_t holds = 0;
-    bool meets = false;
-
-    explicit by_lines(const std::string &text) {
-        std::istringstream lines(text.substr(0, text.rfind('\n') + 1));
-        for (std::string sum, word, line; std::getline(lines, line);) {
-            std::istringstream words(line);
-            std::uint64_t ask = 0, kind = 0, needs = 0;
-            words >> sum >> word >> std::hex >> ask;
-            if (word == "end") held.erase(ask);
-            if (word != "hold") continue;
-            words >> kind >> needs;
-            for (const auto &it : held) meets = meets || (it.second & needs);
-            held[ask] = needs;
-            holds++;
-        }
-    }
-};
 
 // A process that does this and is killed, at the moment when it says so.
 static void killed(const std::function<void(const std::function<void()> &)> &does) {
@@ -273,168 +204,6 @@ static void of_others() {
     expect("no such folder", throws<journal_error>([&] { return lab(BAY, other); }));
 }
 
-// A hold that can't be written in time is over, and holds nothing.
-static void no_hold() {
-    anew();
-    const lab bay = impatient();
-    disk_is_full();
-    same("it isn't written", why<journal_error>([&] { return bay.hold({"scope"}, NOW); }),
-         path + ": a write failed (No space left on device)");
-    expect("it holds nothing", bay.sessions().empty());
-    auto waits = later([&] { return bay.hold({"supply"}, LONG).number(); });
-    std::this_thread::sleep_for(100ms);
-    expect("until its time limit it waits for the disk", waits.wait_for(0s) == std::future_status::timeout);
-    disk_is_well();
-    expect("and holds once it can", waits.get() == 2);
-    expect("so does another", bay.hold({"scope"}, LONG).number() == 3);
-    until_done([&] { bay.close(); });
-    const by_lines found(written());
-    expect("nobody holds by the lines", found.held.empty() && !found.meets);
-}
-
-// Whoever can't let go holds, also against those that wait, until that is written.
-static void no_end() {
-    anew();
-    const lab bay = opened();
-    auto held = bay.hold({"scope"});
-    std::atomic<bool> came{false};
-    auto waits = later([&] {
-        auto next = bay.hold({"scope"}, LONG);
-        came = true;
-    });
-    until([&] { return bay.sessions().size() == 2; });
-    disk_is_full();
-    for (int times = 0; times < 3; times++)
-        same("it isn't written", why<journal_error>([&] { held.finish(); }), path + ": a write failed (No space left on device)");
-    expect("it may do nothing more", throws<labrun::not_held>([&] { held.note("4.998 V"); }) && !held.is_held());
-    std::this_thread::sleep_for(100ms);
-    expect("nobody else is let in", !came);
-    disk_is_well();
-    until_done([&] { held.finish(); });
-    waits.get();
-    expect("then it is", came);
-    auto goes = std::make_unique<labrun::held>(bay.hold({"scope"}));
-    disk_is_full();
-    goes.reset();
-    auto late = later([&] { return bay.hold({"scope"}, LONG).number(); });
-    std::this_thread::sleep_for(50ms);
-    expect("one that goes holds, too", late.wait_for(0s) == std::future_status::timeout);
-    disk_is_well();
-    expect("until it is written", late.get() == 4);
-}
-
-// Whoever couldn't let go, and comes back to that when it was written meanwhile, has let go.
-static void an_end_that_was_written_meanwhile() {
-    anew();
-    const lab bay = opened();
-    auto held = bay.hold({"scope"});
-    disk_is_full();
-    expect("it isn't written", throws<journal_error>([&] { held.finish(); }));
-    disk_is_well();
-    expect("others come to hold once it is", bay.hold({"scope"}, LONG).is_held());
-    held.finish();
-    same("it has let go", why<labrun::not_held>([&] { held.finish(); }), "session 1 has let go");
-}
-
-static void no_note() {
-    anew();
-    const lab bay = opened();
-    auto held = bay.hold({"scope"});
-    disk_is_full();
-    expect("it isn't written", throws<journal_error>([&] { held.note("4.998 V"); }));
-    expect("it holds", held.is_held());
-    expect("not taken for good", throws<journal_error>([&] { bay.take_away(held.number()); }));
-    expect("but told", throws<labrun::taken_away>([&] { held.finish(); }));
-    expect("nor closed", throws<journal_error>([&] { bay.close(); }));
-    disk_is_well();
-    until_done([&] { bay.close(); });
-    const std::string all = written();
-    expect("once the disk is well, each is there once",
-           count(all, " note 0000000000000001 4.998 V\n") == 1 && count(all, " end 0000000000000001 taken_away ") == 1);
-}
-
-// The disk hangs: times pass, and are told.
-static void a_disk_that_hangs() {
-    anew();
-    labrun::lab_options it = options(labrun::sync::data);
-    it.disk = 50ms;
-    const lab bay(BAY, it);
-    auto held = bay.hold({"scope"});
-    is_hanging = true;
-    same("a time limit", why<labrun::timed_out>([&] { return bay.hold({"scope"}, asking().timeout(30ms)); }),
-         "still waits: scope is held by a guest (session 1) for _ s");
-    same("the disk's", why<journal_error>([&] { return bay.hold({"supply"}, asking().timeout(10ms)); }), path + ": the disk took too long");
-    is_hanging = false;
-    expect("it goes on", bay.hold({"supply"}, LONG).is_held());
-}
-
-// Each call that changes a file as a lab is opened fails in turn: that is told, or told later, and the next open sees to the name again.
-static void the_name_is_on_the_disk(labrun::sync how) {
-    const int wanted = how == labrun::sync::data;
-    long bad = 1;
-    for (bool is_through = false; !is_through; bad++) {
-        anew();
-        const auto opens = [&] {
-            folder_syncs = 0;
-            const lab bay(BAY, options(how));
-            // (the rest of the calls are the writer's, and those of the close)
-            if (bay.hold({"scope"}, LONG).number() == 1) return disk_is_well();
-        };
-        disk(bad, bad);
-        const bool is_told = throws<journal_error>(opens);
-        is_through = !is_told;
-        disk_is_well();
-        expect("it is begun, or that is told", folder_syncs == (is_told ? 0 : wanted));
-        if (!is_told) break;
-        opens();
-        expect("its name", folder_syncs == wanted);
-    }
-    // (the file is cut, and synced, and then its folder)
-    expect("points of an open: " + std::to_string(bad - 1), bad - 1 == (how == labrun::sync::none ? 1 : 3));
-}
-
-// What is read at the open is on the disk before anybody is told of it; with sync none nothing is synced.
-static void what_is_synced() {
-    for (const auto how : {labrun::sync::data, labrun::sync::none}) {
-        anew();
-        const bool does = how == labrun::sync::data;
-        {
-            const lab bay(BAY, options(how));
-            syncs = 0;
-            auto held = bay.hold({"scope"});
-            expect("a hold", (syncs > 0) == does);
-            syncs = 0;
-            held.note("4.998 V");
-            expect("a note", (syncs > 0) == does);
-            syncs = 0;
-            held.finish();
-            expect("an end", (syncs > 0) == does);
-        }
-        const std::size_t found = written().size();
-        syncs = folder_syncs = 0;
-        bytes_written = 0;
-        const lab bay(BAY, options(how));
-        expect("what was read, and the name", (syncs > 0) == does && (folder_syncs > 0) == does);
-        expect("what was read is written again", bytes_written == (does ? found : 0));
-    }
-}
-
-// Those who ask while the disk is busy share the next write.
-static void threads_go_together() {
-    anew();
-    const lab bay(BAY, options(labrun::sync::data));
-    sync_takes = 2000;
-    syncs = 0;
-    std::vector<std::future<void>> threads;
-    for (std::size_t thread = 0; thread < 4; thread++)
-        threads.push_back(later([&, thread] {
-            for (int times = 0; times < 25; times++) bay.hold({BAY[thread]}).finish();
-        }));
-    for (auto &it : threads) it.get();
-    sync_takes = 0;
-    expect("200 lines by few syncs: " + std::to_string(syncs), syncs < 150);
-}
-
 // The clock on the wall was an hour ahead, and then isn't: moments of the file go on, and times pass as they should.
 static void a_clock_that_is_set() {
     anew();
@@ -457,6 +226,28 @@ static void a_clock_that_is_set() {
     clock_is_wrong_by = -3600;
     expect("nor while it runs", bay.hold({"supply"}, asking().timeout(30s)).is_held() && !held.is_held());
     clock_is_wrong_by = 0;
+}
+
+// Without a limit one waits for ever, and holds for ever: also if the clock says that a hundred years are over.
+static void a_clock_that_runs_ahead() {
+    anew();
+    {
+        const lab bay = opened();
+        auto held = bay.hold({"scope"}), limited = bay.hold({"supply"}, asking().limit(1h));
+        std::atomic<bool> came{false};
+        auto waits = later([&] {
+            auto next = bay.hold({"scope"});
+            came = true;
+        });
+        until([&] { return bay.sessions().size() == 3; });
+        steady_is_ahead_by = 100L * 365 * 86400;
+        expect("time goes by", bay.hold({"supply"}).is_held() && !limited.is_held());
+        expect("one holds, and one waits", held.is_held() && !came && bay.sessions().size() == 2);
+        held.finish();
+        waits.get();
+        expect("and holds", came);
+    }
+    steady_is_ahead_by = 0;
 }
 
 // Threads hold, note and let go while writes fail now and then: nobody meets, and each is in the file, once.
@@ -507,11 +298,9 @@ static void load(bool has_room) {
 
 int main(int, char **words) {
     path = std::string(words[1]) + "/bay.journal";
-    for (const auto &test : {who_held_comes_back, killed_at_any_moment, cuts, changes, of_others, no_hold, no_end,
-                             an_end_that_was_written_meanwhile, no_note, a_disk_that_hangs})
+    for (const auto &test : {who_held_comes_back, killed_at_any_moment, cuts, changes, of_others, a_clock_that_is_set,
+                             a_clock_that_runs_ahead})
         test();
-    for (const auto how : {labrun::sync::none, labrun::sync::data}) the_name_is_on_the_disk(how);
-    for (const auto &test : {what_is_synced, threads_go_together, a_clock_that_is_set}) test();
     for (const bool has_room : {true, false}) load(has_room);
     return ended();
 }

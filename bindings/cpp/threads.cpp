@@ -91,11 +91,17 @@ static void one_thread_at_a_desk() {
     bench of(two);
     auto held = of.desks()[0].begin();
     same("it holds", why<labrun::not_now>([&] { return of.desks()[0].begin(); }), "a is in a session, or waits for one");
-    auto waits = begins(of.desks()[1]);
-    expect("it waits", is_waiting(waits));
-    same("it waits", why<labrun::not_now>([&] { return of.desks()[1].begin(); }), "b is in a session, or waits for one");
+    std::atomic<int> refused{0};
+    const auto one_of_two = [&] {
+        std::uint32_t number = 0;
+        const auto begin = [&] { return number = of.desks()[1].begin()->number(); };
+        refused += why<labrun::not_now>(begin) == "b is in a session, or waits for one";
+        return number;
+    };
+    auto one = later(one_of_two), other = later(one_of_two);
+    until([&] { return refused == 1; });
     held.reset();
-    expect("it comes to hold", waits.get() == 1);
+    expect("the other one waits, and comes to hold", one.get() + other.get() == 1 && refused == 1);
 }
 
 // A session with a patience can be given up while a thread waits for it, and no other.
@@ -123,6 +129,50 @@ static void given_up() {
     const labrun::report report = of.close();
     expect("nothing is logged of what was given up",
            report.finished && report.text.find("withdrawn 2") != std::string::npos && report.text.find("b 1 ") == std::string::npos);
+}
+
+// The holder lets go just before another gives up the session that waits: it holds by then, or was given up before; never both.
+static void given_up_as_it_comes() {
+    std::string script = "lab 2\njob a\n";
+    for (int times = 0; times < 100; times++) script += "session\nscale add 1\nend\n";
+    script += "job b\n";
+    for (int times = 0; times < 100; times++) script += "session patience 999999\nscale read\nend\n";
+    bench of(script);
+    desk &a = of.desks()[0], &b = of.desks()[1];
+    int given_up = 0, wrong = 0;
+    for (int times = 0; times < 100; times++) {
+        auto held = a.begin();
+        std::atomic<bool> is_told{false}, came{false};
+        auto waits = later([&] {
+            is_told = throws<labrun::withdrawn>([&] { came = b.begin().has_value(); });
+        });
+        std::this_thread::sleep_for(std::chrono::microseconds(times * 20));
+        bool is_given_up = false;
+        if (times % 2) is_given_up = b.give_up();
+        held.reset();
+        is_given_up = is_given_up || b.give_up();
+        waits.get();
+        wrong += is_given_up != is_told || is_given_up == came;
+        given_up += is_given_up;
+    }
+    expect("whoever is told that it was given up didn't hold", wrong == 0);
+    const labrun::report report = of.close();
+    const std::string log = "instrument scale " + std::to_string(200 - given_up) + "\n";
+    expect("the log is of those that held", report.finished && report.text.find(log) != std::string::npos);
+}
+
+// Without a patience no count of turns ends the waiting: others have a thousand sessions meanwhile.
+static void others_take_turns() {
+    std::string script = "lab 2\njob a\nsession\nscale add 1\nend\njob b\nsession\nscale read\nend\njob c\n";
+    for (int times = 0; times < 1000; times++) script += "session\nlamp read\nend\n";
+    bench of(script);
+    auto held = of.desks()[0].begin();
+    auto waits = begins(of.desks()[1]);
+    while (of.desks()[2].begin()) {
+    }
+    expect("it waits", is_waiting(waits));
+    held.reset();
+    expect("and holds", waits.get() == 1 && of.close().finished);
 }
 
 // Whoever waits behind one that is given up is woken by that, though the first one holds on.
@@ -253,7 +303,7 @@ static void load(int wanted) {
 
 int main(int count, char **words) {
     for (const auto &test : {what_a_script_says, an_exception_lets_go, who_waits_is_woken, a_ring, one_thread_at_a_desk, given_up,
-                             behind_one_that_is_given_up, close, a_fork, whole_runs})
+                             given_up_as_it_comes, others_take_turns, behind_one_that_is_given_up, close, a_fork, whole_runs})
         test();
     load(count > 1 ? std::stoi(words[1]) : 20000);
     return ended();

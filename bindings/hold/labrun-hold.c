@@ -33,7 +33,7 @@ enum { USAGE = 2, UNREACHABLE = 69, NOT_WRITTEN = 74, TIMED_OUT = 75, TAKEN = 76
 /* seconds: that a broker may take to begin; that one which was there may be away; between two tries; that an answer may be late; after which it
    is said that the broker isn't told, or what still runs; between two looks at what still runs */
 static const double STARTING = 5, AWAY = 60, PAUSE = 0.3, LATE = 10, LATE_END = 2, UNTOLD = 1.5, TELLING = 1, LOOK = 0.02;
-static const double FIRST_WORD = 0.3, AGAIN = 60, LONG = 30;
+static const double FIRST_WORD = 0.3, AGAIN = 60, LONG = 30, SILENCE = 8;
 static const char DEFAULT[] = "unix:/run/labrun/bay.sock";
 static const char HELP[] =
     "usage: labrun-hold INSTRUMENT .. [options] -- COMMAND [ARGUMENT ..]\n\n"
@@ -44,11 +44,12 @@ static const char HELP[] =
     "  --station NAME     as which station; a guest without\n"
     "  --by TEXT          who holds, for people to read; user, machine and command without\n"
     "  --quiet            don't say for whom it waits\n"
+    "  --token-file FILE  your token, for a broker that asks who you are; without, LABRUN_BROKER_TOKEN_FILE says where it is\n"
     "  --broker ADDR      unix:PATH; without, LABRUN_BROKER says it, or it is unix:/run/labrun/bay.sock. If there is a socket\n"
     "                     PATH.http, it is asked there: labrun-broker serve BAY --listen unix:PATH --http unix:PATH.http\n\n"
-    "statuses: that of the command, or 128 and the number of the signal that ended it; 2 the words aren't right; 69 the broker can't be\n"
-    "reached; 74 it couldn't write; 75 the time limit passed; 76 the session was taken away; 77 the station may not use one of the\n"
-    "instruments; 126 and 127 the command can't be run, or isn't there; 130 Ctrl-C\n";
+    "statuses: that of the command, or 128 and the number of the signal that ended it; 1 the broker said no; 2 the words aren't right; 69 the\n"
+    "broker can't be reached; 74 it couldn't write; 75 the time limit passed; 76 the session was taken away; 77 the station, a guest or you\n"
+    "may not use one of the instruments; 126 and 127 the command can't be run, or isn't there; 130 Ctrl-C\n";
 
 /* ---- texts */
 
@@ -251,13 +252,13 @@ static double number_of(const char *value) {
 /* ---- what is asked for, and what goes on */
 
 static struct {
-    char **instruments, **command, *station, *by, *broker;
+    char **instruments, **command, *station, *by, *broker, *token_file;
     int count;
     bool any, quiet;
     double timeout; /* NAN: none */
 } wish = {.station = "", .timeout = NAN};
 
-static char ticket[65], path[sizeof((struct sockaddr_un){0}.sun_path)];
+static char ticket[65], own_token[1024], path[sizeof((struct sockaddr_un){0}.sun_path)];
 static sigset_t before; /* the signals that were blocked */
 static int signals = -1;
 /* what came before there was a command; the command, and its status (-1: it runs); when it began, as /proc says it */
@@ -266,6 +267,7 @@ static pid_t command;
 static int status = -1;
 static unsigned long long since;
 static bool were_sent, is_taken, is_telling, is_untold;
+static double says_at = INFINITY; /* when it is said that the command goes on after a signal */
 
 /* Seconds, by a clock that goes on while the machine sleeps. */
 static double now(void) {
@@ -336,22 +338,29 @@ static size_t family(struct process **found) {
     return own;
 }
 
+static void is_sent(void) {
+    were_sent = true;
+    if (isinf(says_at))
+        says_at = now() + TELLING;
+}
+
 static void send_all(int number) {
     struct process *its;
-    were_sent = true;
+    is_sent();
     for (size_t count = family(&its), at = 0; at < count; at++)
         kill(its[at].number, number);
     free(its);
 }
 
-static bool still_runs(bool tells) {
+/* `what` is said of them, if it isn't NULL. */
+static bool still_run(const char *what) {
     struct process *its;
     struct text names = {0};
     size_t count = family(&its);
-    for (size_t at = 0; at < count && tells; at++)
+    for (size_t at = 0; at < count && what != NULL; at++)
         putf(&names, "%s%d %s", at ? ", " : "", (int)its[at].number, its[at].name);
-    if (count > 0 && tells)
-        say("waits until what the command started has ended: %s", names.at);
+    if (count > 0 && what != NULL)
+        say("waits until %s: %s", what, names.at);
     free(names.at);
     free(its);
     return count > 0;
@@ -366,7 +375,7 @@ static void reap(void) {
 
 static void is_sent_on(int number) {
     if (status < 0 && number == SIGINT && isatty(0) && tcgetpgrp(0) == getpgrp())
-        were_sent = true; /* a terminal sends it to all of its foreground */
+        is_sent(); /* a terminal sends it to all of its foreground */
     else /* (a shell lets what it starts in the background ignore Ctrl-C) */
         send_all(status >= 0 && (number == SIGINT || number == SIGQUIT) ? SIGTERM : number);
 }
@@ -413,6 +422,8 @@ static enum outcome call(struct talk *it, const char *method, const char *rest, 
     it->at = now();
     it->until = it->at + span;
     putf(&it->sent, "%s /v1/sessions%s HTTP/1.1\r\nHost: localhost\r\nConnection: close\r\n", method, rest);
+    if (*own_token)
+        putf(&it->sent, "Authorization: Bearer %s\r\n", own_token);
     putf(&it->sent, "Content-Type: application/json\r\nContent-Length: %zu\r\n\r\n%s", strlen(body), body);
     it->socket = socket(AF_UNIX, SOCK_STREAM | SOCK_CLOEXEC | SOCK_NONBLOCK, 0);
     if (it->socket >= 0 && connect(it->socket, (struct sockaddr *)&to, sizeof to) == 0)
@@ -467,8 +478,8 @@ static int refused(const struct talk *it) {
     static const struct {
         const char *kind;
         int status;
-    } known[] = {{"TimeoutError", TIMED_OUT}, {"TakenAway", TAKEN}, {"MayNotUse", MAY_NOT}, {"Unreachable", UNREACHABLE},
-                 {"JournalError", NOT_WRITTEN}, {"NoInstrument", USAGE}};
+    } known[] = {{"TimeoutError", TIMED_OUT}, {"TakenAway", TAKEN}, {"MayNotUse", MAY_NOT}, {"NotAllowed", MAY_NOT},
+                 {"Unreachable", UNREACHABLE}, {"JournalError", NOT_WRITTEN}, {"NoInstrument", USAGE}};
     char *kind = text_of(value_of(body_of(it), "kind")), *why = text_of(value_of(body_of(it), "text"));
     int found = 1;
     for (size_t n = 0; n < sizeof known / sizeof *known; n++)
@@ -571,7 +582,11 @@ static void gives_up(void) {
 static void tell(const struct talk *it, struct text *said, double *said_at) {
     struct text who = {0};
     const char *at = value_of(body_of(it), "waits_for");
-    put(&who, "", 0);
+    char *why = text_of(value_of(body_of(it), "text"));
+    /* (of a place, or a disk, nobody is named; and whose client is gone is named as before) */
+    putf(&who, "%.4s", why);
+    for (const char *gone = why; (gone = strstr(gone, "gone for ")) != NULL; gone++)
+        put(&who, "gone,", 5);
     if (at != NULL && *at == '[')
         for (at = over_space(at + 1); *at == '{'; at = over_space(at + 1)) {
             char *name = text_of(value_of(at, "instrument")), *by = text_of(value_of(at, "station"));
@@ -582,14 +597,13 @@ static void tell(const struct talk *it, struct text *said, double *said_at) {
                 break;
         }
     if (said->at == NULL || strcmp(said->at, who.at) != 0 || now() > *said_at + AGAIN) {
-        char *why = text_of(value_of(body_of(it), "text"));
         say("waits: %s", why);
-        free(why);
         *said_at = now();
         free(said->at);
         *said = who;
     } else
         free(who.at);
+    free(why);
 }
 
 /* It holds, by this answer. Whether that is still new enough. */
@@ -617,9 +631,17 @@ static bool is_held(const struct talk *it) {
 /* How it goes on to wait: whether its wish is to be sent, or it asks on by its ticket; whether the broker was there; since when it is away. */
 struct line {
     bool is_new, was_there, is_told;
-    double end, lost, wait, said_at;
+    double end, lost, wait, said_at, silent_at; /* and when it is said that no word comes */
     struct text said;
 };
+
+/* A broker that is stopped says nothing, and who waits is to know that. */
+static void is_silent(struct line *its) {
+    if (now() < its->silent_at)
+        return;
+    say("there is no word from the broker at unix:%s; labrun-hold tries on for a while, and Ctrl-C ends that", path);
+    its->silent_at = INFINITY;
+}
 
 /* -1: it waits on; else as `holds`. */
 static int hears(struct line *its, const struct talk *it) {
@@ -632,6 +654,7 @@ static int hears(struct line *its, const struct talk *it) {
         found = refused(it);
     its->is_new = answer == 404;
     its->was_there = true;
+    its->silent_at = wish.quiet ? (double)INFINITY : now() + SILENCE;
     its->lost = NAN;
     its->wait = answer == 200 ? 0 : its->is_new ? FIRST_WORD : 5;
     return found;
@@ -652,7 +675,7 @@ static int hears_nothing(struct line *its, const struct talk *it, enum outcome h
     its->was_there |= how == LOST || how == ANSWERED;
     its->is_new = its->is_new && how == ABSENT;
     its->lost = isnan(its->lost) ? time : its->lost;
-    if (!its->is_told && is_first) {
+    if (!its->is_told && is_first && !(time >= its->end)) {
         say("waits for the broker: it doesn't listen yet at %s", path);
         its->is_told = true;
     }
@@ -670,12 +693,19 @@ static int holds(void) {
     struct talk it = {.socket = -1};
     struct line its = {.is_new = true, .is_told = wish.quiet, .end = now() + wish.timeout, .lost = NAN, .wait = FIRST_WORD};
     int found = -1;
+    its.silent_at = wish.quiet ? (double)INFINITY : now() + SILENCE;
     while (found < 0 && !came) {
-        enum outcome how = asks(&it, its.is_new, its.wait, isnan(wish.timeout) ? (double)NAN : fmax(0, its.end - now()));
+        /* (0 says that it never wanted to wait) */
+        double left = isnan(wish.timeout) ? (double)NAN : fmax(wish.timeout > 0 ? 0.001 : 0, its.end - now());
+        enum outcome how = asks(&it, its.is_new, its.wait, left);
         while (how == PENDING && !came) {
-            wait_until(&it, now() + 3600);
+            wait_until(&it, fmin(its.silent_at, now() + 3600));
             how = goes_on(&it);
+            if (how == PENDING && !came)
+                is_silent(&its);
         }
+        if (how != ANSWERED && !came)
+            is_silent(&its);
         if (!came)
             found = how == ANSWERED && status_of(&it) != 503 ? hears(&its, &it) : hears_nothing(&its, &it, how);
     }
@@ -760,7 +790,7 @@ static void is_answered(struct talk *it, double *next) {
     if (answer == 200) {
         held.until = isnan(held.lease) ? (double)INFINITY : fmax(held.until, it->at + held.lease);
         *next = it->at + 0.1;
-    } else if (answer == 404 || answer == 410) {
+    } else if (answer == 404 || answer == 410 || answer == 401) { /* (401: this client isn't let in any more) */
         char *why = text_of(value_of(body_of(it), "text"));
         taken(why);
         free(why);
@@ -771,7 +801,7 @@ static void is_late(void) {
     struct text why = {0}, names = {0};
     for (const char *at = held.names.at; *at; at++)
         put(&names, *at == '\t' ? ", " : at, *at == '\t' ? 2 : 1);
-    putf(&why, "%s: the broker hasn't answered for %g s, so others may hold these soon: %s", held.station, held.lease, names.length ? names.at + 2 : "");
+    putf(&why, "%s: nothing was heard from the broker for %g s, so others may hold these soon: %s", held.station, held.lease, names.length ? names.at + 2 : "");
     taken(why.at);
     free(why.at);
     free(names.at);
@@ -785,7 +815,7 @@ static bool others_run(double *tells) {
         *tells = time + TELLING;
     if (is_time)
         *tells = 1e300;
-    return still_runs(is_time);
+    return still_run(is_time ? "what the command started has ended" : NULL);
 }
 
 /* Until the command has ended, and after a signal all that it started: who holds next would meet it at the instruments. */
@@ -797,12 +827,16 @@ static void works(void) {
     putf(&rest, "/%s?while=holding&wait=%.3f", ticket, span);
     while (status < 0 || (were_sent && others_run(&tells))) {
         double time = now();
+        if (status < 0 && time > says_at) {
+            still_run("the command has ended, which goes on after the signal");
+            says_at = 1e300;
+        }
         if (!is_taken && time >= held.until)
             is_late();
         if (!is_taken && it.socket < 0 && time >= next && call(&it, "GET", rest.at, "", span + late) != PENDING)
             next = time + PAUSE;
         double moment = status >= 0 ? time + LOOK : is_taken ? time + 3600 : fmin(held.until, it.socket < 0 ? next : time + 3600);
-        wait_until(is_taken ? NULL : &it, moment);
+        wait_until(is_taken ? NULL : &it, status < 0 ? fmin(moment, says_at) : moment);
         enum outcome how = it.socket < 0 || is_taken ? PENDING : goes_on(&it);
         if (how == ANSWERED)
             is_answered(&it, &next);
@@ -933,21 +967,45 @@ static char *who_asks(void) {
     return found.at;
 }
 
+/* 0, or the status to end with. */
+static int read_token(void) {
+    char *given = getenv("LABRUN_BROKER_TOKEN_FILE");
+    const char *name = wish.token_file != NULL ? wish.token_file : given;
+    if (name == NULL || !*name)
+        return 0;
+    FILE *file = fopen(name, "re");
+    size_t length = file == NULL ? 0 : fread(own_token, 1, sizeof own_token - 1, file);
+    if (file == NULL || ferror(file)) {
+        say("%s: %s", name, strerror(errno));
+        return 1;
+    }
+    fclose(file);
+    while (length > 0 && isspace((unsigned char)own_token[length - 1]))
+        length--;
+    own_token[length] = 0;
+    for (size_t at = 0; at < length; at++)
+        if (!isgraph((unsigned char)own_token[at]))
+            return wrong("there is no token in this file", name);
+    return length > 0 ? 0 : wrong("there is no token in this file", name);
+}
+
+enum { OPTIONS = 5 };
+
 static int read_words(int count, char **words) {
     struct {
         const char *name;
         char **to;
-    } options[] = {{"--station", &wish.station}, {"--by", &wish.by}, {"--broker", &wish.broker}, {"--timeout", NULL}};
+    } options[] = {{"--station", &wish.station}, {"--by", &wish.by}, {"--broker", &wish.broker}, {"--token-file", &wish.token_file}, {"--timeout", NULL}};
     int at = 1;
     wish.instruments = whole(calloc((size_t)count + 1, sizeof *wish.instruments));
     for (; at < count && strcmp(words[at], "--") != 0; at++) {
         char *word = words[at], *value = NULL;
         size_t n = 0, length = strcspn(word, "=");
-        while (n < 4 && (strlen(options[n].name) != length || strncmp(word, options[n].name, length) != 0))
+        while (n < OPTIONS && (strlen(options[n].name) != length || strncmp(word, options[n].name, length) != 0))
             n++;
         if (word[0] != '-')
             wish.instruments[wish.count++] = word;
-        else if (n < 4) {
+        else if (n < OPTIONS) {
             value = word[length] ? word + length + 1 : at + 1 < count ? words[++at] : NULL;
             if (value == NULL)
                 return wrong("something is wanted behind", word);
@@ -955,7 +1013,7 @@ static int read_words(int count, char **words) {
             if (options[n].to != NULL)
                 *options[n].to = value;
             else if ((wish.timeout = strtod(value, &end), end == value || *end || !(wish.timeout >= 0 && wish.timeout < 1e9)))
-                return wrong("--timeout: this is no number of seconds", value);
+                return wrong("--timeout: this is no number of seconds, 0 or more and below 1000000000", value);
         } else if (strcmp(word, "--any") == 0)
             wish.any = true;
         else if (strcmp(word, "--quiet") == 0)
@@ -1006,6 +1064,8 @@ int main(int count, char **words) {
         wish.broker = given != NULL && *given ? given : (char *)(uintptr_t)DEFAULT;
     if (strncmp(wish.broker, "unix:", 5) != 0 || strlen(wish.broker) - 5 >= sizeof path)
         return wrong("a broker of this machine is wanted, as unix:PATH, and not", wish.broker);
+    if ((found = read_token()) != 0)
+        return found;
     char *by = wish.by == NULL ? who_asks() : NULL;
     wish.by = by != NULL ? by : wish.by;
     if (!looks_around())

@@ -17,15 +17,16 @@
 
 namespace labrun {
 
-// A session that holds its instruments. When it goes it lets go, and with a journal waits until that is written, or a write has failed;
-// then it is written as soon as one succeeds, and only then somebody else is let in. To learn of that, call finish().
+// A session that holds its instruments. When it goes it lets go, and with a journal waits until that is in the file, or a write has failed;
+// then it is written as soon as one succeeds, and only then somebody else is let in. On the disk it is a tenth of a second later, or before
+// somebody else is let in. To learn of that, call finish().
 class [[nodiscard]] held {
   public:
     explicit held(detail::owner mine) : mine_(std::move(mine)) {}
 
     // Its number, by which take_away() takes it. No other session of the lab has it, also after a restart.
     std::uint64_t number() const { return mine_ ? mine_->number : 0; }
-    // Its token: larger than that of each session that came to hold before it; with a journal also after a restart. So a server before an
+    // Its token: larger than that of each session that was told before that it holds; with a journal also after a restart. So a server before an
     // instrument can refuse whoever comes with a smaller one than it has seen: a session that was taken away, and doesn't know it yet.
     std::uint64_t token() const { return mine_ ? mine_->token : 0; }
     // The instruments that it came to hold, in the order of the lab's; of any_of() the ones of the choice that was free.
@@ -40,7 +41,7 @@ class [[nodiscard]] held {
     // again.
     void note(const std::string &text) { core().note(*mine_, text); }
 
-    // Lets go; with a journal that is in the file when this returns. journal_error: a write failed, and it holds until one succeeds, but
+    // Lets go; with a journal that is on the disk when this returns. journal_error: a write failed, and it holds until one succeeds, but
     // may do nothing more than finish: call it again to wait for that. taken_away: it holds no longer, and finish() says so whenever it is
     // called.
     void finish() { core().finish(*mine_); }

@@ -10,10 +10,12 @@ from typing import TYPE_CHECKING
 
 if TYPE_CHECKING:
     from .client import Lab, connect
-    from .errors import BadWish, BrokerError, JournalError, MayNotUse, NoInstrument, NotHeld, Stopped, TakenAway, TimeoutError, Unreachable
+    from .errors import AnswerLost, BadWish, BrokerError, JournalError, MayNotUse, NoInstrument, NotAllowed, NotHeld, Stopped, TakenAway
+    from .errors import TimeoutError, Unreachable
     from .held import Held
 
 __all__ = [
+    "AnswerLost",
     "BadWish",
     "BrokerError",
     "Held",
@@ -21,6 +23,7 @@ __all__ = [
     "Lab",
     "MayNotUse",
     "NoInstrument",
+    "NotAllowed",
     "NotHeld",
     "Stopped",
     "TakenAway",

@@ -14,10 +14,11 @@ from typing import TYPE_CHECKING, Iterator, Optional, Sequence
 from labrun import JournalError
 from labrun.machine import HOLDS, MAY_NOT, WAITS, Refusal
 
+from . import people
 from .bay import Bay, BayFault, bay_of
 from .errors import BadWish, CantChange
 from .places import Places
-from .standing import Standings
+from .standing import ENDING, Standings
 from .texts import span
 from .turning import STANDS
 
@@ -35,6 +36,8 @@ def changes(before: Bay, after: Bay) -> list[str]:
         *_of_uses(before, after),
         *([f"guests: {after.guests} hold at once, and not {before.guests}"] if before.guests != after.guests else []),
         *(f"{name}: {_told(value)}, and not {_told(old)}" for name, value, old in _of_numbers(before, after)),
+        *_of_words(before, after),
+        *people.changes(before.people, after.people),
     ]
 
 
@@ -43,14 +46,23 @@ def _of_names(what: str, before: tuple[str, ...], after: tuple[str, ...]) -> Ite
     yield from (f"{what} {name}: taken out" for name in before if name not in after)
 
 
+def _of_words(before: Bay, after: Bay) -> Iterator[str]:
+    for what, old, new in (("label", before.labels, after.labels), ("guard", before.guards, after.guards)):
+        yield from (f"{what} {name}: {new.get(name, 'none')}, and not {old.get(name, 'none')}" for name in {**old, **new} if new.get(name) != old.get(name))
+    for tag in {**before.tags, **after.tags}:
+        was, its = (" ".join(of.get(tag, ())) or "none" for of in (before.tags, after.tags))
+        if its != was:
+            yield f"tag {tag}: {its}, and not {was}"
+
+
 def _of_uses(before: Bay, after: Bay) -> Iterator[str]:
     both = [(f"station {name}", before.stations[name], uses) for name, uses in after.stations.items() if name in before.stations]
     if before.guests and after.guests:
         both.append(("guests", before.guests_use, after.guests_use))
     for name, old, new in both:
-        for verb, its in (("may use", set(new) - set(old)), ("may not use", set(old) - set(new))):
+        for verb, its, too in (("may use", set(new) - set(old), ", too"), ("may no longer use", set(old) - set(new), "")):
             if its:
-                yield f"{name}: {verb} {' '.join(sorted(its))} any more" if "not" in verb else f"{name}: {verb} {' '.join(sorted(its))}, too"
+                yield f"{name}: {verb} {' '.join(sorted(its))}{too}"
 
 
 def _of_numbers(before: Bay, after: Bay) -> Iterator[tuple[str, object, object]]:
@@ -63,9 +75,24 @@ def _of_numbers(before: Bay, after: Bay) -> Iterator[tuple[str, object, object]]
     for name, new, was in limits:
         if new != was:
             yield f"{name} (for who asks from now on)", _span(new), _span(was)
+    for name, word, other in _of_gone(before, after):
+        yield f"{name} (for who comes to hold from now on)", word, other
+    for name in dict.fromkeys((*before.on_release, *after.on_release)):
+        new_one, old_one = (of.on_release.get(name, "no command") for of in (after, before))
+        if new_one != old_one:
+            yield f"on_release.{name} (for who asks from now on)", new_one, old_one
+    if after.on_release_limit != before.on_release_limit:
+        yield "on_release_limit", _span(after.on_release_limit), _span(before.on_release_limit)
     for key in LATER_KEYS:
         if (value := getattr(after, key)) != (old := getattr(before, key)):
             yield f"{key} ({LATER})", value, old
+
+
+def _of_gone(before: Bay, after: Bay) -> Iterator[tuple[str, Optional[str], Optional[str]]]:
+    for key, its, others in (("station_gone", after.station_gone, before.station_gone), ("instrument_gone", after.instrument_gone, before.instrument_gone)):
+        for name in dict.fromkeys((*others, *its)):
+            if its.get(name) != others.get(name):
+                yield f"{key}.{name}" if name else "guests.gone", its.get(name), others.get(name)
 
 
 # what the machine has for as long as it is open
@@ -86,11 +113,16 @@ async def apply(keeping: Keeping, text: str, by: str, is_check: bool) -> list[st
         after = bay_of(text)
     except BayFault as fault:
         raise BadWish(str(fault)) from None
+    return await becomes(keeping, text, after, by, is_check)
+
+
+async def becomes(keeping: Keeping, text: str, after: Bay, by: str, is_check: bool) -> list[str]:
+    """The same, of a bay that was read."""
     async with keeping.changing:
-        return await _apply(keeping, after, by, is_check)
+        return await _apply(keeping, text, after, by, is_check)
 
 
-async def _apply(keeping: Keeping, after: Bay, by: str, is_check: bool) -> list[str]:
+async def _apply(keeping: Keeping, text: str, after: Bay, by: str, is_check: bool) -> list[str]:
     before = keeping.bay
     if after.name != before.name:
         raise CantChange(f"the file is of the bay {after.name}, and this one is {before.name}: give it a broker and a folder of its own")
@@ -98,17 +130,25 @@ async def _apply(keeping: Keeping, after: Bay, by: str, is_check: bool) -> list[
         places = keeping.places.with_bay(after)
     except BayFault as fault:
         raise CantChange(str(fault)) from None
+    for entrance in keeping.entrances:
+        entrance.may_be(after)
     _may(keeping, places, after)
-    its = changes(before, after)
-    if is_check or not its:
+    its, state = changes(before, after), keeping._opened.state
+    lacks = state is not None and state.lacks(text, after)
+    if is_check or not its and not lacks:
         return its
     bay = replace(after, **{key: getattr(before, key) for key in LATER_KEYS})
+    if bay.its_gone != before.its_gone:
+        places = places.with_words(before.its_gone, True).with_words(bay.its_gone, True)
     if places != keeping.places:
         await keeps(keeping, places)
 
     def then() -> None:
         keeping.bay = bay
-        keeping._record("changed", text=f"by {by}: {'; '.join(its)}")
+        if state is not None:
+            state.goes_by(text, after, by)
+        if its:
+            keeping._record("changed", text=f"by {by}: {'; '.join(its)}")
 
     try:
         await keeping._shell.turns.turn(places.classes(bay), then)
@@ -116,7 +156,14 @@ async def _apply(keeping: Keeping, after: Bay, by: str, is_check: bool) -> list[
         if it.status == MAY_NOT:
             _may(keeping, places, after)
         raise CantChange(f"the bay can't be so: {it}") from None
-    keeping.says(f"the bay has changed, by {by}: {'; '.join(its)}")
+    if its:
+        keeping.says(f"the bay has changed, by {by}: {'; '.join(its)}")
+    for entrance in keeping.entrances:
+        entrance.has_changed()
+    try:
+        await keeping.settling.kept()
+    except JournalError as fault:
+        raise JournalError(fault.path, f"the bay has changed, but the next broker may not know it: {fault.why}") from None
     return its
 
 
@@ -138,12 +185,14 @@ def _in_the_way(keeping: Keeping, places: Places, after: Bay) -> Iterator[str]:
         since = stands.span_since(row.since)
         lacks = places.names(its & ~classes[row.kind][0])
         gone = [name for name in lacks if name not in after.instruments]
-        if places.station(row.kind) not in after.stations if row.kind else not after.guests:
+        if session.state == ENDING and (lacks or row.kind and places.station(row.kind) not in after.stations):
+            yield f"{_all(gone or lacks or (session.name,))} {'is' if len(gone or lacks) < 2 else 'are'} taken out, and what session {row.number} of {session.name} had is being made safe"
+        elif places.station(row.kind) not in after.stations if row.kind else not after.guests:
             does = f"has held {_all(places.names(its))}" if row.what == HOLDS else f"has waited for {_all(places.names(its))}"
             yield f"{who if row.kind else 'guests are'} {'is ' if row.kind else ''}taken out, and {'' if row.kind else f'{who} '}{does} for {since}"
         elif lacks:
             does = "has held" if row.what == HOLDS else "has waited for"
-            what = f"{_all(gone)} {'is' if len(gone) == 1 else 'are'} taken out" if gone else f"{session.name} may not use {_all(lacks)} any more"
+            what = f"{_all(gone)} {'is' if len(gone) == 1 else 'are'} taken out" if gone else f"{session.name} may no longer use {_all(lacks)}"
             yield f"{what}, and {who} {does} {'it' if len(gone or lacks) == 1 else 'them'} for {since}"
     if guests > after.guests > 0:
         yield f"{guests} guests hold, and by the file only {after.guests} may"
@@ -161,7 +210,8 @@ async def keeps(keeping: Keeping, places: Places) -> None:
             async with asyncio.timeout(STANDS):
                 await keeping._shell.runs(functools.partial(state.keeps, places))
         except builtins.TimeoutError:
-            raise JournalError(state.store.path, f"the disk doesn't answer for {STANDS:g} s, and what was to be written may be there later") from None
+            raise JournalError(state.store.path, f"{keeping._shell.what} doesn't answer for {STANDS:g} s, and what was to be written may be there later") from None
         except OSError as fault:
-            raise JournalError(state.store.path, f"the bay's names couldn't be written: {fault.strerror or fault}") from None
+            path = str(fault.filename or state.store.path)
+            raise JournalError(path, f"the bay's names, and what is out of order, couldn't be written, so this isn't done: {fault.strerror or fault}") from None
     keeping.places = places

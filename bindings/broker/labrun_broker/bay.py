@@ -3,7 +3,8 @@
     bay = "north"
     instruments = ["scope", "supply", "load-1", "load-2"]
     gone = "keep"                       # or "release": what becomes of a session whose client is gone for longer than the grace
-    limit = "8h"                        # for how long a session may hold once others wait for what it has; without, for ever
+    on_release_limit = "30s"            # for how long a command of [on_release] may run
+    limit = "8h"                        # for how long a session may hold before whoever waits for what it has gets it; without, for ever
     overtakes = 16                      # so many sessions may go before one that asks; without, as many as there are stations and guests
 
     [stations]
@@ -18,6 +19,9 @@
     [station_limits]
     radio = "3d"                        # of this station; without, the bay's
 
+    [station_gone]                      # `gone` of stations, and `gone` in [guests] of guests; [instrument_gone] of instruments (kept.py)
+    radio = "release"
+
     [tags]                              # `tag:precise` is one of these, `2 of tag:precise` two
     precise = ["scope", "load-1"]
 
@@ -26,6 +30,12 @@
 
     [guards]                            # where clients find the guard before an instrument, if one is there
     scope = "bench-1:5025"
+
+    [on_release]                        # what is run after a session that had it, and before the next one gets it (making_safe.py)
+    supply = "/usr/local/bin/safe-state supply"
+
+    [people]                            # who people are, what each may ask for, and (`operators`) who looks after the bay: people.py
+    ana = {token = "sha256:.."}
 
     [limits]                            # (each as it is without a line)
     clients = 200                       # streams at once, idle ones too
@@ -38,24 +48,35 @@ from __future__ import annotations
 import ipaddress
 import os
 import re
+import shlex
 import tomllib
 from dataclasses import dataclass, field
-from typing import Any, Optional, Union
+from typing import Any, ClassVar, Optional, Union
 
+from labrun import picks
+from labrun.machine import MOST_CLASSES, MOST_INSTRUMENTS as MOST_INSTRUMENTS
+
+from .kept import KEEP, RELEASE, Gone
+from .people import People, people_of
 from .texts import span_of
 from .ways import variable_of, way_of
 
-# what the library can take (the guests are a class, as each station is one, of 32); of guests, as many as a status can show
-MOST_STATIONS, MOST_INSTRUMENTS, MOST_GUESTS, NAME_LENGTH = 31, 64, 1000, 64
+MOST_STATIONS = MOST_CLASSES - 1
+MOST_GUESTS = 1000  # as many as a status can show
 MOST_NUMBER = 1000000
 LABEL_LENGTH = 200
 MOST_SECONDS = 1e9
-A_NAME = f"up to {NAME_LENGTH} letters, digits, `-`, `_` and `.`, first a letter"
 
-GONE = ("keep", "release")
-KEYS = ("bay", "instruments", "gone", "limit", "overtakes", "stations", "guests", "station_limits", "limits", "tags", "labels", "guards")
-# what a command of `hold` has in these names is something else
-VARIABLES = ("LABRUN_HELD", "LABRUN_STATION", "LABRUN_BROKER", "LABRUN_AROUND", "LABRUN_TOKEN", "LABRUN_LIBRARY")
+SETTINGS = ("bay", "instruments", "gone", "limit", "overtakes", "on_release_limit")
+TABLES = (
+    "stations", "guests", "station_limits", "station_gone", "instrument_gone", "limits", "tags", "labels", "guards", "on_release",
+)  # fmt: skip
+KEYS = (*SETTINGS, *TABLES, "people", "groups", "operators")
+# what a command of `hold`, or one of [on_release], has in these names is something else
+VARIABLES = (
+    "LABRUN_HELD", "LABRUN_STATION", "LABRUN_BROKER", "LABRUN_AROUND", "LABRUN_TOKEN", "LABRUN_LIBRARY", "LABRUN_BROKER_TOKEN_FILE",
+    "LABRUN_BROKER_CERTIFICATE_FILE", "LABRUN_INSTRUMENT", "LABRUN_SESSION", "LABRUN_BY", "LABRUN_ENDED",
+)  # fmt: skip
 
 Path = Union[str, "os.PathLike[str]"]
 
@@ -72,6 +93,8 @@ class Limits:
 
 @dataclass(frozen=True)
 class Bay:
+    # as texts call what has this name
+    what: ClassVar[str] = "bay"
     name: str
     instruments: tuple[str, ...]
     stations: dict[str, tuple[str, ...]] = field(default_factory=dict)
@@ -89,6 +112,17 @@ class Bay:
     station_limits: dict[str, float] = field(default_factory=dict)
     # where clients find the guard of an instrument (ways.py)
     guards: dict[str, str] = field(default_factory=dict)
+    # what is run after a session that had an instrument (making_safe.py), and for how many seconds it may
+    on_release: dict[str, str] = field(default_factory=dict)
+    on_release_limit: float = 30.0
+    # own words for what becomes of whoever is gone, those of the guests as of a station without a name
+    station_gone: dict[str, str] = field(default_factory=dict)
+    instrument_gone: dict[str, str] = field(default_factory=dict)
+    people: People = People()
+
+    @property
+    def its_gone(self) -> Gone:
+        return Gone(self.gone, self.station_gone, self.instrument_gone)
 
     @property
     def guest_names(self) -> tuple[str, ...]:
@@ -122,25 +156,42 @@ def is_here(host: str) -> bool:
 
 def read_bay(path: Path) -> Bay:
     """The bay of a file. BayFault names every fault; OSError says why the file can't be read."""
+    return bay_of(text_in(path), os.fspath(path))
+
+
+def text_in(path: Path) -> str:
+    """What a file has. BayFault: it is no text."""
     with open(path, "rb") as file:
         given = file.read()
     try:
-        return bay_of(given.decode("utf-8"), os.fspath(path))
+        return given.decode("utf-8")
     except UnicodeDecodeError as fault:
         line = given.count(b"\n", 0, fault.start) + 1
         raise BayFault(os.fspath(path), [f"line {line}: this is not UTF-8"]) from None
 
 
-def bay_of(text: str, path: str = "bay") -> Bay:
+def table_in(text: str, path: str) -> dict[str, Any]:
+    """A TOML file's table."""
     try:
-        given = tomllib.loads(text)
+        return tomllib.loads(text)
     except tomllib.TOMLDecodeError as fault:
         raise BayFault(path, [_with_line_first(str(fault))]) from None
-    reader = _Reader(given)
+
+
+def bay_of(text: str, path: str = "bay") -> Bay:
+    reader = Reader(table_in(text, path))
     bay = reader.bay()
     if reader.faults:
         raise BayFault(path, reader.faults)
     return bay
+
+
+def _why_no_command(line: str) -> Optional[str]:
+    try:
+        words = shlex.split(line)
+    except ValueError as why:
+        return f"{line!r} is no command: {str(why).lower()}"
+    return None if words and words[0] else "it is empty, and a command is wanted: without one, leave the line out"
 
 
 def _with_line_first(fault: str) -> str:
@@ -150,7 +201,7 @@ def _with_line_first(fault: str) -> str:
     return f"{at[1]}, column {at[2]}: {fault[: at.start()]}" if at else fault
 
 
-class _Reader:
+class Reader:
     """Reads a table, and notes every fault with its key."""
 
     def __init__(self, given: dict[str, Any]) -> None:
@@ -167,12 +218,14 @@ class _Reader:
         stations = self.stations(instruments)
         guests, guests_use = self.guests(instruments)
         gone = self.given.get("gone", "keep")
-        if gone not in GONE:
-            self.fault("gone", '"keep" or "release" is wanted')
+        self.is_gone_word("gone", gone)
         overtakes = self.number("overtakes", self.given["overtakes"], 0) if "overtakes" in self.given else None
         tags, labels = self.tags(instruments), self.labels(instruments)
         its = name, instruments, stations, guests, guests_use, gone, self.limits(), overtakes, tags, labels
-        bay = Bay(*its, *self.spans(stations), self.guards(instruments))
+        its_limit = self.span("on_release_limit", self.given.get("on_release_limit"))
+        runs = self.on_release(instruments), its_limit or Bay.on_release_limit
+        kept, whose = self.words_of_gone(stations, instruments), people_of(self, instruments, tags)
+        bay = Bay(*its, *self.spans(stations), self.guards(instruments), *runs, *kept, people=whose)
         self.fits(bay)
         return bay
 
@@ -182,12 +235,12 @@ class _Reader:
     def knows(self, where: str, table: dict[str, Any], keys: tuple[str, ...]) -> None:
         for key in table:
             if key not in keys:
-                self.fault(f"{where}{key}", f"there is no such key; there are {', '.join(keys)}")
+                self.fault(f"{where}{key}", f"there is no such key; there are {', '.join(keys)}{picks.near(key, keys)}")
 
     def is_name(self, key: str, name: object) -> bool:
-        if isinstance(name, str) and re.fullmatch(r"[A-Za-z][A-Za-z0-9._-]*", name) and len(name) <= NAME_LENGTH:
+        if picks.is_name(name):
             return True
-        self.fault(key, f"{name!r} is no name: {A_NAME}")
+        self.fault(key, f"{name!r} is no name: {picks.A_NAME}")
         return False
 
     def names(self, key: str, given: object) -> tuple[str, ...]:
@@ -205,9 +258,15 @@ class _Reader:
     def uses(self, key: str, given: object, instruments: tuple[str, ...]) -> tuple[str, ...]:
         found = self.names(key, given)
         for name in found:
-            if instruments and name not in instruments:
-                self.fault(key, f"{name} is none of the bay's instruments")
+            self.is_there(key, name, instruments)
         return found
+
+    def is_there(self, key: str, name: str, instruments: tuple[str, ...]) -> bool:
+        """(Without any instruments another fault is named.)"""
+        if not instruments or name in instruments:
+            return True
+        self.fault(key, f"{name} is none of the bay's instruments{picks.near(name, instruments)}")
+        return False
 
     def table(self, key: str) -> dict[str, Any]:
         given = self.given.get(key, {})
@@ -225,7 +284,7 @@ class _Reader:
 
     def guests(self, instruments: tuple[str, ...]) -> tuple[int, tuple[str, ...]]:
         table = self.table("guests")
-        self.knows("guests.", table, ("count", "may_use", "limit"))
+        self.knows("guests.", table, ("count", "may_use", "limit", "gone"))
         count = self.number("guests.count", table.get("count", 0), 0, MOST_GUESTS)
         uses = self.uses("guests.may_use", table["may_use"], instruments) if "may_use" in table else instruments
         return count, uses
@@ -236,9 +295,9 @@ class _Reader:
     def labels(self, instruments: tuple[str, ...]) -> dict[str, str]:
         found = {}
         for name, label in self.table("labels").items():
-            if instruments and name not in instruments:
-                self.fault(f"labels.{name}", f"{name} is none of the bay's instruments")
-            elif not isinstance(label, str) or not label.isprintable() or len(label) > LABEL_LENGTH:
+            if not self.is_there(f"labels.{name}", name, instruments):
+                continue
+            if not isinstance(label, str) or not label.isprintable() or len(label) > LABEL_LENGTH:
                 self.fault(f"labels.{name}", f"a text in one line, of up to {LABEL_LENGTH} characters, is wanted")
             else:
                 found[name] = label
@@ -249,7 +308,7 @@ class _Reader:
         of = self.table("station_limits")
         for name in of:
             if name not in stations:
-                self.fault(f"station_limits.{name}", "there is no such station")
+                self.fault(f"station_limits.{name}", f"there is no such station{picks.near(name, stations)}")
         its = {name: span for name, given in of.items() if (span := self.span(f"station_limits.{name}", given)) is not None}
         return self.span("limit", self.given.get("limit")), self.span("guests.limit", self.table("guests").get("limit")), its
 
@@ -265,9 +324,9 @@ class _Reader:
         found = {}
         for name, at in self.table("guards").items():
             key = f"guards.{name}"
-            if instruments and name not in instruments:
-                self.fault(key, f"{name} is none of the bay's instruments")
-            elif variable_of(name) in VARIABLES:
+            if not self.is_there(key, name, instruments):
+                continue
+            if variable_of(name) in VARIABLES:
                 self.fault(key, f"an instrument that has a guard isn't called {name}: ${variable_of(name)} is something else")
             elif not isinstance(at, str):
                 self.fault(key, 'where its guard listens is wanted, as "bench-1:5025"')
@@ -277,6 +336,39 @@ class _Reader:
                     found[name] = at
                 except ValueError as why:
                     self.fault(key, str(why))
+        return found
+
+    def words_of_gone(self, stations: dict[str, tuple[str, ...]], instruments: tuple[str, ...]) -> tuple[dict[str, str], dict[str, str]]:
+        """Of the stations, and the guests; and of the instruments."""
+        of_stations, of_instruments = self.table("station_gone"), self.table("instrument_gone")
+        for name in of_stations:
+            if name not in stations:
+                self.fault(f"station_gone.{name}", f"there is no such station{picks.near(name, stations)}")
+        for name in of_instruments:
+            self.is_there(f"instrument_gone.{name}", name, instruments)
+        guests = {"": self.table("guests")["gone"]} if "gone" in self.table("guests") else {}
+        keys = [("station_gone.", of_stations), ("guests.gone", guests), ("instrument_gone.", of_instruments)]
+        good = [{name: word for name, word in its.items() if self.is_gone_word(f"{key}{name}", word)} for key, its in keys]
+        return {**good[0], **good[1]}, good[2]
+
+    def is_gone_word(self, key: str, word: object) -> bool:
+        if word in (KEEP, RELEASE):
+            return True
+        self.fault(key, '"keep" or "release" is wanted')
+        return False
+
+    def on_release(self, instruments: tuple[str, ...]) -> dict[str, str]:
+        found = {}
+        for name, line in self.table("on_release").items():
+            key = f"on_release.{name}"
+            if not self.is_there(key, name, instruments):
+                continue
+            if not isinstance(line, str) or not line.isprintable():
+                self.fault(key, 'a command in one line is wanted, as "/usr/local/bin/safe-state scope"')
+            elif (why := _why_no_command(line)) is not None:
+                self.fault(key, why)
+            else:
+                found[name] = line
         return found
 
     def number(self, key: str, given: object, least: int, most: int = MOST_NUMBER) -> int:

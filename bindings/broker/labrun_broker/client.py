@@ -13,19 +13,22 @@ import asyncio
 import atexit
 import builtins
 import contextlib
+import itertools
+import numbers
 import os
 import sys
 from types import TracebackType
-from typing import Any, Callable, Coroutine, Iterable, Iterator, Optional, Union
+from typing import Any, Callable, Coroutine, Iterable, Iterator, Mapping, Optional, Union
 
 import grpc
 import labrun
+from labrun import picks
 
 from . import broker_pb2 as pb
-from .errors import BadWish, why_lost
+from .errors import AnswerLost, BadWish, why_lost
 from .finding import Brokers
 from .held import Held
-from .quick import DEFAULT, Quick, user
+from .quick import CERTIFICATE_FILE, DEFAULT, Quick, certificate_in, token_in, user
 from .stream import Stream
 from .texts import addresses_of
 from .work import Result, Work, loop_of_this_process
@@ -33,7 +36,13 @@ from .work import Result, Work, loop_of_this_process
 # a question that a broker doesn't answer for so long won't be answered
 ANSWER = 30.0
 CLOSING = 3.0
+MOST_SECONDS = 1000000000
+AN_ADDRESS = "as unix:PATH or HOST:PORT"
 SERVICE = "/labrun.broker.Broker/"
+# calls after which something is another way
+CHANGES = ("Release", "Apply", "Outage")
+# what a status has only if there are several bays
+OF_SEVERAL = ("bay", "bays")
 
 OPTIONS = [
     ("grpc.max_receive_message_length", -1),
@@ -92,12 +101,22 @@ class Lab:
         seconds TimeoutError says who keeps it waiting, and it is given up. `waits` is called with a line whenever it is known for whom it waits. With a
         `limit` it may be taken away once it has held for so many seconds and somebody waits for what it has; `warns` is called with a line before
         the limit is over, be it this one or the bay's, on another thread."""
-        if timeout is not None and not timeout >= 0:
-            raise BadWish(f"a timeout of {timeout:g} s; it is 0 or more")
-        if any_of and isinstance(any_of, str):
-            raise BadWish(f"any_of: a list of instruments, or of sets of them, is wanted, and not the text {any_of!r}")
-        choices = [pb.Instruments(names=(it,) if isinstance(it, str) else tuple(it)) for it in any_of]
-        wish = pb.Wish(instruments=instruments, any_of=choices, station=self.station if station is None else station, by=self.by)
+        timeout, limit = _seconds("timeout", timeout), _seconds("limit", limit)
+        if timeout is not None and not 0 <= timeout < MOST_SECONDS:
+            raise BadWish(f"a timeout of {timeout:g} s; it is 0 or more, and below {MOST_SECONDS}")
+        if limit is not None and not 0 < limit < MOST_SECONDS:
+            raise BadWish(f"a limit of {limit:g} s; it is more than 0, and below {MOST_SECONDS}")
+        for name, call in (("waits", waits), ("warns", warns)):
+            if call is not None and not callable(call):
+                raise BadWish(f"{name}: what is to be called is wanted, and not {call!r}")
+        try:
+            words, sets = picks.named(instruments), picks.choices_of(any_of)
+        except ValueError as fault:
+            raise BadWish(str(fault)) from None
+        for it in itertools.chain(words, *sets):
+            _whole(it)
+        choices = [pb.Instruments(names=it) for it in sets]
+        wish = pb.Wish(instruments=words, any_of=choices, station=_name("a station", self.station if station is None else station), by=self.by)
         wish.wants_waits, wish.pings = waits is not None, True
         if limit is not None:
             wish.limit = limit
@@ -144,24 +163,29 @@ class Lab:
         self._was_there = True
         return None if bay is grpc.aio.EOF else bay
 
-    def release(self, station: str, session: int = 0) -> tuple[str, ...]:
-        """Ends the session that a station holds, for its owner; with a number, no other one. First see that nobody is at the instruments."""
-        wish = pb.ReleaseWish(station=station, by=self.by, session=session)
+    def release(self, station: str, session: int = 0, bay: str = "") -> tuple[str, ...]:
+        """Ends the session that a station holds, for its owner; with a number, no other one. First see that nobody is at the instruments. `bay` is
+        needed only if a guest of this name is in several bays of a lab."""
+        if isinstance(session, bool) or not isinstance(session, int) or not 0 <= session < 1 << 64:
+            raise BadWish(f"session: the number of one is wanted, and not {session!r}")
+        wish = pb.ReleaseWish(station=_name("a station", station), by=self.by, session=session, bay=_name("a bay", bay))
         return tuple(self._run(self._unary("Release", wish)).instruments)
 
-    def apply(self, bay: str, only_check: bool = False) -> tuple[str, ...]:
+    def apply(self, bay: str, only_check: bool = False, of: str = "", bays: Optional[Mapping[str, str]] = None) -> tuple[str, ...]:
         """The bay goes on as this text has it, a TOML file's, while sessions hold and wait; what has changed, or would. BrokerError: nothing has,
-        because somebody holds or waits for what is gone, or the text is no bay."""
-        wish = pb.ApplyWish(bay=bay, by=self.by, only_check=only_check)
+        because somebody holds or waits for what is gone, or the text is no bay. Of several bays it is that which the text names, or `of`; with
+        `bays`, the texts of all of them by their names, `bay` is the lab's own file."""
+        texts = {_name("a bay", name): _text("bays", text) for name, text in (bays or {}).items()}
+        wish = pb.ApplyWish(bay=_text("bay", bay), by=self.by, only_check=only_check, of=_name("a bay", of), bays=texts)
         return tuple(self._run(self._unary("Apply", wish)).changes)
 
     def disable(self, instrument: str, why: str = "") -> None:
         """It is out of order: nobody comes to hold it any more, and whoever holds it goes on."""
-        self._run(self._unary("Outage", pb.OutageWish(instrument=instrument, why=why, by=self.by)))
+        self._run(self._unary("Outage", pb.OutageWish(instrument=_name("an instrument", instrument), why=_text("why", why), by=self.by)))
 
     def enable(self, instrument: str) -> None:
         """It is in order again."""
-        self._run(self._unary("Outage", pb.OutageWish(instrument=instrument, by=self.by)))
+        self._run(self._unary("Outage", pb.OutageWish(instrument=_name("an instrument", instrument), by=self.by)))
 
     async def _unary(self, name: str, wish: Any, within: Optional[float] = ANSWER) -> Any:
         self._may_go_on()
@@ -171,7 +195,10 @@ class Lab:
             self._was_there = True
             return answer
         except grpc.aio.AioRpcError as fault:
-            raise self._why_lost(fault.code(), str(fault.details())) from None
+            why = self._why_lost(fault.code(), str(fault.details()))
+            if name in CHANGES and isinstance(why, AnswerLost):
+                raise AnswerLost(f"{why}; it may have been done, or not: see `labrun-broker status`, and try again") from None
+            raise why from None
 
     def _why_lost(self, code: Any, text: str) -> Exception:
         return why_lost(self.address, code, text, self._certificate is None and not self._was_there)
@@ -221,6 +248,54 @@ class Lab:
         self.close()
 
 
+# ---- what is given, and may be of any type
+
+
+def _text(what: str, given: Any) -> str:
+    if not isinstance(given, str):
+        raise BadWish(f"{what}: a text is wanted, and not {given!r}")
+    return _whole(given)
+
+
+def _name(of: str, given: Any) -> str:
+    if not isinstance(given, str):
+        raise BadWish(f"{of} is named by a text, and not by {given!r}")
+    return _whole(given)
+
+
+def _whole(given: str) -> str:
+    try:
+        given.encode()
+    except UnicodeEncodeError:
+        raise BadWish(f"{given!r} has half of a character, which can't be sent") from None
+    return given
+
+
+def _file(what: str, given: Any) -> Any:
+    if given is not None and not isinstance(given, (str, bytes, os.PathLike)):
+        raise BadWish(f"{what}: the name of a file is wanted, and not {given!r}")
+    return given
+
+
+def _address(given: Any) -> Optional[str]:
+    if given is not None and not isinstance(given, str):
+        raise BadWish(f"an address is a text, {AN_ADDRESS}, and not {given!r}")
+    if given == "":
+        raise BadWish(f"an address is wanted, {AN_ADDRESS}")
+    return given
+
+
+def _seconds(name: str, given: Any) -> Optional[float]:
+    if given is None:
+        return None
+    try:
+        if isinstance(given, numbers.Real):
+            return float(given)
+    except OverflowError:
+        pass
+    raise BadWish(f"{name}: {given!r} is no number of seconds")
+
+
 def methods_of(channel: Any) -> dict[str, Any]:
     kinds = {
         "Status": (channel.unary_unary, pb.StatusWish, pb.Bay),
@@ -239,6 +314,8 @@ def _as_dict(message: Any) -> dict[str, Any]:
     found: dict[str, Any] = {}
     for field in message.DESCRIPTOR.fields:
         value, is_message = getattr(message, field.name), field.message_type is not None
+        if field.name in OF_SEVERAL and not value:
+            continue
         if field.label == field.LABEL_REPEATED:
             found[field.name] = [_as_dict(it) if is_message else it for it in value]
         elif field.has_presence and not message.HasField(field.name):
@@ -251,18 +328,15 @@ def _as_dict(message: Any) -> dict[str, Any]:
 def connect(
     address: Optional[str] = None, station: str = "", token_file: Optional[str] = None, certificate_file: Optional[str] = None, by: Optional[str] = None
 ) -> Lab:
-    """The bay of the broker at an address, `unix:PATH` or `HOST:PORT`, or at one of several, `HOST:PORT,HOST:PORT`; without one, that of LABRUN_BROKER, or the usual socket. `station` is
-    whom the program is; without it each session is a guest's. A broker of another machine wants its token, and its certificate to know it by. `by`
-    is what people read of who holds: `ann@bench-3 4711 measure.py` if nothing is said."""
-    token = certificate = None
-    if token_file is not None:
-        with open(token_file, encoding="ascii") as file:
-            token = file.read().strip()
-    if certificate_file is not None:
-        with open(certificate_file, "rb") as given:
-            certificate = given.read()
-        if not _is_certificate(certificate):
-            raise BadWish(f"{certificate_file}: there is no certificate in it (as PEM)")
+    """The bay of the broker at an address, `unix:PATH` or `HOST:PORT`, or at one of several, `HOST:PORT,HOST:PORT`; without one, that of
+    LABRUN_BROKER, or the usual socket. `station` is whom the program is; without it each session is a guest's. A broker of another machine wants
+    a token, in a file of this name or in that which LABRUN_BROKER_TOKEN_FILE names, and its certificate to know it by, in a file or in that which
+    LABRUN_BROKER_CERTIFICATE_FILE names. `by` is what people read of who holds: `ann@bench-3 4711 measure.py` if nothing is said; where the bay
+    names people, your name stands before it."""
+    address, station, by = _address(address), _name("a station", station), None if by is None else _text("by", by)
+    certificate, token = certificate_in(_file("certificate_file", certificate_file)), token_in(_file("token_file", token_file))
+    if certificate is not None and not _is_certificate(certificate):
+        raise BadWish(f"{certificate_file or os.environ[CERTIFICATE_FILE]}: there is no certificate in it (as PEM)")
     return Lab(address or os.environ.get("LABRUN_BROKER") or DEFAULT, station, token, certificate, by or _who())
 
 
@@ -280,4 +354,4 @@ def _who() -> str:
     folder, name = os.path.split(sys.argv[0])
     # (of `python3 -m pytest` it is pytest)
     name = os.path.basename(folder) if name == "__main__.py" else name
-    return f"{user()} {os.getpid()} {name or 'python'}"[:64]
+    return f"{user()} {os.getpid()} {name or 'python'}"[:64].encode(errors="replace").decode()

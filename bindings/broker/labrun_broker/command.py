@@ -11,16 +11,16 @@ import json
 import os
 import sys
 import time
-from typing import Any, Callable, Optional, Sequence
+from typing import Any, Callable, NoReturn, Optional, Sequence
 
 from .quick import user
 from .run import add_hold, run_hold
-from .texts import aligned, counted, last, plain, span
+from .texts import aligned, counted, last, plain, session, span
 from .words import ABOUT, INTERRUPTED, MAY_NOT, NO_BAY, NOT_WRITTEN, PROGRAM, STATUSES, TAKEN, TIMED_OUT, UNREACHABLE, USAGE, Word, add_client, lab_of, say
 
 
 # the status of each error, by its name, or by that of the first of its kinds: it is looked up without importing what has it
-ENDS = {"TimeoutError": TIMED_OUT, "TakenAway": TAKEN, "MayNotUse": MAY_NOT, "Unreachable": UNREACHABLE, "JournalError": NOT_WRITTEN}
+ENDS = {"TimeoutError": TIMED_OUT, "TakenAway": TAKEN, "MayNotUse": MAY_NOT, "NotAllowed": MAY_NOT, "Unreachable": UNREACHABLE, "JournalError": NOT_WRITTEN}
 ENDS |= {"NoInstrument": USAGE, "BayFault": NO_BAY, "BadAddress": NO_BAY, "LabrunError": 1, "OSError": 1, "ValueError": 1}
 
 # ---- how it stands
@@ -28,12 +28,13 @@ ENDS |= {"NoInstrument": USAGE, "BayFault": NO_BAY, "BadAddress": NO_BAY, "Labru
 
 def add_status(parser: argparse.ArgumentParser) -> None:
     parser.add_argument("--json", action="store_true", help="for programs")
+    parser.add_argument("--bay", metavar="NAME", help="of several bays: this one alone")
     add_client(parser)
 
 
 def run_status(args: argparse.Namespace) -> int:
     with lab_of(args) as lab:
-        status = lab.status()
+        status = only(lab.status(), args.bay)
     print(json.dumps(status) if args.json else "\n".join(lines_of(status)))
     return 0
 
@@ -41,19 +42,43 @@ def run_status(args: argparse.Namespace) -> int:
 def run_top(args: argparse.Namespace) -> int:
     clears = "\x1b[H\x1b[2J" if sys.stdout.isatty() and not args.json else ""
     with contextlib.suppress(BrokenPipeError), lab_of(args) as lab:
-        for status in lab.watch():
+        for each in lab.watch():
+            status = only(each, args.bay)
             text = json.dumps(status) if args.json else "\n".join([*lines_of(status), ""])
             print(f"{clears}{text}", flush=True)
     return 0
 
 
+def only(status: dict[str, Any], bay: Optional[str]) -> dict[str, Any]:
+    """The bay of this name, if one is wanted."""
+    from .together import no_bay, parts
+
+    its = {name or str(one["bay"]): one for name, one in parts(status)}
+    if bay is not None and bay not in its:
+        raise no_bay(bay, tuple(its))
+    if bay is None or not status.get("bays"):
+        return status
+    return {**its[bay], "bays": [one for one in status["bays"] if one["bay"] == bay]}
+
+
 def lines_of(status: dict[str, Any]) -> list[str]:
-    """How the bay stands, for people."""
+    """How the bay stands, or each of several, for people."""
+    from .together import parts
+
+    if len(its := parts(status)) == 1:
+        return lines_of_bay(its[0][1])
+    lines = [f"lab {plain(status['bay'])}: {counted(len(its), 'bay')}"]
+    return [*lines, *(line for _, one in its for line in ("", *lines_of_bay(one)))]
+
+
+def lines_of_bay(status: dict[str, Any]) -> list[str]:
     at, since = status["at"], time.strftime("%Y-%m-%d %H:%M", time.localtime(status["since"]))
     rows = [["INSTRUMENT", "HELD BY", "FOR", "WAITING", "LABEL" if any(one.get("label") for one in status["instruments"]) else ""]]
     for one in status["instruments"]:
-        held_for = span(at - one["since"]) if one["holder"] else ""
-        rows.append([one["name"], one["holder"] or "-", held_for, " ".join(one["waiting"]), plain(one.get("label", ""))])
+        safe_since = one.get("being_made_safe")
+        held_for = span(at - (safe_since or one["since"])) if one["holder"] else ""
+        nobody = "-" if one.get("out") is None else "(out of order)"
+        rows.append([one["name"], "(being made safe)" if safe_since else one["holder"] or nobody, held_for, " ".join(one["waiting"]), plain(one.get("label", ""))])
     outs = [out_of(it, at) for it in status["instruments"] if it.get("out") is not None]
     lines = [f"bay {plain(status['bay'])}, {counted(status['sessions'], 'session')} since {since}", *brokers_of(status), *disk_of(status), *outs, "", *aligned(rows), ""]
     rows = [["STATION", "", "FOR", "INSTRUMENTS", "BY"]]
@@ -61,22 +86,33 @@ def lines_of(status: dict[str, Any]) -> list[str]:
         if one["state"] != "idle":
             by = plain(one["by"] or "") + (f" | {plain(one['note'])}" if one["note"] else "")
             rows.append([one["name"], one["state"], span(at - (one["gone_since"] or one["since"])), " ".join(one["instruments"]), by])
-            rows += [["", "", "", plain(keeper["text"])] for keeper in one["waits_for"]]
+            rows += [["", "", "", text] for text in (*line_of(one, status), *(plain(keeper["text"]) for keeper in one["waits_for"]))]
     for one in status["in_line"]:
         rows.append([one["station"] or "a guest", "in line", span(at - one["since"]), " ".join(one["instruments"]), plain(one["by"] or "")])
+        place = f"{one['station']} is in one session at a time" if one["station"] else "all places for guests are taken (guests.count says how many hold at once)"
+        # (who went first counts only while there is a place)
+        rows += [["", "", "", text] for text in (*line_of({**one, "passed": 0}, status), place)]
     return [*lines, *(aligned(rows) if len(rows) > 1 else ["nobody holds or waits"])]
+
+
+def line_of(it: dict[str, Any], status: dict[str, Any]) -> list[str]:
+    """Where somebody who waits stands, and how often others went before."""
+    if not it.get("place"):
+        return []
+    return [f"number {it['place']} in line" + (f"; {counted(it['passed'], 'other')} went first, and after {status['overtakes']} what it needs is kept for it" if it["passed"] else "")]
 
 
 def out_of(it: dict[str, Any], at: float) -> str:
     why = f": {plain(it['out'])}" if it["out"] else ""
-    return f"{it['name']} is out of order for {span(at - it['out_since'])}{why} (says {plain(it['out_by'])})"
+    return f"{it['name']} has been out of order for {span(at - it['out_since'])}{why} (says {plain(it['out_by'])})"
 
 
 def brokers_of(status: dict[str, Any]) -> list[str]:
     """Who leads, of brokers that stand by for one another."""
     if not status.get("leads"):
         return []
-    return [plain(f"{status['leads']} leads, and {', '.join(status['stands_by']) or 'no other'} stands by")]
+    others = status["stands_by"]
+    return [plain(f"{status['leads']} leads, and {', '.join(others) or 'no other'} {'stand' if len(others) > 1 else 'stands'} by")]
 
 
 def disk_of(status: dict[str, Any]) -> list[str]:
@@ -90,19 +126,20 @@ def disk_of(status: dict[str, Any]) -> list[str]:
 
 def add_release(parser: argparse.ArgumentParser) -> None:
     parser.add_argument("station", metavar="STATION", help="whose session is ended; first see that nobody is at its instruments")
-    parser.add_argument("--session", metavar="N", type=int, default=0, help="only if it is in this one, which `status --json` tells")
+    parser.add_argument("--session", metavar="N", type=session, default=0, help="only if it is in this one, which `status --json` tells")
+    parser.add_argument("--bay", metavar="NAME", default="", help="of several bays: in this one, if a guest of this name is in more than one")
     add_client(parser)
 
 
 def run_release(args: argparse.Namespace) -> int:
     with lab_of(args, by=user()) as lab:
-        print(f"{args.station} has let go of {' '.join(lab.release(args.station, args.session))}")
+        print(f"{args.station}'s session is ended; it held {' '.join(lab.release(args.station, args.session, args.bay))}")
     return 0
 
 
 def add_disable(parser: argparse.ArgumentParser) -> None:
     parser.add_argument("instrument", metavar="INSTRUMENT", help="nobody comes to hold it any more; whoever holds it goes on")
-    parser.add_argument("why", metavar="WHY", nargs="?", default="", help="what is told to who asks for it, as \"calibration until Friday\"")
+    parser.add_argument("why", metavar="WHY", nargs="?", default="", help="what is told to whoever asks for it, as \"calibration until Friday\"")
     add_client(parser)
 
 
@@ -125,40 +162,72 @@ def run_enable(args: argparse.Namespace) -> int:
 
 def add_bay(parser: argparse.ArgumentParser) -> None:
     what = "check: names every fault of the file; apply: the bay that a broker keeps goes on as the file has it, whoever holds or waits"
-    parser.add_argument("what", choices=("check", "apply"), help=what)
+    parser.add_argument("what", metavar="{check,apply}", choices=("check", "apply"), help=what)
     parser.add_argument("bay", metavar="BAY", help="the TOML file")
     parser.add_argument("--check", action="store_true", help="of apply: nothing is changed, but what would be is said, and who is in the way")
+    parser.add_argument("--bay", metavar="NAME", dest="of", default="", help="of apply, to a lab of several bays: whose file it is, if the file doesn't say so")
     add_client(parser)
 
 
 def run_bay(args: argparse.Namespace) -> int:
-    from .bay import BayFault, read_bay
+    from .bay import BayFault
+    from .labs import Lab, read_any
 
     try:
-        bay = read_bay(args.bay)
+        read = read_any(args.bay)
     except BayFault as fault:
         print(fault, file=sys.stderr)
         return 1
     if args.what == "apply":
-        return apply_bay(args)
-    print(f"ok bay {bay.name}: {len(bay.instruments)} instruments, {len(bay.stations)} stations, {bay.guests} guests, gone = {bay.gone}")
+        return apply_bay(args, isinstance(read, Lab))
+    if isinstance(read, Lab):
+        print(f"ok lab {read.name}: {counted(len(read.bays), 'bay')}")
+    for bay in read.bays.values() if isinstance(read, Lab) else (read,):
+        print(f"ok bay {bay.name}: {counted(len(bay.instruments), 'instrument')}, {counted(len(bay.stations), 'station')}, {counted(bay.guests, 'guest')}, gone = {bay.its_gone.told()}")
     return 0
 
 
-def apply_bay(args: argparse.Namespace) -> int:
+def apply_bay(args: argparse.Namespace, is_lab: bool) -> int:
+    from .labs import texts_of
+
     with open(args.bay, encoding="utf-8") as file, lab_of(args, by=user()) as lab:
-        changes = lab.apply(file.read(), args.check)
+        text, texts = texts_of(args.bay) if is_lab else (file.read(), None)
+        changes = lab.apply(text, args.check, args.of, texts)
     print("\n".join(changes) or "nothing changes: the bay is as the file has it")
     return 0
 
 
+def add_token(parser: argparse.ArgumentParser) -> None:
+    parser.add_argument("name", metavar="NAME", help="whose it is: a person's, or a machine's that asks; the token is written to the standard output, this once")
+
+
+def run_token(args: argparse.Namespace) -> int:
+    from labrun.picks import A_NAME, is_name
+
+    from .people import HASH, digest_of, new_token
+
+    if not is_name(args.name):
+        say(f"{plain(args.name)} is no name: {A_NAME}")
+        return USAGE
+    token = new_token()
+    print(token, flush=True)
+    print(f'# for the bay\'s file, below [people]:\n{key_of(args.name)} = {{token = "{HASH}{digest_of(token)}"}}', file=sys.stderr)
+    return 0
+
+
+def key_of(name: str) -> str:
+    """As TOML has it."""
+    return f'"{name}"' if "." in name else name
+
+
 # ---- what was, from a state folder
 
-FOLDER = "the state folder of labrun-broker serve --state FOLDER; or the journal of a bench, a file"
+FOLDER = "the state folder of labrun-broker serve --state FOLDER, of one bay or of a lab of several; or the journal of a bench, a file"
 
 
 def add_past(parser: argparse.ArgumentParser) -> None:
     parser.add_argument("folder", metavar="FOLDER", help=FOLDER)
+    parser.add_argument("--bay", metavar="NAME", help="of a lab of several bays: this one alone")
     parser.add_argument("--last", metavar="SPAN", type=last, help="of a folder: only the last 30s, 15min, 4h or 2d before the last record")
 
 
@@ -182,7 +251,7 @@ def later(module: str, name: str) -> Callable[[Any], Any]:
 
 
 def add_help(parser: argparse.ArgumentParser) -> None:
-    parser.add_argument("kind", choices=("man", "bash", "zsh"), help="the man page, or the completions of a shell")
+    parser.add_argument("kind", metavar="{man,bash,zsh}", choices=("man", "bash", "zsh"), help="the man page, or the completions of a shell")
 
 
 def run_help(args: argparse.Namespace) -> int:
@@ -201,6 +270,7 @@ WORDS = (
     Word("release", "ends the session of a station whose client doesn't come back", add_release, run_release),
     Word("disable", "an instrument is out of order: nobody comes to hold it", add_disable, run_disable),
     Word("enable", "it is in order again", add_enable, run_enable),
+    Word("token", "makes a token by which the broker knows a person, and the line for the bay's file", add_token, run_token),
     Word("report", "what each station and instrument did, from a state folder", add_past, later("past", "run_report")),
     Word("gantt", "a picture of what was: who held what, and who waited, from a state folder", add_gantt, later("past", "run_gantt")),
     Word("table", "each session of a state folder, with times and notes", add_table, later("past", "run_table")),
@@ -209,22 +279,54 @@ WORDS = (
 )
 
 
-def parser_of(table: Sequence[Word]) -> argparse.ArgumentParser:
+class Parser(argparse.ArgumentParser):
+    """It names its own help."""
+
+    def error(self, message: str) -> NoReturn:
+        self.print_usage(sys.stderr)
+        self.exit(USAGE, f"{self.prog}: error: {message}; {self.prog} --help\n")
+
+    def knows_not(self, words: list[str]) -> NoReturn:
+        known = [name for it in self._actions for name in it.option_strings]
+        self.error(f"unrecognized arguments: {' '.join(words)}{nearly(words[0].partition('=')[0], known)}")
+
+
+def nearly(word: str, known: list[str]) -> str:
+    # (looked up only where something is wrong)
+    from labrun.picks import near
+
+    return near(word, known)
+
+
+def parser_of(table: Sequence[Word]) -> Parser:
     statuses = "\n".join(f"  {number:8} {text}" for number, text in STATUSES)
     kind = argparse.RawDescriptionHelpFormatter
-    parser = argparse.ArgumentParser(PROGRAM, description=ABOUT, epilog=f"statuses:\n{statuses}", formatter_class=kind)
+    parser = Parser(PROGRAM, description=ABOUT, epilog=f"statuses:\n{statuses}", formatter_class=kind)
     each = parser.add_subparsers(metavar="WORD", required=True)
     for word in table:
         one = each.add_parser(word.name, help=word.help, description=word.help, allow_abbrev=False)
         word.add_arguments(one)
-        one.set_defaults(run=word.run)
+        one.set_defaults(run=word.run, parser=one)
     return parser
+
+
+def parsed(line: list[str]) -> argparse.Namespace:
+    """(A parser of one word alone is made sooner.)"""
+    its = [it for it in WORDS if line[:1] == [it.name]]
+    parser = parser_of(its or WORDS)
+    if line and not its and not line[0].startswith("-"):
+        names = [it.name for it in WORDS]
+        parser.error(f"there is no word {line[0]}: there are {', '.join(names)}{nearly(line[0], names)}")
+    args, more = parser.parse_known_args(line)
+    if more:
+        args.parser.knows_not(more)
+    return args
 
 
 def main(given: Optional[Sequence[str]] = None) -> int:
     line = list(sys.argv[1:] if given is None else given)
     at = line.index("--") if "--" in line else len(line)
-    args = parser_of([it for it in WORDS if line[:1] == [it.name]] or WORDS).parse_args(line[:at])
+    args = parsed(line[:at])
     if "command" in args:
         args.command = line[at + 1 :]
     elif at < len(line):

@@ -17,7 +17,8 @@ from typing import Any, Optional
 import grpc
 
 from .bay import BadAddress, is_here
-from .sockets import check_group, clear, family_of, parsed
+from .quick import is_token
+from .sockets import check_group, clear, family_of, parsed, tls_of
 
 
 @dataclass(frozen=True)
@@ -29,27 +30,24 @@ class Door:
     key: Optional[str] = None
     token_file: Optional[str] = None
     group: Optional[str] = None
+    # each of the bay's people has a token, so the door needs none
+    has_people: bool = False
 
     def token(self) -> Optional[str]:
         if self.token_file is None:
             return None
-        with open(self.token_file, encoding="ascii") as file:
+        with open(self.token_file, encoding="ascii", errors="replace") as file:
             if stat.S_IMODE(os.fstat(file.fileno()).st_mode) & 0o007:
                 raise BadAddress(f"{self.token_file}: everybody on this machine may read it: chmod o= {self.token_file}")
             token = file.read().strip()
-        if len(token) < 16:
-            raise BadAddress(f"{self.token_file}: a token of 16 characters or more is wanted: openssl rand -hex 32 > {self.token_file}")
+        if len(token) < 16 or not is_token(token):
+            raise BadAddress(f"{self.token_file}: a token is one line of letters, digits and signs, 16 or more: openssl rand -hex 32 > {self.token_file}")
         return token
 
     def tls(self) -> Optional[ssl.SSLContext]:
         if self.certificate is None or self.key is None:
             return None
-        made = ssl.SSLContext(ssl.PROTOCOL_TLS_SERVER)
-        try:
-            made.load_cert_chain(self.certificate, self.key)
-        except ssl.SSLError as fault:
-            raise BadAddress(f"{self.certificate} and {self.key} are no certificate and its key: {fault.reason or fault}") from None
-        return made
+        return tls_of(self.certificate, self.key)
 
     def credentials(self) -> Any:
         # (gRPC would say in thirty lines what is wrong with them)
@@ -62,11 +60,16 @@ class Door:
         check_group(self.group)
         if (self.certificate is None) != (self.key is None):
             raise BadAddress("a certificate and its key belong together: --tls-certificate FILE --tls-key FILE")
-        for address in self.addresses:
-            if not address.startswith("unix:") and not is_loopback(address) and (self.certificate is None or self.token_file is None):
-                raise BadAddress(
-                    f"{address} is seen by other machines: that takes a certificate and a token, --tls-certificate FILE --tls-key FILE --token-file FILE"
-                )
+        if (seen := self.seen()) is not None and (self.certificate is None or self.token_file is None and not self.has_people):
+            raise BadAddress(f"{seen} is seen by other machines: that takes a certificate and a token, --tls-certificate FILE --tls-key FILE --token-file FILE")
+
+    def seen_without_token(self, other: Door) -> Optional[str]:
+        """Of this one and another, where only people have tokens."""
+        return None if self.token_file is not None else self.seen() or other.seen()
+
+    def seen(self) -> Optional[str]:
+        """An address that other machines see."""
+        return next((it for it in self.addresses if not it.startswith("unix:") and not is_loopback(it)), None)
 
 
 def is_loopback(address: str) -> bool:

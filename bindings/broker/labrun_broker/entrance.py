@@ -2,15 +2,22 @@
 
 from __future__ import annotations
 
+import asyncio
 import collections
+import contextlib
 import hmac
 import time
-from typing import Optional
+from dataclasses import dataclass, replace
+from typing import Callable, Iterator, Optional
 
 from labrun import LabrunError
 
+from .bay import Bay
+from .bays import Kept
 from .door import Seldom
-from .keeping import Keeping
+from .errors import CantChange
+from .people import People, digest_of
+from .users import Users
 
 # a call that isn't of a session counts as so many messages
 DEAR = 20
@@ -39,19 +46,142 @@ class Pace:
         return max(0.0, -self.left / self.rate)
 
 
-class Entrance:
-    """Each answer is a text that says why not, or None. `clients` counts those that are here."""
+UNKNOWN = 401
+BEARER = "`Authorization: Bearer TOKEN`"
+# the digest of what is no token
+NONE = "none"
+NO_TOKEN = f"a token is sent as {BEARER}"
 
-    def __init__(self, keeping: Keeping, token: Optional[str]) -> None:
-        self.keeping, self.token, self.clients = keeping, token, 0
+
+@dataclass(frozen=True)
+class Caller:
+    """Who it is that asks: by the hash of the token that came, or by the user of the process that connected to a Unix socket. `person` is
+    nothing where the bay names nobody, and of one who only looks."""
+
+    person: str = ""
+    digest: Optional[str] = None
+    uid: Optional[int] = None
+    is_socket: bool = False
+    looks: bool = False
+    by_http: bool = False
+
+    def to_give(self, it: str, its_file: str) -> str:
+        """How a token is given, in words."""
+        if not self.by_http:
+            return f"give {its_file} by --token-file"
+        # (of those that speak HTTP labrun-hold alone has such an option)
+        return f"send {it} as {BEARER}" + (" (labrun-hold: --token-file FILE)" if self.is_socket else "")
+
+
+class Entrance:
+    """`clients` counts those that are here. `seen` is an address that other machines see, and for which there is no token of the bay."""
+
+    def __init__(self, keeping: Kept, token: Optional[str], seen: Optional[str] = None) -> None:
+        self.keeping, self.seen, self.clients = keeping, seen, 0
+        self._token = None if token is None else digest_of(token)
         self._seldom = Seldom(60.0)
         self._pace = collections.defaultdict[str, Pace](lambda: Pace(keeping.bay.limits.requests))
+        self._users = Users(keeping.bay.people)
+        # of those that are here, by what acts for each; and why those were cut off that aren't let in any more
+        self._here, self._cut = dict[asyncio.Task[object], Caller](), dict[asyncio.Task[object], str]()
+        # what else is to be called when that may be others
+        self.looks_again: list[Callable[[], None]] = []
+        keeping.entrances.append(self)
 
-    def is_unknown(self, given: str) -> Optional[str]:
-        """`given` is what came as `authorization`, by the network. (Who comes by a socket was let in by its mode.)"""
-        if self.token is None or hmac.compare_digest(given.encode(errors="replace"), f"Bearer {self.token}".encode()):
+    @property
+    def asks_for_token(self) -> bool:
+        return self._token is not None or bool(self.keeping.bay.people)
+
+    def caller(self, given: str, is_socket: bool, uid: Optional[int] = None, looks: bool = False, by_http: bool = False) -> Caller:
+        """Who comes. `given` is what came as `authorization`, `uid` who connected to a Unix socket, as far as that is known. Who only looks
+        needs no name there: the socket's mode let them in. NotLetIn says why not."""
+        token = given.removeprefix("Bearer ")
+        # (what is no token is nobody's)
+        digest = None if not given else digest_of(token) if token and token != given else NONE
+        it = Caller("", digest, uid, is_socket, looks, by_http)
+        if (why := self.why_not(it)) is not None:
+            raise NotLetIn(UNKNOWN, why)
+        return replace(it, person=self._person(it) or "")
+
+    def why_not(self, it: Caller) -> Optional[str]:
+        """Why this one isn't let in, or not any more."""
+        people = self.keeping.bay.people
+        if it.is_socket and (it.looks or not people):
             return None
-        return "this isn't its token" if given else "this broker asks for its token: give its file by --token-file"
+        if not people:
+            return self._has_not_the_token(it)
+        person = self._person(it)
+        if person is not None and it.person in ("", person):
+            return None
+        return f"{self._unknown(it, people)}; {people.to_ask()}"
+
+    def _person(self, it: Caller) -> Optional[str]:
+        people = self.keeping.bay.people
+        if it.digest is not None:
+            return people.with_token(it.digest)
+        return self._users.person(people, it.uid) if it.is_socket else None
+
+    def _has_not_the_token(self, it: Caller) -> Optional[str]:
+        if self._token is None or hmac.compare_digest(it.digest or "", self._token):
+            return None
+        if it.digest is None:
+            return f"this broker asks for its token: {it.to_give('it', 'its file')}"
+        return NO_TOKEN if it.by_http and it.digest == NONE else "this isn't its token"
+
+    def _unknown(self, it: Caller, people: People) -> str:
+        if it.digest is not None:
+            return NO_TOKEN if it.by_http and it.digest == NONE else "this is nobody's token, or not any more"
+        give = it.to_give("your token", "the file of your token")
+        if it.is_socket and it.uid is not None:
+            return f"the user {self._users.name(it.uid)} of this machine is none of the bay's people: {give}"
+        return f"say who you are: {give}"
+
+    def complaints(self) -> list[str]:
+        """What whoever looks after the broker should know of the people."""
+        needless = ["the bay names people, so the token of --token-file lets nobody in"] if self._token is not None and self.keeping.bay.people else []
+        return [*needless, *self._users.complaints]
+
+    # ---- while they are here
+
+    @contextlib.contextmanager
+    def present(self, caller: Caller) -> Iterator[None]:
+        """While this task acts for somebody. NotLetIn: they aren't let in any more, and the task was cut off wherever it was."""
+        task = asyncio.current_task()
+        assert task is not None
+        self._here[task] = caller
+        try:
+            yield
+        except asyncio.CancelledError:
+            if (why := self._cut.get(task)) is None:
+                raise
+            task.uncancel()
+            raise NotLetIn(UNKNOWN, why) from None
+        finally:
+            self._here.pop(task, None)
+            self._cut.pop(task, None)
+
+    def may_be(self, after: Bay) -> None:
+        """CantChange: the bay would be open to everybody."""
+        if self.seen is not None and not after.people:
+            raise CantChange(f"other machines see {self.seen}, and without [people] this broker would let in everybody: it has no --token-file")
+
+    def has_changed(self) -> None:
+        """Who isn't let in any more is cut off."""
+        gone = collections.Counter[str]()
+        self._users = Users(self.keeping.bay.people)
+        for task, caller in self._here.items():
+            if task not in self._cut and (why := self.why_not(caller)) is not None:
+                gone[caller.person or "somebody"] += 1
+                self._cut[task] = why
+                task.cancel()
+        for it in self.looks_again:
+            it()
+        for name, count in gone.items():
+            self.keeping.says(f"{name} isn't let in any more: {count} connection{'s are' if count > 1 else ' is'} closed")
+        for complaint in self._users.complaints:
+            self.keeping.says(complaint)
+
+    # (each answer is a text that says why not, or None)
 
     def is_full(self) -> Optional[str]:
         return f"{self.clients} clients are here, and no more may come" if self.clients >= self.keeping.bay.limits.clients else None

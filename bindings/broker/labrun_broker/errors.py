@@ -19,6 +19,10 @@ class Unreachable(labrun.LabrunError, ConnectionError):
     """The broker can't be reached, or doesn't let this client in."""
 
 
+class AnswerLost(Unreachable):
+    """The broker may have heard what was asked, and done it; only its answer didn't come."""
+
+
 class _Told(Exception):
     """One of the package's errors, with the broker's text."""
 
@@ -65,6 +69,10 @@ class CantChange(labrun.LabrunError):
     """The bay can't be as the file has it: somebody is in the way."""
 
 
+class NotAllowed(BrokerError):
+    """Only the bay's operators may do that, or only whose session it is."""
+
+
 class OutOfOrder(_Told, labrun.LabrunError):
     """The instrument is out of order, as somebody says who looks after the bay."""
 
@@ -80,6 +88,7 @@ KINDS: dict[str, Callable[[str], Exception]] = {
     "BadWish": BadWish,
     "NoInstrument": NoInstrument,
     "OutOfOrder": OutOfOrder,
+    "NotAllowed": NotAllowed,
 }
 
 
@@ -88,15 +97,19 @@ def raised(fault: Any) -> Exception:
 
 
 CLOSED = "it closed the connection"
-# what gRPC says where it can't connect, and what that means
-HINTS = {
+# what gRPC says where it can't connect, and what that means; first where somebody listens
+IS_THERE = {
     "Socket closed": CLOSED,
     "Connection reset by peer": CLOSED,
-    "Broken pipe": CLOSED,
     "wrong version number": "it has no TLS: come without --certificate",
     "not in peer certificate": "its certificate is for another name: call it by that",
     "certificate verify failed": "it has another certificate than --certificate says",
+}
+HINTS = IS_THERE | {
+    "Broken pipe": CLOSED,
     "Permission denied": "permission denied",
+    "before receiving SETTINGS frame": "it doesn't answer",
+    "C-ares status is not ARES_SUCCESS": "no machine of that name is known here",
 }
 
 
@@ -104,6 +117,8 @@ def plainly(address: str, text: str, may_want_tls: bool) -> str:
     """Why nobody can connect there."""
     if ":" not in address or address.startswith(("/", ".")):
         return f"a socket's path is written unix:{address}" if "/" in address else "unix:PATH or HOST:PORT is wanted"
+    if not re.fullmatch(r"unix:.+|dns:.+|[^/]+:\d+", address) or int((re.search(r":(\d+)$", address) or ["", "0"])[1]) > 65535:
+        return "unix:PATH or HOST:PORT is wanted, with a port of up to 65535"
     text = re.sub(r"^failed to connect to all addresses; last error: \w+: (?:ipv[46]|unix):\S+: ", "", text)
     text = next((hint for told, hint in HINTS.items() if told in text), text)
     if text == CLOSED and may_want_tls and not address.startswith("unix:"):
@@ -120,9 +135,16 @@ def plainly(address: str, text: str, may_want_tls: bool) -> str:
 def why_lost(address: str, code: Any, text: str, may_want_tls: bool = False) -> Exception:
     """`may_want_tls`: it was never reached, and without a certificate."""
     if code is grpc.StatusCode.DEADLINE_EXCEEDED:
-        return Unreachable(f"the broker at {address} doesn't answer")
+        return AnswerLost(f"the broker at {address} doesn't answer")
     if code in (grpc.StatusCode.UNAVAILABLE, grpc.StatusCode.UNKNOWN, grpc.StatusCode.CANCELLED):
-        return Unreachable(f"the broker at {address} can't be reached: {plainly(address, text, may_want_tls)}")
+        why = plainly(address, text, may_want_tls)
+        return (AnswerLost if why == CLOSED else Unreachable)(f"the broker at {address} can't be reached: {why}")
     if code in (grpc.StatusCode.UNAUTHENTICATED, grpc.StatusCode.RESOURCE_EXHAUSTED):
         return Unreachable(f"the broker at {address} doesn't let this client in: {text}")
+    if code is grpc.StatusCode.PERMISSION_DENIED:
+        return NotAllowed(text)
+    if code is grpc.StatusCode.INVALID_ARGUMENT:
+        return NoInstrument(text)
+    if code is grpc.StatusCode.DATA_LOSS:
+        return JournalError(text)
     return NotHeld(text) if code is grpc.StatusCode.FAILED_PRECONDITION else BrokerError(text)

@@ -73,6 +73,9 @@ class Family:
             found += children.get(one.number, [])
         return [one for one in found if not one.has_ended]
 
+    def named(self) -> str:
+        return ", ".join(f"{one.number} {one.name}" for one in self.members())
+
     def send(self, number: int) -> None:
         """Once to each: what one of them starts then, as to leave its instruments, is let be."""
         for one in self.members():
@@ -93,9 +96,9 @@ class Family:
             while is_same:
                 time.sleep(PAUSE)
                 is_same = not self._reap(os.WNOHANG)
-                if not is_told and time.monotonic() > until and (goes_on := self.members()):
+                if not is_told and time.monotonic() > until and (goes_on := self.named()):
                     is_told = True
-                    tells(", ".join(f"{one.number} {one.name}" for one in goes_on))
+                    tells(goes_on)
 
     def _reap(self, how: int) -> bool:
         """Whether a child has ended."""

@@ -7,12 +7,14 @@ from typing import Any, Callable, Optional, Sequence
 
 import grpc
 
+from .errors import IS_THERE
+
 READY, FAILS = grpc.ChannelConnectivity.READY, (grpc.ChannelConnectivity.TRANSIENT_FAILURE, grpc.ChannelConnectivity.SHUTDOWN)
 LOOKS, PAUSE = 2.0, 0.1  # seconds: for so long at most all are tried at once; and between two such tries
 # for how long one of a list is waited for, if none has answered yet: as long as it takes until another leads
 FAILOVER = 20.0
-# of a list: a machine that says nothing any more is to be left soon, also by a client that only waits. (A broker takes it ill to be asked twice
-# in five seconds.)
+# of a list: a machine that says nothing any more is to be left soon, also by a client that only waits. (An older broker takes it ill to be
+# asked twice in five seconds.)
 SOON = [
     ("grpc.keepalive_time_ms", 6000),
     ("grpc.keepalive_timeout_ms", 2000),
@@ -21,18 +23,26 @@ SOON = [
 ]
 
 
+def _channel(address: str, certificate: Optional[bytes], options: list[tuple[str, int]]) -> Any:
+    # (each is known by its own name; by a Unix socket nobody has to be known)
+    if certificate is None or address.startswith("unix:"):
+        return grpc.aio.insecure_channel(address, options)
+    return grpc.aio.secure_channel(address, grpc.ssl_channel_credentials(certificate), options)
+
+
 class Brokers:
     """A channel to each address, and the methods of the one that is asked now."""
 
     def __init__(self, addresses: Sequence[str], certificate: Optional[bytes], options: list[tuple[str, int]], methods: Callable[[Any], dict[str, Any]]) -> None:
         self.is_list = len(addresses) > 1
         options = [*(it for it in options if not self.is_list or it[0] not in dict(SOON)), *(SOON if self.is_list else ())]
-        if certificate is None:
-            self._channels = [grpc.aio.insecure_channel(it, options) for it in addresses]
-        else:
-            # (each is known by its own name)
-            self._channels = [grpc.aio.secure_channel(it, grpc.ssl_channel_credentials(certificate), options) for it in addresses]
-        self._methods, self._at = [methods(it) for it in self._channels], 0
+        self._channels = [_channel(it, certificate, options) for it in addresses]
+        self._methods, self._addresses, self._at = [methods(it) for it in self._channels], tuple(addresses), 0
+
+    @property
+    def address(self) -> str:
+        """Of the one that is asked now."""
+        return self._addresses[self._at]
 
     @property
     def methods(self) -> dict[str, Any]:
@@ -47,12 +57,14 @@ class Brokers:
         """Another is asked if that of now isn't there, and one is. It tries for so long."""
         until = asyncio.get_running_loop().time() + patience
         while self.is_list and self._channels[self._at].get_state() is not READY:
-            await self._tries_all()
+            if not await self._tries_all():
+                await self._finds_why()
             if asyncio.get_running_loop().time() >= until:
                 return
             await asyncio.sleep(PAUSE)
 
-    async def _tries_all(self) -> None:
+    async def _tries_all(self) -> bool:
+        """Whether one is there."""
         tries = [asyncio.create_task(self._is_ready(at)) for at in range(len(self._channels))]
         try:
             async with asyncio.timeout(LOOKS):
@@ -61,12 +73,20 @@ class Brokers:
                     # (whoever asks one that isn't there is told at once, and why)
                     self._at = at
                     if is_ready:
-                        return
+                        return True
         except TimeoutError:
             pass
         finally:
             for it in tries:
                 it.cancel()
+        return False
+
+    async def _finds_why(self) -> None:
+        """Whoever is told why none can be asked is told of the one that leads, if there is one that only this client can't speak to."""
+        for at, channel in enumerate(self._channels):
+            if channel.get_state() in FAILS and await _is_there(channel):
+                self._at = at
+                return
 
     async def _is_ready(self, at: int) -> tuple[int, bool]:
         channel = self._channels[at]
@@ -78,3 +98,12 @@ class Brokers:
 
     async def close(self) -> None:
         await asyncio.gather(*(it.close() for it in self._channels))
+
+
+async def _is_there(channel: Any) -> bool:
+    """Of one that can't be connected to: whether somebody listens there."""
+    try:
+        await channel.unary_unary("/there")(b"", timeout=PAUSE)
+    except grpc.RpcError as fault:
+        return any(it in str(fault.details()) for it in IS_THERE)
+    return True

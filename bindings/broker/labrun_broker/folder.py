@@ -10,6 +10,7 @@ from typing import Protocol
 from labrun import JournalError, LabrunError
 from labrun.store import FileStore, Store
 
+from .bay import Bay
 from .places import Places, places_of
 from .records import Record, Records, Written
 from .sessions import recent_records
@@ -33,6 +34,12 @@ class State(Protocol):
 
     def keeps(self, places: Places) -> None:
         """They outlive a crash. OSError: nobody knows which are there."""
+
+    def lacks(self, text: str, bay: Bay) -> bool:
+        """Whether the next broker wouldn't go by this bay, of this text, unless it is told to. CantChange: it can't."""
+
+    def goes_by(self, text: str, bay: Bay, by: str) -> None:
+        """The next broker does, from when the journal begins anew, which is being done."""
 
     def recent(self) -> list[Record]:
         """The last records that there are, as many as a broker that begins has to know."""
@@ -81,7 +88,15 @@ class Folder:
             raise JournalError(path, f"it isn't as the broker wrote it, and the journal can't be read without it: {fault}") from None
 
     def keeps(self, places: Places) -> None:
-        path, new = f"{self.path}/{PLACES}", f"{self.path}/{PLACES}.new"
+        path = f"{self.path}/{PLACES}"
+        try:
+            self._keeps_at(path, places)
+        except OSError as fault:
+            # (whose name a write doesn't tell)
+            raise OSError(fault.errno, fault.strerror, path) from None
+
+    def _keeps_at(self, path: str, places: Places) -> None:
+        new = f"{path}.new"
         with open(os.open(new, os.O_WRONLY | os.O_CREAT | os.O_TRUNC | os.O_CLOEXEC, 0o640), "w", encoding="utf-8") as file:
             file.write(places.text())
             file.flush()
@@ -94,6 +109,12 @@ class Folder:
                 os.fsync(folder)
             finally:
                 os.close(folder)
+
+    def lacks(self, text: str, bay: Bay) -> bool:
+        # (it goes by its own file)
+        return False
+
+    def goes_by(self, text: str, bay: Bay, by: str) -> None: ...
 
     def recent(self) -> list[Record]:
         return recent_records(self.path)

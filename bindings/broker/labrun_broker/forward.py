@@ -10,6 +10,7 @@ import ssl
 from typing import Any, Callable, Iterator, Mapping, Optional
 
 from .bay import is_here
+from .quick import certificate_in
 from .relay import End, joins
 from .texts import plain
 from .ways import Way, variable_of, way_of
@@ -30,9 +31,9 @@ class Local(End):
         super().connection_made(transport)
         self._forward.begins(self)
 
-    def data_received(self, data: bytes) -> None:
+    def comes(self, data: bytes) -> None:
         self._forward.sent += len(data)
-        super().data_received(data)
+        super().comes(data)
 
 
 class Line(End):
@@ -172,11 +173,7 @@ def led(guards: Mapping[str, str], ticket: str, certificate: Optional[str], says
     """For a command: the variables with the addresses of what it holds, and what is to be called before its session lets go."""
     from .work import Work, loop_of_this_process
 
-    known = None
-    if certificate is not None:
-        with open(certificate, "rb") as file:
-            known = file.read()
-    ways, loop = Ways(guards, ticket, known, says), loop_of_this_process()
+    ways, loop = Ways(guards, ticket, certificate_in(certificate), says), loop_of_this_process()
 
     async def variables() -> dict[str, str]:
         return {variable_of(name): "{}:{}".format(*await ways.address(name)) for name in guards}

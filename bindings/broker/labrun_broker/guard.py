@@ -263,10 +263,11 @@ class Guard:
 
     async def _ends(self, token: int, sent: int) -> None:
         """The session that holds is about to let go: so many bytes are all that its clients have said. Returns once the instrument's machine has
-        them. The instrument is told that no more come, and mostly closes its side; so it needs no reset, which might drop what it hasn't read."""
+        them, but for those that another guard had before this one was started: while no connection is open, no more come. The instrument is told
+        that no more come, and mostly closes its side; so it needs no reset, which might drop what it hasn't read."""
         with contextlib.suppress(builtins.TimeoutError):
             async with asyncio.timeout(PATIENCE):
-                while self._came < sent and self.holder is not None and self.holder.token == token:
+                while self._came < sent and self._is_through(token):
                     await asyncio.sleep(AGAIN)
                 its = [it for it in self.through if it.token == token and it.there.transport is not None]
                 for it in its:
@@ -276,6 +277,10 @@ class Guard:
                 async with asyncio.timeout(CLOSING):
                     for it in its:
                         await it.over.wait()
+
+    def _is_through(self, token: int) -> bool:
+        """Whether that session still holds, and a connection of it is open."""
+        return self.holder is not None and self.holder.token == token and any(it.token == token for it in self.through)
 
     def came(self, count: int) -> None:
         self._came += count
@@ -307,10 +312,10 @@ class Caller(End):
         self._guard.callers -= 1
         self.left()
 
-    def data_received(self, data: bytes) -> None:
+    def comes(self, data: bytes) -> None:
         if self.other is not None:
             self._guard.came(len(data))
-        super().data_received(data)
+        super().comes(data)
 
     def is_early(self) -> None:
         if b"\n" in self.early or len(self.early) > MOST_LINE:

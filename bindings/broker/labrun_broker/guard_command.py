@@ -20,11 +20,12 @@ import socket
 import ssl
 import time
 import tomllib
-from typing import TYPE_CHECKING, Any, Optional
+from typing import TYPE_CHECKING, Any, Callable, Optional
+
+from labrun.picks import near
 
 from .bay import BadAddress, is_here
-from .quick import DEFAULT
-from .sockets import family_of, parsed
+from .sockets import family_of, parsed, tls_of
 from .texts import plain, seconds
 from .words import add_client, lab_of, say
 
@@ -85,7 +86,7 @@ def read_table(path: str, args: argparse.Namespace) -> dict[str, dict[str, Any]]
 
 
 def faults_of(name: str, row: dict[str, Any]) -> list[str]:
-    faults = [f"{name}.{key}: there is no such key; there are {', '.join(KEYS)}" for key in row if key not in KEYS]
+    faults = [f"{name}.{key}: there is no such key; there are {', '.join(KEYS)}{near(key, KEYS)}" for key in row if key not in KEYS]
     for key in ("listen", "instrument"):
         try:
             host_and_port(str(row.get(key, "")))
@@ -106,12 +107,7 @@ def context_of(args: argparse.Namespace) -> Optional[ssl.SSLContext]:
         raise BadAddress("a certificate and its key belong together: --tls-certificate FILE --tls-key FILE")
     if args.tls_certificate is None:
         return None
-    context = ssl.SSLContext(ssl.PROTOCOL_TLS_SERVER)
-    try:
-        context.load_cert_chain(args.tls_certificate, args.tls_key)
-    except ssl.SSLError as fault:
-        raise BadAddress(f"{args.tls_certificate} and {args.tls_key} are no certificate and its key: {fault.reason or fault}") from None
-    return context
+    return tls_of(args.tls_certificate, args.tls_key)
 
 
 def check(table: dict[str, dict[str, Any]], args: argparse.Namespace) -> None:
@@ -140,7 +136,7 @@ async def guards(table: dict[str, dict[str, Any]], args: argparse.Namespace, lab
     from .guard import Guard, Way
     from .words import tell_systemd
 
-    where, its = Where(args), dict[str, Guard]()
+    where, its = Where(lambda: lab._brokers.address), dict[str, Guard]()
     for name, row in table.items():
         host, port = host_and_port(row["instrument"])
         its[name] = Guard(Way(name, host, port, row["by_host"], row["settle"], row["clear"]), where.addresses)
@@ -194,6 +190,8 @@ async def hears(its: dict[str, Guard], lab: Lab) -> None:
     seldom = Seldom(SELDOM)
     while True:
         try:
+            # (of several the one that leads now)
+            await lab._brokers.looks()
             async for told in lab._methods["Guard"](pb.GuardWish(instruments=list(its)), metadata=lab._metadata):
                 for it in told.holders:
                     guard, who = its[it.instrument], f"{it.station} ({it.by})" if it.by else it.station
@@ -209,22 +207,28 @@ async def hears(its: dict[str, Guard], lab: Lab) -> None:
 
 
 class Where:
-    """The addresses of the broker's machine, from which a client comes that is there; none if that is this machine."""
+    """The addresses of the machine whose broker is asked now, from which a client comes that is there; none if that is this machine."""
 
-    def __init__(self, args: argparse.Namespace) -> None:
-        at = parsed(args.broker or os.environ.get("LABRUN_BROKER") or DEFAULT)
-        self._host = "" if isinstance(at, str) or is_here(at[0]) else at[0]
+    def __init__(self, broker: Callable[[], str]) -> None:
+        self._broker, self._of = broker, ""
         self._found, self._until = frozenset[str](), 0.0
 
     def addresses(self) -> frozenset[str]:
-        if self._host and time.monotonic() > self._until:
-            self._until = time.monotonic() + SELDOM
-            try:
-                found = frozenset(str(it[4][0]) for it in socket.getaddrinfo(self._host, None))
-            except OSError:
-                found = frozenset({self._host})
-            self._found = frozenset() if any(is_of_this_machine(it) for it in found) else found
+        if (broker := self._broker()) != self._of or time.monotonic() > self._until:
+            self._of, self._until = broker, time.monotonic() + SELDOM
+            self._found = _of_machine(broker)
         return self._found
+
+
+def _of_machine(broker: str) -> frozenset[str]:
+    at = parsed(broker)
+    if isinstance(at, str) or is_here(at[0]):
+        return frozenset()
+    try:
+        found = frozenset(str(it[4][0]) for it in socket.getaddrinfo(at[0], None))
+    except OSError:
+        found = frozenset({at[0]})
+    return frozenset() if any(is_of_this_machine(it) for it in found) else found
 
 
 def is_of_this_machine(address: str) -> bool:

@@ -8,12 +8,13 @@ from typing import TYPE_CHECKING, Any, AsyncIterator, Optional
 from urllib.parse import unquote
 
 from labrun import JournalError
+from labrun.picks import near
 
 from . import broker_pb2 as pb
 from .wishes import digits_of
 
 if TYPE_CHECKING:
-    from .keeping import Keeping
+    from .bays import Kept
     from .standing import Session
 
 
@@ -37,21 +38,23 @@ def holder_of(instrument: str, session: Optional[Session]) -> Any:
     return told
 
 
-def holders_now(keeping: Keeping, names: tuple[str, ...]) -> dict[str, Any]:
+def holders_now(keeping: Kept, names: tuple[str, ...]) -> dict[str, Any]:
     """Of each instrument. (A session that holds, and isn't told so, may be another's after all, if its line doesn't reach the disk.)"""
-    of = {name: session for session in keeping.by_number.values() if session.holds for name in session.instruments}
+    of = {name: session for it in keeping.peers for session in it.by_number.values() if session.holds for name in session.instruments}
     return {name: holder_of(name, of.get(name)) for name in names}
 
 
-def why_not(keeping: Keeping, wish: Any) -> Optional[str]:
+def why_not(keeping: Kept, wish: Any) -> Optional[str]:
     """Why a guard can't be told."""
     if keeping.state is None:
         return "a guard wants a broker with --state: one that forgets who held can't say who came later"
     unknown = [name for name in wish.instruments if name not in keeping.bay.instruments]
-    return f"the bay has no instrument {', '.join(unknown)}: there are {', '.join(keeping.bay.instruments)}" if unknown else None
+    if not unknown:
+        return None
+    return f"the bay has no instrument {', '.join(unknown)}: there are {', '.join(keeping.bay.instruments)}{near(unknown[0], keeping.bay.instruments)}"
 
 
-async def holders(keeping: Keeping, names: tuple[str, ...]) -> AsyncIterator[Any]:
+async def holders(keeping: Kept, names: tuple[str, ...]) -> AsyncIterator[Any]:
     """Who holds them now, and whenever that has changed."""
     said = dict[str, Any]()
     changes = keeping.changes()

@@ -23,15 +23,20 @@ if TYPE_CHECKING:
 # for how long a client tries to reach a broker again that it waits for
 GRACE = 60.0
 PAUSE = 0.1  # between such tries
+MOMENT = 0.001  # what is left of a time limit that is over
 # so many pings in the time for which a session is held after one
 BEATS = 6
 MOST_FAILED = 10000  # characters that are told of work that failed
 
 
+class Entered(labrun.LabrunError):
+    """Somebody is in the session already, and stays there."""
+
+
 class Held:
     """A session, as the broker keeps it. `with` it, or call `acquire` and `release`. `instruments`, `station`, `number` and
-    `token` are known once it holds. Its token is larger than that of each session that came to hold before it: so a server before an
-    instrument can refuse whoever comes with a smaller one than it has seen."""
+    `token` are known once it holds. Its token is larger than that of each session that was told before that it holds: so a server
+    before an instrument can refuse whoever comes with a smaller one than it has seen."""
 
     def __init__(self, lab: Lab, wish: Any, timeout: Optional[float], waits: Optional[Callable[[str], None]]) -> None:
         self.lab, self.timeout = lab, timeout
@@ -75,6 +80,8 @@ class Held:
         """Blocks until the session holds all its instruments."""
         try:
             self.lab._run(self._acquire())
+        except Entered:
+            raise
         except BaseException:
             if self.state == "held":
                 self.release()
@@ -84,6 +91,8 @@ class Held:
         """As `acquire`, for a task of asyncio."""
         try:
             await self.lab._run_async(self._acquire())
+        except Entered:
+            raise
         except BaseException:
             if self.state == "held":
                 await self.release_async()
@@ -144,7 +153,7 @@ class Held:
     async def _acquire(self) -> None:
         self.lab._may_go_on()
         if self.state in ("waiting", "held"):
-            raise labrun.LabrunError(f"the session is {self.state} already")
+            raise Entered(f"the session is {self.state} already: it is entered once")
         loop = asyncio.get_running_loop()
         self._wish.ticket, self._ticket = self._ticket or secrets.token_urlsafe(), ""
         self._taken, self.state = None, "waiting"
@@ -189,7 +198,8 @@ class Held:
                 await stream.opens()
                 lab._was_there, self._lost_at = True, None
             if until is not None:
-                self._wish.timeout = max(0.0, until - loop.time())
+                # (0 says that it never wanted to wait)
+                self._wish.timeout = max(MOMENT if self.timeout else 0.0, until - loop.time())
             sent = clock()
             kind, told = await stream.asks(wish=self._wish)
             if kind == "held" and told.HasField("lease") and clock() > sent + told.lease / BEATS:
@@ -259,7 +269,7 @@ class Held:
         if self.state != "held" or clock() < self._until:
             return
         what = ", ".join(self.instruments)
-        fault = TakenAway(f"{self.station}: the broker hasn't answered for {self._lease or 0:g} s, so others may hold these soon: {what}")
+        fault = TakenAway(f"{self.station}: nothing was heard from the broker for {self._lease or 0:g} s, so others may hold these soon: {what}")
         stream, returns = self._stream, self._returns
         if returns is None and stream is not None:
             self._is_taken(stream, fault)

@@ -7,6 +7,7 @@ from __future__ import annotations
 
 import asyncio
 import json
+from dataclasses import replace
 from pathlib import Path
 from typing import Any, Awaitable, Callable, Sequence
 from urllib.parse import urlsplit
@@ -14,25 +15,28 @@ from urllib.parse import urlsplit
 from labrun import LabrunError
 
 from . import http_words
+from .bays import Kept
 from .door import Door
-from .entrance import DEAR, Entrance, NotLetIn
+from .entrance import DEAR, UNKNOWN, Caller, Entrance, NotLetIn
 from .errors import BadWish
-from .keeping import Keeping
 from .serving import HEADERS, IS_TCP, LOG, SLOW, Served, is_asked_here, served, web
 from .sockets import parsed
-from .visits import HOLDING, OVER, WAITING, Visit, Visits
+from .users import user_of
+from .visits import OVER, WAITING, Visit, Visits
 from .wishes import Ended
 
 Handler = Callable[[web.Request], Awaitable[web.StreamResponse]]
 CHANGES, BEAT = 1.0, 5.0  # seconds between two looks for whom one waits; and after which it is told again in any case
-UNKNOWN, FORBIDDEN, TOO_MANY = 401, 403, 429
+FORBIDDEN, TOO_MANY = 403, 429
+CALLER, QUERY = "caller", "query"
+LOOKS = ("/v1/status", "/v1/openapi.json")
 ALLOWED = {"Access-Control-Allow-Methods": "GET, POST, DELETE", "Access-Control-Allow-Headers": "authorization, content-type", "Access-Control-Max-Age": "600"}
 
 
 class HttpDoor:
     """All routes. `origins` are those of pages that may ask, besides this server's own."""
 
-    def __init__(self, keeping: Keeping, entrance: Entrance, origins: Sequence[str] = ()) -> None:
+    def __init__(self, keeping: Kept, entrance: Entrance, origins: Sequence[str] = ()) -> None:
         self.keeping, self.entrance, self.origins = keeping, entrance, origins
         self.visits = Visits(keeping, entrance)
         self._openapi = Path(__file__).with_name("openapi.json").read_bytes()
@@ -40,15 +44,15 @@ class HttpDoor:
     def app(self) -> web.Application:
         app = web.Application(client_max_size=http_words.MOST_BYTES, middlewares=[self._answers])
         one = "/v1/sessions/{ticket}"
-        app.router.add_get("/v1/openapi.json", self._describes, allow_head=False)
-        app.router.add_get("/v1/status", self._status, allow_head=False)
-        app.router.add_post("/v1/release", self._release)
-        app.router.add_post("/v1/sessions", self._asks)
-        app.router.add_get(one, self._waits, allow_head=False)
-        app.router.add_delete(one, self._lets_go)
-        app.router.add_get(f"{one}/events", self._events, allow_head=False)
-        app.router.add_post(f"{one}/ping", self._pings)
-        app.router.add_post(f"{one}/notes", self._notes)
+        app.router.add_get("/v1/openapi.json", taking(self._describes), allow_head=False)
+        app.router.add_get("/v1/status", taking(self._status), allow_head=False)
+        app.router.add_post("/v1/release", taking(self._release))
+        app.router.add_post("/v1/sessions", taking(self._asks, "wait"))
+        app.router.add_get(one, taking(self._waits, "wait", "while"), allow_head=False)
+        app.router.add_delete(one, taking(self._lets_go, "failed"))
+        app.router.add_get(f"{one}/events", taking(self._events), allow_head=False)
+        app.router.add_post(f"{one}/ping", taking(self._pings))
+        app.router.add_post(f"{one}/notes", taking(self._notes))
         app.on_response_prepare.append(self._adds_heads)
         app.on_shutdown.append(self._ends)
         return app
@@ -64,8 +68,9 @@ class HttpDoor:
             self._lets_in_page(request)
             if request.method == "OPTIONS" and "Access-Control-Request-Method" in request.headers:
                 return web.Response(status=204, headers=ALLOWED)
-            self._lets_in(request)
-            return await handler(request)
+            request[CALLER] = self._lets_in(request)
+            with self.entrance.present(request[CALLER]):
+                return await handler(request)
         except LabrunError as fault:
             status, told = http_words.told(fault)
         except web.HTTPException as fault:
@@ -80,16 +85,20 @@ class HttpDoor:
         origin = request.headers.get("Origin")
         if origin is not None and origin not in self.origins and urlsplit(origin).netloc != request.headers.get("Host", ""):
             raise NotLetIn(FORBIDDEN, f"a page of {origin} may not ask here: serve --http-origin {origin} lets it")
-        if request.app[IS_TCP] and self.entrance.token is None and not is_asked_here(request):
+        if request.app[IS_TCP] and not self.entrance.asks_for_token and not is_asked_here(request):
             raise NotLetIn(FORBIDDEN, "without a token it is asked for by its own address only, as 127.0.0.1")
 
-    def _lets_in(self, request: web.Request) -> None:
-        peer = request.remote or "unix:"
-        why = self.entrance.is_unknown(request.headers.get("Authorization", "")) if request.app[IS_TCP] else None
-        status = UNKNOWN if why is not None else TOO_MANY
-        if (why := why or self.entrance.is_too_fast(peer, 1 if request.path.startswith("/v1/sessions") else DEAR)) is not None:
-            self.entrance.tells(f"{peer} (HTTP)", why)
-            raise NotLetIn(status, why)
+    def _lets_in(self, request: web.Request) -> Caller:
+        peer, uid = request.remote or "unix:", None if request.transport is None else user_of(request.transport.get_extra_info("socket"))
+        try:
+            given = request.headers.get("Authorization", "")
+            caller = self.entrance.caller(given, not request.app[IS_TCP], uid, request.path in LOOKS, by_http=True)
+            if (why := self.entrance.is_too_fast(peer, 1 if request.path.startswith("/v1/sessions") else DEAR)) is not None:
+                raise NotLetIn(TOO_MANY, why)
+        except NotLetIn as fault:
+            self.entrance.tells(f"{peer} (HTTP)", str(fault))
+            raise
+        return caller
 
     async def _adds_heads(self, request: web.Request, response: web.StreamResponse) -> None:
         response.headers.update(HEADERS)
@@ -119,23 +128,22 @@ class HttpDoor:
 
     async def _release(self, request: web.Request) -> web.Response:
         given = http_words.read(await self._body(request), http_words.RELEASE, "station")
-        by = given.get("by", "")[: self.keeping.bay.limits.name] or "an operator"
-        return answer({"instruments": list(await self.keeping.release(given["station"], by, given.get("session", 0)))})
+        person = request[CALLER].person
+        by = given.get("by", "")[: self.keeping.bay.limits.name] or ("" if person else "an operator")
+        return answer({"instruments": list(await self.keeping.release(given["station"], by, given.get("session", 0), person, given.get("bay", "")))})
 
     # ---- sessions
 
     async def _asks(self, request: web.Request) -> web.Response:
-        span = wait_of(request)
-        visit = await self.visits.asks(http_words.wish_of_body(await self._body(request)))
+        span, caller = request[QUERY].get("wait", 0.0), request[CALLER]
+        visit = await self.visits.asks(replace(http_words.wish_of_body(await self._body(request)), person=caller.person), caller)
         visit.host = request.remote or "here"
         with visit.asking(lambda: is_there(request)):
             await visit.outlasts(WAITING, span, lambda: is_there(request))
         return shown(visit)
 
     async def _waits(self, request: web.Request) -> web.Response:
-        span, state = wait_of(request), request.query.get("while", WAITING)
-        if state not in (WAITING, HOLDING):
-            raise BadWish(f"while: {WAITING} or {HOLDING} is wanted")
+        span, state = request[QUERY].get("wait", 0.0), request[QUERY].get("while", WAITING)
         visit = await self._visit(request)
         with visit.asking(lambda: is_there(request)):
             await visit.outlasts(state, span, lambda: is_there(request))
@@ -155,9 +163,7 @@ class HttpDoor:
 
     async def _lets_go(self, request: web.Request) -> web.Response:
         """(Who asks for it twice, because no answer came, is told that it is done.)"""
-        failed = request.query.get("failed")
-        if failed is not None:
-            http_words.text("failed", failed)
+        failed = request[QUERY].get("failed")
         try:
             visit = await self._visit(request)
             with visit.asking():
@@ -168,7 +174,7 @@ class HttpDoor:
         return answer({"state": OVER})
 
     async def _visit(self, request: web.Request) -> Visit:
-        visit = await self.visits.of(http_words.text("the ticket", request.match_info["ticket"]))
+        visit = await self.visits.of(http_words.text("the ticket", request.match_info["ticket"]), request[CALLER])
         visit.host = request.remote or "here"
         return visit
 
@@ -199,8 +205,14 @@ class HttpDoor:
             await visit.outlasts(state, CHANGES, lambda: is_there(request))
 
 
-def wait_of(request: web.Request) -> float:
-    return http_words.seconds("wait", request.query.get("wait", "0"))
+def taking(handler: Handler, *words: str) -> Handler:
+    """For a request that has these words behind its `?`, and no others."""
+
+    async def looks(request: web.Request) -> web.StreamResponse:
+        request[QUERY] = http_words.query(request.query.items(), words)
+        return await handler(request)
+
+    return looks
 
 
 def is_there(request: web.Request) -> bool:
@@ -217,7 +229,7 @@ def answer(told: Any, status: int = 200) -> web.Response:
     return web.json_response(told, status=status)
 
 
-async def serve_http(keeping: Keeping, door: Door, entrance: Entrance, origins: Sequence[str] = ()) -> list[Served]:
+async def serve_http(keeping: Kept, door: Door, entrance: Entrance, origins: Sequence[str] = ()) -> list[Served]:
     """Listens at each address of a door. BadAddress and OSError say why it can't."""
     its, found = HttpDoor(keeping, entrance, origins), list[Served]()
     try:

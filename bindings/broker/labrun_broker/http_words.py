@@ -5,12 +5,14 @@ from __future__ import annotations
 import json
 import math
 import secrets
-from typing import Any, Callable
+from typing import Any, Callable, Iterable, Sequence
 
 from labrun import LabrunError
+from labrun.picks import near
 
 from .entrance import NotLetIn
 from .errors import KINDS, BadWish
+from .visits import HOLDING, WAITING
 from .wishes import Ended, Wish
 
 MOST_BYTES = 1 << 16  # of a body
@@ -18,6 +20,7 @@ STATUSES = {
     "BadWish": 400,
     "NoInstrument": 400,
     "MayNotUse": 403,
+    "NotAllowed": 403,
     "OutOfOrder": 409,
     "TimeoutError": 409,
     "NotHeld": 409,
@@ -88,7 +91,7 @@ def whole(key: str, given: Any) -> int:
 
 WISH: Fields = {"instruments": names, "any_of": choices, "station": text, "by": text, "timeout": number, "limit": number, "ticket": text}
 NOTE: Fields = {"text": text}
-RELEASE: Fields = {"station": text, "session": whole, "by": text}
+RELEASE: Fields = {"station": text, "session": whole, "by": text, "bay": text}
 
 
 def read(body: bytes, fields: Fields, *needed: str) -> dict[str, Any]:
@@ -101,7 +104,7 @@ def read(body: bytes, fields: Fields, *needed: str) -> dict[str, Any]:
         raise BadWish(f"the body is no object: {{..}} is wanted, with {', '.join(fields)}")
     for key in given:
         if key not in fields:
-            raise BadWish(f"there is no field {key[:64]!r}: there are {', '.join(fields)}")
+            raise BadWish(f"there is no field {key[:64]!r}: there are {', '.join(fields)}{near(key[:64], fields)}")
     found = {key: fields[key](key, value) for key, value in given.items() if value is not None}
     for key in needed:
         if key not in found:
@@ -120,12 +123,38 @@ def wish_of_body(body: bytes) -> Wish:
     return Wish(**given, pings=True)
 
 
+# ---- what stands behind the `?`, as ?wait=30
+
+
 def seconds(key: str, given: str) -> float:
-    """Of a query, as ?wait=30."""
     try:
         found = float(given)
     except ValueError:
         found = math.nan
     if not 0 <= found < math.inf:
-        raise BadWish(f"{key}: a number of seconds is wanted")
+        raise BadWish(f"{key}: a number of seconds is wanted, as {key}=30")
+    return found
+
+
+def state(key: str, given: str) -> str:
+    if given not in (WAITING, HOLDING):
+        raise BadWish(f"{key}: {WAITING} or {HOLDING} is wanted")
+    return given
+
+
+QUERY: Fields = {"wait": seconds, "while": state, "failed": text}
+
+
+def query(given: Iterable[tuple[str, str]], words: Sequence[str]) -> dict[str, Any]:
+    """Of a request that takes these words. BadWish: there is another one, or it isn't as it is to be."""
+    found = dict[str, Any]()
+    try:
+        for key, value in given:
+            if key not in words:
+                raise BadWish(f"there is no word {key[:64]!r} behind `?` here{near(key[:64], words)}")
+            if key in found:
+                raise BadWish(f"{key} is there twice")
+            found[key] = QUERY[key](key, value)
+    except BadWish as fault:
+        raise BadWish(f"{fault}; words that this request takes behind `?`: {', '.join(words) or 'none'}") from None
     return found

@@ -1,7 +1,8 @@
 """The lines of a bay's journal, for what the machine doesn't say of them: which sessions are over and how, and what was noted.
 
-The broker's notes begin with a word: `by STATION WHO`, `note TEXT` and `more TEXT` of a client, `failed TEXT` before it lets go, and `taken
-WHO` before somebody takes it away. A text that is long goes on in lines `more TEXT`."""
+The broker's notes begin with a word: `by STATION WHO`, `person NAME`, `note TEXT` and `more TEXT` of a client, `failed TEXT` before it lets
+go, `taken WHO` before somebody takes it away, `limit MILLISECONDS` if the broker sees to that, and `over HOW` if its instruments are made
+safe. A text that is long goes on in lines `more TEXT`."""
 
 from __future__ import annotations
 
@@ -18,7 +19,7 @@ ENDS = {"let_go": "let_go", "left": "gave_up", "lapsed": "gave_up", "stopped": "
 @dataclass
 class Left:
     """A session by its lines: when it asked, since when it held, and until when, in milliseconds; `how` it ended is nothing while it isn't
-    over. Its `token` is larger than that of each that came to hold before it."""
+    over. Its `token` is larger than that of each that was told before that it holds."""
 
     number: int
     kind: int
@@ -35,6 +36,9 @@ class Left:
     how: str = ""
     until: Optional[int] = None
     limit: Optional[int] = None
+    own_limit: Optional[int] = None
+    over: str = ""
+    person: str = ""
     _word: str = ""
 
     def take(self, word: str, text: str) -> None:
@@ -42,12 +46,18 @@ class Left:
         before, self._word = self._word, word
         if word == "by":
             self.station, _, self.by = text.partition(" ")
+        elif word == "person":
+            self.person = text
         elif word == "note":
             self.notes.append(text)
         elif word == "failed":
             self.failed = text
         elif word == "taken":
             self.taken = text
+        elif word == "limit":
+            self.own_limit = int(text)
+        elif word == "over":
+            self.over = text
         elif word == "more":
             self._word = before
             self._goes_on(text)
@@ -61,9 +71,14 @@ class Left:
             self.by += text
 
     @property
+    def end(self) -> str:
+        """How it ended for its client; for the bay it may go on to hold, until its instruments are made safe."""
+        return self.how or self.over
+
+    @property
     def what(self) -> str:
         """The word of the records for its end."""
-        return "failed" if self.failed is not None and self.how == "let_go" else ENDS.get(self.how, "taken")
+        return "failed" if self.failed is not None and self.end == "let_go" else ENDS.get(self.end, "taken")
 
 
 def sessions_of(journal: bytes) -> dict[int, Left]:

@@ -8,13 +8,13 @@ from __future__ import annotations
 import asyncio
 import math
 import time
-from typing import Any, AsyncIterator, Callable, Optional
+from typing import TYPE_CHECKING, Any, AsyncIterator, Callable, Optional, Sequence
 
 import labrun
 from labrun import LabrunError, NotHeld
-from labrun.machine import GRACE, HOLDS, LAPSED, LIMIT, NEVER, NOT_WRITTEN, WAS_STOPPED, Machine, Refusal, Told
+from labrun.machine import GRACE, HOLDS, LAPSED, NEVER, NOT_WRITTEN, TAKEN, WAS_STOPPED, Machine, Refusal, Told
 
-from . import lasting, leases, outage, turning, wishes
+from . import lasting, leases, making_safe, outage, people, rights, turning, wishes
 from .bay import Bay
 from .errors import BadWish
 from .errors import TimeoutError as TimedOut
@@ -24,12 +24,17 @@ from .opening import Opened
 from .records import News, Record
 from .settling import Settling, settled
 from .shell import Shell
-from .standing import Owner, Session, Standings, free_label
+from .standing import ENDING, Owner, Session, Standings, free_label
 from .taking_up import carries, takes_up
+from .together import no_bay
 from .wishes import Ended, Ends, Wish
+
+if TYPE_CHECKING:
+    from .entrance import Entrance
 
 UNTOLD = "the session was taken away before its client was told that it holds"
 ANOTHER = "another connection came for the session"
+NO_WAIT = "was refused, because it doesn't wait (-n, or a timeout of 0)"
 
 
 class Keeping:
@@ -38,7 +43,9 @@ class Keeping:
     def __init__(
         self, bay: Bay, state: Optional[str] = None, grace: float = 60.0, syncs: bool = True, opens: Callable[[str, bool], State] = Folder
     ) -> None:
-        self.bay, self.grace, self.state = bay, grace if bay.gone == "release" else math.inf, state
+        # `grace` is infinite if nobody is released; the other one is of those that are
+        self.bay, self.grace, self.state = bay, grace if bay.its_gone.may_release else math.inf, state
+        self.its_grace, self.keeps_all = grace, False
         self._news = News()
         self.history = self._news.history
         self.refusals = self.sessions = self.opened_at = 0
@@ -53,9 +60,15 @@ class Keeping:
         self._by_key: dict[tuple[int, int], Session] = {}
         self._ends = Ends()
         self._is_closed = False
-        # one after another (applying.py)
+        # one after another (applying.py), and who looks after the doors meanwhile
         self.changing = asyncio.Lock()
+        self.entrances: list[Entrance] = []
         self.tasks = set[asyncio.Future[None]]()
+        # all bays of the lab, whose numbers and guests' names are those of one sequence (bays.py)
+        self.peers: tuple[Keeping, ...] = (self,)
+        self._next = 1
+        # commands that make something safe, and sessions whose limit is over (lasting.py)
+        self.safing, self.late = set[asyncio.Future[None]](), list[Session]()
 
     # ---- from the start to the end
 
@@ -63,6 +76,9 @@ class Keeping:
         """Opens the bay, or goes on where the state says. LabrunError and OSError say why it can't."""
         it = self._opened = Opened(self.bay, self.state, self.grace, self._syncs, self._opens)
         self.grace, self.places, self.complaints = it.grace, it.places, it.complaints
+        # (somebody holds who was told so)
+        self.keeps_all = math.isinf(it.grace) and self.bay.its_gone.may_release
+        self.its_grace = self.its_grace if math.isinf(it.grace) else it.grace
         self._news.file = None if it.state is None else it.state.records
         store = None if it.state is None else it.state.store
         self._shell = Shell(it.machine, store, it.first, self._is_told, self._news.sync, self._says_of_the_disk)
@@ -84,9 +100,11 @@ class Keeping:
             lasting.stops(session)
         self._shell.machine.stop(self.now())
         self._shell.pump()
+        await making_safe.closes(self)
         self._record("closed")
         self._news.write()
         await self._shell.close()
+        self._news.write(is_all=True)
         if self._opened.state is not None:
             self._opened.state.close()
 
@@ -118,8 +136,12 @@ class Keeping:
             await self._shell.turns.may_go_on()
             if wish.comes_back or key in self._by_key:
                 await self.settling.leads()
+            if not wish.comes_back:
+                wish = await making_safe.is_over(self, key, wish)
             held = await self._session_of(key)
+            rights.check_ticket(self.bay, wish.person, held)
             if held is not None and held.holds:
+                wishes.check_asked_again(wish, held.instruments, self.bay)
                 return self._comes_back(held, wish, owner)
             if wish.comes_back:
                 raise self._ends.why(key)
@@ -141,10 +163,28 @@ class Keeping:
             raise Ended("TakenAway", UNTOLD)
         return session
 
+    def has(self, key: tuple[int, int]) -> bool:
+        """Whether a session has this ticket."""
+        return key in self._by_key
+
+    def had(self, key: tuple[int, int]) -> bool:
+        """Whether one had it, of which it is known how it ended."""
+        return key in self._ends
+
+    def told(self, key: tuple[int, int]) -> Optional[Session]:
+        """The session that has it, if its client was told that it holds."""
+        return session if (session := self._by_key.get(key)) is not None and session.holds else None
+
+    def leaves_line(self, key: tuple[int, int]) -> None:
+        """Whoever waits with this ticket asks for something else, and not here."""
+        if (session := self._by_key.get(key)) is not None:
+            self._is_another(session)
+
     async def _session_of(self, key: tuple[int, int]) -> Optional[Session]:
         """The session of this ticket. Who came back for it just now waits here."""
         while (session := self._by_key.get(key)) is not None:
-            span = session.back_at + leases.pause_of(self.grace) - asyncio.get_running_loop().time()
+            pause = leases.pause_of(math.inf if self.keeps(session) else self.its_grace)
+            span = session.back_at + pause - asyncio.get_running_loop().time()
             if span <= 0:
                 return session
             await asyncio.sleep(span)
@@ -154,20 +194,29 @@ class Keeping:
         if self._is_closed:
             raise labrun.Stopped("the broker ends")
         if before is not None:
-            # (its stream has ended, and that isn't seen here yet)
-            before.owner = None
-            self._leaves(before, Ended("TakenAway", ANOTHER))
-        name, told = wish.station or free_label(self.by_number.values()), asyncio.get_running_loop().create_future()
-        session = Session(0, name, self.places.kind(wish.station), key, told, since=self.now())
-        session.owner, session.by, session.limit = owner, wish.by or None, lasting.limit_of(self.bay, wish)
+            self._is_another(before)
+        name, told = wish.station or self.free_label(), asyncio.get_running_loop().create_future()
+        session = Session(0, name, self.places.kind(wish.station), key, told, since=self.now(), home=self)
+        session.owner, session.by, session.limit = owner, people.told(wish.person, wish.by) or None, lasting.limit_of(self.bay, wish)
+        session.person = wish.person
         self._asks_for(session, wish)
         return session
 
+    def _is_another(self, before: Session) -> None:
+        """Whoever waits has come once more, and that its stream has ended isn't seen here yet."""
+        before.owner = None
+        self._leaves(before, Ended("TakenAway", ANOTHER))
+
+    def free_label(self) -> str:
+        """The name of the next guest."""
+        return free_label(session for it in self.peers for session in it.by_number.values())
+
     def _asks_for(self, session: Session, wish: Wish) -> None:
-        number, sets = self._next, tuple(self.places.bits(choice) for choice in wish.choices)
-        self._next += 1
+        number, sets = max(it._next for it in self.peers), tuple(self.places.bits(choice) for choice in wish.choices)
+        self._next = number + 1
         deadline = NEVER if wish.timeout is None else session.since + wishes.milliseconds(wish.timeout)
-        limit = NEVER if session.limit is None else wishes.milliseconds(session.limit)
+        session.is_followed = making_safe.is_followed(self.bay, wish.names)
+        limit = NEVER if session.limit is None or session.is_followed else wishes.milliseconds(session.limit)
         try:
             self._shell.machine.ask(number, session.key, session.kind, sets, deadline, limit, self.now())
         except Refusal as it:
@@ -176,16 +225,18 @@ class Keeping:
         self.by_number[number] = self._by_key[session.key] = session
         self._record("asked", session)
         self._shell.pump()
+        lasting.looks(self)
 
     def _is_told(self, told: Told) -> None:
         """The machine says what became of an ask. (Of one that let go, or left, that is known here.)"""
         session = self.by_number.get(told.number)
-        if session is None:
+        if session is None or session.state == ENDING:
             return
         if told.what == HOLDS:
             self._holds(session, told)
         elif told.what == LAPSED:
-            why = f"session {session.number} of {session.name} was given up when its time was over: {Standings(self).why(session)}"
+            what = "was given up when its time was over" if session.wish.timeout else NO_WAIT
+            why = f"session {session.number} of {session.name} {what}: {Standings(self).why(session)}"
             self._fails(session, "gave_up", TimedOut(why))
         elif told.what == NOT_WRITTEN:
             self._fails(session, "failed", self._shell.why())
@@ -196,11 +247,13 @@ class Keeping:
 
     def _holds(self, session: Session, told: Told) -> None:
         session.instruments, session.token = session.chosen(told.needs), told.token
-        session.state = "holding"
+        session.state, session.is_kept = "holding", self.keeps(session)
         self.sessions += 1
-        self._notes(session, "by", f"{session.name} {session.by or ''}")
+        for word, text in session.about():
+            self._notes(session, word, text)
         self._record("held", session, ticket=wishes.digits_of(session.key) if session.wish.ticket else "", after=self._span(session))
         session.since = self.now()
+        lasting.watches(self, session)
         if not session.told.done():
             session.told.set_result(None)
         if session.owner is not None:
@@ -213,15 +266,15 @@ class Keeping:
             session.told.set_exception(fault)
 
     def _is_taken(self, session: Session, how: int) -> None:
-        what = f"by {session.taken_by or 'the broker'}" + (f", because its client was gone for {self.grace:g} s" if how == GRACE else lasting.why(session) if how == LIMIT else "")
+        what = f"by {session.taken_by or 'the broker'}{lasting.because(self, session, how)}"
         owner, held = session.owner, ", ".join(session.instruments)
-        self.says(f"session {session.number} of {session.name} was taken away {what}: {held}")
+        self.says(f"session {session.number} of {session.name} with {held} was taken away {what}")
         self._over(session, "taken", what)
         self._ends.add(session.key, what)
         if not session.told.done():
             session.told.set_exception(Ended("TakenAway", UNTOLD))
         elif owner is not None:
-            text = f"{session.name}: the session was taken away {what}" + ("" if how == GRACE else f": {held}")
+            text = f"{session.name}: the session{'' if how == GRACE else f' with {held}'} was taken away {what}"
             self.settling.tells(owner.taken, text)
 
     def _leaves(self, session: Session, fault: BaseException) -> None:
@@ -258,11 +311,14 @@ class Keeping:
         if failed is not None:
             self._notes(session, "failed", failed)
         try:
-            self._shell.machine.let_go(session.number, self.now())
+            if not session.is_followed:
+                self._shell.machine.let_go(session.number, self.now())
         except Refusal:
             raise NotHeld("the session is over") from None
         self._over(session, "let_go" if failed is None else "failed", failed or "")
         self._ends.add(session.key)
+        if session.is_followed:
+            making_safe.begins(self, session, making_safe.LET_GO)
         self._shell.pump()
         self._news.write()
         await self._shell.turns.stands()
@@ -289,30 +345,65 @@ class Keeping:
         return position
 
     @settled
-    async def release(self, station: str, by: str, number: int = 0) -> tuple[str, ...]:
-        """Ends the session that a station holds, for its owner; its instruments. With its number, no other session of the station."""
+    async def release(self, station: str, by: str, number: int = 0, person: str = "", bay: str = "") -> tuple[str, ...]:
+        """Ends the session that a station holds, for its owner; its instruments. With its number, no other session of the station. Where the bay
+        names people, its own person may, and operators."""
+        self.in_bay(bay)
         await self._shell.turns.may_go_on()
         if station not in self.bay.jobs and all(it.name != station for it in self.by_number.values()):
-            raise BadWish(f"{station} is no station of this bay: there are {', '.join(self.bay.jobs)}")
-        session, needs = next(((it, bits) for it, bits, _ in Standings(self).holders if it.name == station), (None, 0))
-        if session is None:
-            raise NotHeld(f"{station} holds nothing")
+            raise wishes.no_station(station, self.bay)
+        standings = Standings(self)
+        session, needs = next(((it, bits) for it, bits, _ in standings.holders if it.name == station), (None, 0))
+        if session is None or session.state == ENDING:
+            raise NotHeld(f"{station} holds nothing{standings.instead(station) if session is None else ': what it had is being made safe'}")
         if number and session.number != number:
-            raise NotHeld(f"{station} is in session {session.number}, and not in {number} any more")
-        instruments, session.taken_by = session.chosen(needs), by
+            raise NotHeld(f"{station} is in session {session.number} now, and not in {number}")
+        rights.check_release(self.bay, person, session)
+        instruments, session.taken_by = session.chosen(needs), people.told(person, by)
         if session.holds:
             self._notes(session, "taken", by)
-        self._shell.machine.take_away(session.number, self.now())
-        self._shell.pump()
+        if session.holds and session.is_followed:
+            making_safe.takes(self, session, TAKEN)
+        else:
+            self._shell.machine.take_away(session.number, self.now())
+            self._shell.pump()
         self._news.write()
         await self._shell.durable(takes_all=True)
         return instruments
 
     # ---- clients that are gone
 
+    def keeps(self, session: Session) -> bool:
+        """Whether it is kept when its client is gone: that counts from when it comes to hold on."""
+        return self.keeps_all or self.bay.its_gone.keeps(self.places.station(session.kind), session.instruments)
+
     @property
     def lease(self) -> Optional[float]:
-        return leases.lease_of(self.grace)
+        """Of those that aren't kept; None: all are."""
+        return leases.lease_of(self.its_grace) if self.bay.its_gone.may_release and not self.keeps_all else None
+
+    def lease_of(self, session: Session) -> Optional[float]:
+        return None if session.is_kept else leases.lease_of(self.its_grace)
+
+    def grace_of(self, session: Session) -> float:
+        return self.its_grace
+
+    def for_whom(self, session: Session) -> tuple[list[dict[str, Any]], str, tuple[Any, ...]]:
+        """Whom one waits for (standing.py)."""
+        return Standings(self).for_whom(session)
+
+    # which bay has it, if any has; what has them all; and which is called so
+
+    def with_instrument(self, name: str) -> Keeping:
+        return self
+
+    def with_all(self, names: Sequence[str]) -> Keeping:
+        return self
+
+    def in_bay(self, name: str) -> Keeping:
+        if name not in ("", self.bay.name):
+            raise no_bay(name, (self.bay.name,))
+        return self
 
     def heard(self, session: Session, owner: Owner, says_so: bool = False) -> bool:
         """A word of a client came now. Whether the session is its own, and holds. `says_so`: that it is there, as it will again and
@@ -335,6 +426,7 @@ class Keeping:
         # (another connection may come before the broker has seen that the first one ended)
         was_gone, session.state, session.gone_at = session.state == "gone", "holding", None
         if was_gone:
+            session.stops_looking()
             self._record("back", session)
         self._shell.pump()
         return session.holds
@@ -351,16 +443,20 @@ class Keeping:
         if session.state == "gone":
             return
         session.state, session.gone_at = "gone", self.now()
-        self._shell.machine.gone(session.number, self.now())
+        # (of one that is kept the machine isn't told; and if it began without a grace, it has none)
+        if session.is_followed or math.isinf(self.grace):
+            making_safe.is_gone(self, session)
+        elif not session.is_kept:
+            self._shell.machine.gone(session.number, self.now())
         self._record("gone", session)
         self._shell.pump()
 
     def _looks_at(self, session: Session) -> None:
         """Whether the client has been silent for long, now or later."""
         session.timer = None
-        if session.heard_at is None or math.isinf(self.grace) or session.state != "holding":
+        if session.heard_at is None or session.is_kept or session.state != "holding":
             return
-        if (span := leases.patience_of(self.grace, session.heard_at, self.now())) > 0:
+        if (span := leases.patience_of(self.its_grace, session.heard_at, self.now())) > 0:
             session.timer = asyncio.get_running_loop().call_later(span, self._looks_at, session)
         else:
             self._is_gone(session)
@@ -370,6 +466,10 @@ class Keeping:
             raise self._ends.why(session.key)
         if session.owner is not None and session.owner is not owner:
             session.owner.taken(ANOTHER)
+        if wish.person and not session.person:
+            # (the bay names people only since then)
+            session.person, session.by = wish.person, people.told(wish.person, session.by or "")
+            self._notes(session, "person", session.person)
         session.stops_looking()
         session.owner, session.heard_at, session.back_at = owner, None, asyncio.get_running_loop().time()
         self.heard(session, owner, wish.pings)
@@ -384,7 +484,7 @@ class Keeping:
 
     def _record(self, what: str, session: Optional[Session] = None, text: str = "", its: tuple[str, ...] = (), **more: Any) -> None:
         name, number, by = (None, None, None) if session is None else (session.name, session.number, session.by)
-        its = its if session is None else session.instruments
+        its = its if session is None else its or session.instruments
         about = {"station": name, "session": number, "instruments": list(its), "by": by, "text": text}
         self._news.add({"t": round(time.time(), 6), "what": what, **about}, **more)
 
@@ -399,6 +499,16 @@ class Keeping:
     def status(self) -> dict[str, Any]:
         leads, stands_by = ("", ()) if self._opened.state is None else self._opened.state.brokers()
         return {**Standings(self).status(), "leads": leads, "stands_by": list(stands_by)}
+
+    @property
+    def overtakes(self) -> int:
+        """Once so many were let in before somebody who waits, nobody is who came later."""
+        return self._opened.overtakes
+
+    @property
+    def kept_where(self) -> str:
+        """Where what is told has to be before: on the disk, or in etcd."""
+        return self._shell.where
 
     def disk_fault(self) -> tuple[str, Optional[int]]:
         """What is wrong with the disk, mostly nothing, and since when."""

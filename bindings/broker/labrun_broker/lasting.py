@@ -1,11 +1,15 @@
 """For how long a session may hold while others wait for what it has. Whether it is taken away, and when, is for the bay's machine to say; here
-stands what its limit is, and its client is warned before."""
+stands what its limit is, and its client is warned before. (Of a session whose instruments are made safe afterwards it is said here.)"""
 
 from __future__ import annotations
 
 import asyncio
+from collections import Counter
 from typing import TYPE_CHECKING, Optional
 
+from labrun.machine import GRACE, HOLDS, LIMIT, WAITS
+
+from . import making_safe
 from .bay import Bay
 from .texts import span
 
@@ -50,8 +54,42 @@ def _warns(keeping: Keeping, session: Session) -> None:
         session.owner.warned(f"{session.name} may hold {what} for {whole}, which is over in {span(left, 1)}: then whoever waits for it gets it", left)
 
 
-def why(session: Session) -> str:
-    return "" if session.limit is None else f", because it held for longer than its limit of {_span(session.limit)}, and somebody waits for what it had"
+def because(keeping: Keeping, session: Session, how: int) -> str:
+    """Why it was taken away, if nobody did."""
+    if how == GRACE:
+        return f", because its client was gone for {keeping.its_grace:g} s"
+    if how != LIMIT or session.limit is None:
+        return ""
+    return f", because it held for longer than its limit of {_span(session.limit)}, and somebody waits for what it had"
+
+
+# ---- of sessions that are made safe afterwards: the machine would give what one had to the next one at once
+
+
+def watches(keeping: Keeping, session: Session) -> None:
+    """It is taken away once its limit is over and somebody waits for what it has."""
+    if session.is_followed and session.limit is not None and session.holds and not keeping._is_closed:
+        left = session.limit - (keeping.now() - session.since) / 1000
+        if left > 0:
+            asyncio.get_running_loop().call_later(min(left, 1e6), watches, keeping, session)
+        else:
+            keeping.late.append(session)
+            looks(keeping)
+
+
+def looks(keeping: Keeping) -> None:
+    """After somebody has asked, or the limit of one is over."""
+    keeping.late = [it for it in keeping.late if it.holds]
+    if not keeping.late:
+        return
+    standings = keeping.machine.standings()
+    waiting = [keeping.by_number[it.number] for it in standings if it.what == WAITS and it.number in keeping.by_number]
+    holding, classes = Counter(it.kind for it in standings if it.what == HOLDS), keeping.places.classes(keeping.bay)
+    for session in list(keeping.late):
+        has, is_last = keeping.places.bits(session.instruments), holding[session.kind] >= classes[session.kind][1]
+        # (its place is among what it has, if there is no other)
+        if any(it.wanted & has or is_last and it.kind == session.kind for it in waiting):
+            making_safe.takes(keeping, session, LIMIT)
 
 
 def _span(seconds: float) -> str:

@@ -6,7 +6,11 @@ by now, changes nothing. That alone makes it safe; the clock only decides when i
 
     /labrun/BAY/leader          where the leader listens
     /labrun/BAY/bay             which file the bay has by the broker that led last
-    /labrun/BAY/standby/NAME    the same of one that stands by, as long as its lease"""
+    /labrun/BAY/standby/NAME    the same of one that stands by, as long as its lease
+    /labrun/BAY/applied         which bay was applied last, by whom, and when; /labrun/BAY/applied-file is its file
+
+Once a bay was applied (applying.py), whoever leads goes by that, whatever its own file says: so nobody comes in again, and no command is left
+out, because a file is older."""
 
 from __future__ import annotations
 
@@ -17,11 +21,14 @@ import threading
 from dataclasses import asdict, dataclass
 from typing import Any, Callable, Optional
 
-from .bay import Bay
+from labrun import JournalError
+
+from .bay import Bay, bay_of
 from .etcd import SHORT, Etcd, EtcdError, NoAnswer, behind, delete, get, is_of, put
 from .work import clock
 
 LOOKS, PAUSE = 0.25, 0.05  # seconds: so often one that stands by looks; after so long what wasn't answered is asked again
+LATE, TOLD_AGAIN = 3.0, 60.0  # seconds: for so long etcd has said nothing when one that stands by tells of it; and tells of it again
 MOST_STANDING_BY = 8  # that are told of
 
 
@@ -31,14 +38,36 @@ class Deposed(Exception):
 
 @dataclass(frozen=True)
 class Others:
-    """What there is of a bay at one moment: who leads, since which revision, and by which lease; the mark of the file that led last; and who
-    stands by, each with the mark of its file."""
+    """What there is of a bay at one moment: who leads, since which revision, and by which lease; the mark of the file that led last; who
+    stands by, each with the mark of its file; and the mark of the bay that was applied last, if one was."""
 
     leader: str
     fence: int
     lease: int
     led: str
     standing_by: dict[str, str]
+    applied: str
+
+
+@dataclass(frozen=True)
+class Applied:
+    """A bay that was applied: its mark, who did it, and when, in seconds of Unix."""
+
+    mark: str
+    by: str
+    at: float
+
+    def text(self) -> bytes:
+        return json.dumps(asdict(self)).encode()
+
+
+def applied_of(text: bytes) -> Applied:
+    """ValueError: it is none."""
+    try:
+        its = json.loads(text)
+        return Applied(str(its["mark"]), str(its["by"]), float(its["at"]))
+    except (KeyError, TypeError) as fault:
+        raise ValueError(f"{fault!r}") from None
 
 
 def file_mark(bay: Bay) -> str:
@@ -53,13 +82,17 @@ class Leading:
     def __init__(self, etcd: Etcd, bay: Bay, name: str, seconds: int, lost: Callable[[str], None]) -> None:
         self.etcd, self.name, self.seconds, self._lost = etcd, name, seconds, lost
         self.prefix, self._mark = f"/labrun/{bay.name}/".encode(), file_mark(bay)
-        self.key, self._bay, self._standby = (self.prefix + it for it in (b"leader", b"bay", b"standby/"))
+        self.key, self._bay, self._standby, self._applied = (self.prefix + it for it in (b"leader", b"bay", b"standby/", b"applied"))
         self._own = self._standby + name.encode()
         self.fence = self.lease = 0
         self.standing_by: tuple[str, ...] = ()
+        # of the bay that was applied last, as far as this broker has read or written it
+        self.applied_mark = ""
         # until when the lease is there for sure
         self._sure_until = 0.0
         self._said = ""
+        # when it is told that etcd doesn't answer: at once if nothing was told before
+        self._tells_at: Optional[float] = 0.0
         self._free_since: Optional[float] = None
         self._over, self._lock = threading.Event(), threading.Lock()
         self.is_lost = False
@@ -74,8 +107,9 @@ class Leading:
                 if self._may_lead(self._others(), says) and self._makes_key():
                     threading.Thread(target=self._keeps, name="lease", daemon=True).start()
                     return True
+                self._tells_at = None
             except NoAnswer as fault:
-                self._says(says, f"stands by: etcd doesn't answer ({fault})")
+                self._has_no_answer(says, fault)
             except EtcdError as fault:
                 # (the lease may be over, because etcd was slow: then it takes another)
                 self._sure_until = 0.0
@@ -88,6 +122,15 @@ class Leading:
         if text != self._said:
             self._said = text
             says(text)
+
+    def _has_no_answer(self, says: Callable[[str], None], fault: NoAnswer) -> None:
+        """One answer that is late is nothing to tell of, and what the members say of it is another thing each second."""
+        now = clock()
+        if self._tells_at is None:
+            self._tells_at = now + LATE
+        if now >= self._tells_at:
+            self._tells_at = now + TOLD_AGAIN
+            self._says(says, f"stands by: etcd doesn't answer ({fault})")
 
     def _stands_by(self) -> None:
         """It has a lease, and all see that it is there."""
@@ -102,20 +145,24 @@ class Leading:
         self.lease, self._sure_until = lease.ID, now + lease.TTL
 
     def _others(self, timeout: float = SHORT) -> Others:
-        told = self.etcd.txn([], [get(self.key), get(self._bay), get(self._standby, behind(self._standby))], timeout=timeout)
-        leads, led, stand_by = (list(it.response_range.kvs) for it in told.responses)
+        told = self.etcd.txn([], [get(self.key), get(self._bay), get(self._standby, behind(self._standby)), get(self._applied)], timeout=timeout)
+        leads, led, stand_by, applied = (list(it.response_range.kvs) for it in told.responses)
         rows = {it.key[len(self._standby) :].decode(errors="replace"): it.value.decode(errors="replace") for it in stand_by if it.key != self._own}
         last = led[0].value.decode(errors="replace") if led else ""
+        mark = _mark_in(applied[0].value) if applied else ""
         if not leads:
-            return Others("", 0, 0, last, rows)
-        return Others(leads[0].value.decode(errors="replace"), leads[0].create_revision, leads[0].lease, last, rows)
+            return Others("", 0, 0, last, rows, mark)
+        return Others(leads[0].value.decode(errors="replace"), leads[0].create_revision, leads[0].lease, last, rows, mark)
 
     def _may_lead(self, others: Others, says: Callable[[str], None]) -> bool:
-        """Nobody leads, and no broker that is there has the file of the one that led last while this one has another."""
-        is_other = others.led not in ("", self._mark)
+        """Nobody leads, and no broker that is there has the file of the one that led last while this one has another; or all go by a bay that
+        was applied."""
+        is_other = not others.applied and others.led not in ("", self._mark)
         if others.leader:
             self._free_since = None
             more = ", by another bay file than this one has: this one won't lead while a broker with that file is there" if is_other else ""
+            if others.applied not in ("", self._mark):
+                more = ", and this one's bay file isn't the bay that was applied last: it would go by that one, too"
             self._says(says, f"stands by: {others.leader} leads{more}")
             return False
         self._free_since = self._free_since or clock()
@@ -201,6 +248,22 @@ class Leading:
                     raise Deposed from None
                 self._over.wait(PAUSE)
 
+    def applied(self) -> Optional[tuple[Applied, Bay]]:
+        """The bay that was applied last, while this broker leads. JournalError: it can't be read."""
+        its = dict(self.reads(self._applied))
+        if b"" not in its:
+            return None
+        try:
+            it, bay = applied_of(its[b""]), bay_of(its[b"-file"].decode())
+        except (KeyError, ValueError) as fault:
+            raise JournalError(self._applied.decode(), f"the bay that was applied last can't be read: {fault}") from None
+        self.applied_mark = it.mark
+        return it, bay
+
+    def applies(self, text: str, it: Applied) -> list[Any]:
+        """How it is written that this bay was applied."""
+        return [put(self._applied, it.text()), put(self._applied + b"-file", text.encode())]
+
     def close(self) -> None:
         """The next one may lead at once."""
         if self._over.is_set():
@@ -210,3 +273,11 @@ class Leading:
             with contextlib.suppress(NoAnswer, EtcdError):
                 self.etcd.revoke(self.lease)
         self.etcd.close()
+
+
+def _mark_in(text: bytes) -> str:
+    """(If it can't be read, that is told by the one that leads.)"""
+    try:
+        return applied_of(text).mark
+    except ValueError:
+        return "unknown"

@@ -53,11 +53,11 @@ def missing(left: dict[int, Left], records: list[Record], places: Places) -> lis
     for it in _since_the_first(list(left.values()), held, len(records)):
         about = _About(it, places)
         # (one that is over, and never held by the records, gave up before its client was told)
-        if it.number not in held and not (it.how and it.number in over):
+        if it.number not in held and not (it.end and it.number in over):
             found.append({**about.record("held", it.since / 1000), "ticket": digits_of(it.owner)})
         found += [about.record("note", it.since / 1000, text) for text in it.notes if (it.number, text) not in noted]
-        if it.how and it.number not in over:
-            found.append(about.record(it.what, (it.until or 0) / 1000))
+        if it.end and it.number not in over:
+            found.append(about.record(it.what, (it.until or it.since) / 1000))
     return found
 
 

@@ -2,6 +2,7 @@
 
 from __future__ import annotations
 
+from collections import defaultdict
 from typing import Any, Iterator, Optional
 
 from .serving import HEADERS, Lacking, Served, runs_beside, serve, web
@@ -23,6 +24,11 @@ COUNTS = {
 STATES = {"holding": "Stations that hold instruments", "waiting": "Stations that wait", "gone": "Stations that hold, but whose client is gone"}
 
 
+def bays_of(keeping: Any) -> dict[str, Any]:
+    """Each of several bays by its name, which is a label then; one that is alone by none."""
+    return dict(getattr(keeping, "of", None) or {"": keeping})
+
+
 class Now(Collector):
     """What is now, when it is asked for."""
 
@@ -30,19 +36,28 @@ class Now(Collector):
         self._keeping = keeping
 
     def collect(self) -> Iterator[Metric]:
+        its = bays_of(self._keeping)
+        names = ["bay"] if any(its) else []
         for name, text in COUNTS.items():
-            yield CounterMetricFamily(f"labrun_{name}", text, value=getattr(self._keeping, name))
-        states = [it["state"] for it in self._keeping.status()["stations"]]
+            family = CounterMetricFamily(f"labrun_{name}", text, labels=names)
+            for bay, keeping in its.items():
+                family.add_metric([bay] if names else [], getattr(keeping, name))
+            yield family
+        states = {bay: [it["state"] for it in keeping.status()["stations"]] for bay, keeping in its.items()}
         for state, text in STATES.items():
-            yield GaugeMetricFamily(f"labrun_stations_{state}", text, value=states.count(state))
+            gauge = GaugeMetricFamily(f"labrun_stations_{state}", text, labels=names)
+            for bay, of in states.items():
+                gauge.add_metric([bay] if names else [], of.count(state))
+            yield gauge
 
 
 class Metrics:
     def __init__(self, keeping: Any) -> None:
-        self._keeping, self._past = keeping, Past()
+        self._keeping, self._pasts = keeping, defaultdict[str, Past](Past)
+        self._more = ["bay"] if any(bays_of(keeping)) else []
         self._registry = of = CollectorRegistry()
-        self._sessions = Counter("labrun_sessions", "Sessions that are over, by how they ended", ["station", "end"], registry=of)
-        self._waits = Histogram("labrun_wait_seconds", "How long sessions waited until they held", ["instrument"], buckets=BUCKETS, registry=of)
+        self._sessions = Counter("labrun_sessions", "Sessions that are over, by how they ended", [*self._more, "station", "end"], registry=of)
+        self._waits = Histogram("labrun_wait_seconds", "How long sessions waited until they held", [*self._more, "instrument"], buckets=BUCKETS, registry=of)
         of.register(Now(keeping))
 
     def add_to(self, app: web.Application) -> None:
@@ -52,21 +67,23 @@ class Metrics:
     async def _count(self) -> None:
         for record in self._keeping.recent():
             # (sessions that were held before the broker began: they end now)
-            self._past.take(record)
-        self._past.ended.clear()
+            self._pasts[record.get("bay", "")].take(record)
+        for past in self._pasts.values():
+            past.ended.clear()
         async for batch in batches(self._keeping):
             for record in batch:
                 self._take(record)
 
     def _take(self, record: Record) -> None:
-        over = self._past.take(record)
-        session = self._past.now.get(self._past.key_of(record))
+        past = self._pasts[record.get("bay", "")]
+        over = past.take(record)
+        session, bay = past.now.get(past.key_of(record)), [record.get("bay", "")] if self._more else []
         if over is not None:
-            self._sessions.labels(over.station, over.how).inc()
+            self._sessions.labels(*bay, over.station, over.how).inc()
         if record["what"] == "held" and session is not None and session.held == record["t"]:
             for it in session.instruments:
-                self._waits.labels(it).observe(session.waited(first(session.held, 0.0)))
-        self._past.ended.clear()
+                self._waits.labels(*bay, it).observe(session.waited(first(session.held, 0.0)))
+        past.ended.clear()
 
     async def _answer(self, _: web.Request) -> web.Response:
         return web.Response(body=generate_latest(self._registry), headers={**HEADERS, "Content-Type": CONTENT_TYPE_LATEST})

@@ -28,6 +28,7 @@ class Opened:
 
     def __init__(self, bay: Bay, state: Optional[str], grace: float, syncs: bool, opens: Callable[[str, bool], State]) -> None:
         self.bay, self.complaints = bay, list[str]()
+        self.overtakes = len(bay.jobs) if bay.overtakes is None else bay.overtakes
         self.state = None if state is None else opens(state, syncs)
         try:
             self._reads(None if math.isinf(grace) else milliseconds(grace))
@@ -47,10 +48,11 @@ class Opened:
             self.left = sessions_of(text)
         except ValueError:
             self.left = {}  # (the machine says which line isn't sound)
-        if any(not it.how for it in self.left.values()):
-            grace = self._keeps_longer(grace, before.grace)
+        holds = [it for it in self.left.values() if not it.end]
+        if holds:
+            grace = self._keeps_longer(grace, None if any(self._was_kept(it, before) for it in holds) else before.grace)
         self.grace = math.inf if grace is None else grace / 1000
-        self.places = replace(before, grace=grace).with_bay(self.bay)
+        self.places = replace(before, grace=grace).with_bay(self.bay).with_words(self.bay.its_gone, bool(holds))
         # (moments go on where the journal's end, wherever the clock on the wall is by now)
         self.first = max([int(time.time() * 1000), *(1 + it.since for it in self.left.values())])
         self.machine = self._machine(text, grace)
@@ -59,6 +61,13 @@ class Opened:
             # (before anybody is told of the grace; and a broker begins on a full disk, too)
             if self.places != before:
                 self.state.keeps(self.places)
+
+    def _was_kept(self, it: Left, before: Places) -> bool:
+        """Whether its client may have been told that it is kept, and by the bay it isn't any more."""
+        # (a line that isn't sound may name what nobody knows: the machine says so)
+        its = before.names(it.needs & ((1 << len(before.instruments)) - 1))
+        whose = before.station(it.kind), its
+        return any(words.keeps(*whose) for words in before.gone) and not self.bay.its_gone.keeps(*whose)
 
     def _keeps_longer(self, grace: Optional[int], before: Optional[int]) -> Optional[int]:
         kept = longest((grace, before))
@@ -69,9 +78,8 @@ class Opened:
         return kept
 
     def _machine(self, text: bytes, grace: Optional[int]) -> Machine:
-        overtakes = len(self.bay.jobs) if self.bay.overtakes is None else self.bay.overtakes
         line, grace = MOST_CHOICES * self.bay.limits.clients, NEVER if grace is None else grace
-        terms = Terms(mark_of(self.bay), line, grace, milliseconds(shell.DISK), overtakes, self.state is not None)
+        terms = Terms(mark_of(self.bay), line, grace, milliseconds(shell.DISK), self.overtakes, self.state is not None)
         try:
             return Machine(self.places.classes(self.bay), terms, text, self.first)
         except Refusal as it:

@@ -33,13 +33,17 @@ def going_round(wish: Wish, out: dict[str, Out]) -> Wish:
 
 def told(name: str, it: Out) -> str:
     why = f": {it.why}" if it.why else ""
-    return f"{name} is out of order for {span(time.time() - it.since)}{why} (says {it.by})"
+    return f"{name} has been out of order for {span(time.time() - it.since)}{why} (says {it.by})"
 
 
 async def disable(keeping: Keeping, name: str, why: str, by: str) -> None:
     """JournalError: it couldn't be written, and so isn't so. NoInstrument, BadWish."""
     check_instrument(name, keeping.bay)
     check_note(why, keeping.bay)
+    await puts_out(keeping, name, why, by)
+
+
+async def puts_out(keeping: Keeping, name: str, why: str, by: str) -> None:
     async with keeping.changing:
         await keeps(keeping, replace(keeping.places, out={**keeping.places.out, name: Out(why, by, round(time.time(), 3))}))
         keeping._record("disabled", text=f"{name}: {why}, by {by}" if why else f"{name}, by {by}", its=(name,))

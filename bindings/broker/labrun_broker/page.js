@@ -11,7 +11,7 @@ const WALL_RECORDS = 60, WALL_WAITS = 20, WALL_ALARMS = 3;
 const SPANS = {"15 min": 900, "1 h": 3600, "4 h": 14400, "12 h": 43200};
 const WORDS = {
   opened: "the broker opened the bay", asked: "asks for", held: "holds", note: "notes", let_go: "let go", gave_up: "gave up", taken: "was ended",
-  failed: "failed", gone: "is gone", back: "is back", closed: "the broker closed the bay",
+  failed: "failed", gone: "is gone", back: "is back", closed: "the broker closed the bay", made_safe: "is over, and made safe is",
 };
 const PLAIN = new Set(["opened", "closed", "note"]);     // told without instruments
 const BAD = new Set(["failed", "gone", "taken", "gave_up"]);
@@ -94,39 +94,54 @@ function drawDisk() {
 // the instruments, and who waits
 
 function rowOf(it, long) {
-  const holder = it.holder && station(it.holder), isGone = holder && holder.state === "gone";
+  const holder = it.holder && station(it.holder), isGone = holder && holder.state === "gone", isEnding = holder && holder.state === "ending";
   const isOut = it.out != null && !it.holder;
   const kind = isGone ? "gone" : isOut ? "out" : !it.holder ? (it.waiting.length ? "wait" : "free") : it.waiting.length ? "wait" : "use";
   const row = make("div", `row ${kind}${it.holder ? " held" : ""}${long && it.holder === long.name && it.waiting.length ? " worst" : ""}`, make("span", "name", named(it.name)));
   row.dataset.instrument = it.name;
-  const state = make("span", "state", ...(it.holder ? [named(it.holder), isGone ? " is gone" : ""] : [isOut ? "out of order" : "free"]));
+  const ending = it.being_made_safe == null ? ["free soon, after "] : ["is being made safe after "];
+  const state = make("span", "state", ...(it.holder ? [...(isEnding ? ending : []), named(it.holder), isGone ? " is gone" : ""] : [isOut ? "out of order" : "free"]));
+  if (WALL && it.bay) row.title = it.bay;
   if (holder && holder.by) state.append(make("span", "soft", " by ", named(holder.by)));
-  row.append(state, make("span", "since", since(it.holder ? it.since : null)));
+  row.append(state, make("span", "since", since(isEnding ? holder.since : it.holder ? it.since : null)));
   if (it.label) row.append(make("span", "line label", make("bdi", "", it.label)));
   if (it.waiting.length) row.append(make("span", "line", it.waiting.length === 1 ? "waits: " : `${it.waiting.length} wait: `, ...list(it.waiting)));
   if (holder && holder.note) row.append(make("span", "line of-note", make("bdi", "note", holder.note)));
   if (it.out != null) row.append(make("span", "line", isOut ? "" : "out of order", !isOut && it.out ? ": " : "", make("bdi", "", it.out), " (says ", make("bdi", "", it.out_by), ")"));
   return row;
 }
+function headOf(it, before) {
+  // (of several bays, each with its name; on a wall beside the picture's rows there is no room for it)
+  if (WALL || !it.bay || before && before.bay === it.bay) return [];
+  return [make("h3", "bay", named(it.bay))];
+}
 function links(why, seen) {
   // the rest of a chain: who has the instrument, and, if that one only waits, for whom
-  const other = station(why.station), state = other && other.state === "gone" ? "gone" : why.holds ? "holding" : "";
+  const other = station(why.station), state = other && ["gone", "ending"].includes(other.state) ? other.state : why.holds ? "holding" : "";
   const holding = other && other.state === "waiting" ? [" waits for the disk"] : [" has held for ", since(why.since)];
-  const told = state === "gone" ? [" has been gone for ", since(other.gone_since)] : why.holds ? holding : [];
+  const told = state === "ending" ? ["’s session is over, and it is being made safe for ", since(other.since)] : state === "gone" ? [" has been gone for ", since(other.gone_since)] : why.holds ? holding : [];
   const next = why.holds || !other || seen.has(why.station) ? null : other.waits_for[0];
   seen.add(why.station);
   return [" → ", named(why.instrument), ": ", make("span", `chip ${state}`, named(why.station)), ...told, ...(next ? links(next, seen) : [])];
 }
+function overtakesOf(it) {
+  const bay = (status.bays || []).find(one => one.bay === it.bay);
+  return bay ? bay.overtakes : status.overtakes;
+}
+function lineOf(it) {
+  if (!it.place) return "";
+  return `, number ${it.place} in line${it.passed ? `; ${it.passed} ${it.passed === 1 ? "other" : "others"} went first, and after ${overtakesOf(it)} what it needs is kept for it` : ""}`;
+}
 function chainOf(it) {
   // (a line is too short for all of it: for what it waits stands beside the instruments, too)
-  const box = WALL ? make("div", "chain", bold(it.name), " ", since(it.since)) : make("div", "chain", bold(it.name), " waits for ", ...list(it.instruments), ": ", since(it.since));
+  const box = WALL ? make("div", "chain", bold(it.name), " ", since(it.since)) : make("div", "chain", bold(it.name), " waits for ", ...list(it.instruments), ": ", since(it.since), make("span", "soft", lineOf(it)));
   for (const why of it.waits_for.slice(0, WALL ? 1 : MOST_CHAINS)) box.append(make("div", "links", ...(WALL ? [] : [named(it.name)]), ...links(why, new Set([it.name]))));
   if (!it.waits_for.length) box.append(make("div", "links", status.disk ? "it waits for the disk" : "nobody keeps it waiting at this moment"));
   return box;
 }
 function inLineOf(it) {
   const whose = it.station ? ["for ", bold(it.station), " to be idle"] : ["until a guest goes home"];
-  return make("div", "chain", bold(it.by || "somebody"), " waits ", ...whose, ", and then for ", ...list(it.instruments), ": ", since(it.since));
+  return make("div", "chain", bold(it.by || "somebody"), " waits ", ...whose, ", and then for ", ...list(it.instruments), ": ", since(it.since), make("span", "soft", lineOf({...it, passed: 0})));
 }
 function drawNow() {
   const long = worst(), waiting = status.stations.filter(it => it.state === "waiting").sort((a, b) => a.since - b.since);
@@ -138,7 +153,7 @@ function drawNow() {
   document.body.classList.toggle("wide", isMany);
   $("instruments").className = isMany ? "many" : "";
   $("board").style.setProperty("--row", `${rowHeight()}px`);
-  $("instruments").replaceChildren(...status.instruments.map(it => rowOf(it, long)));
+  $("instruments").replaceChildren(...status.instruments.flatMap((it, at) => [...headOf(it, status.instruments[at - 1]), rowOf(it, long)]));
   const all = [...waiting.map(it => () => chainOf(it)), ...(status.in_line || []).map(it => () => inLineOf(it))], most = WALL ? WALL_WAITS : all.length;
   const chains = all.slice(0, most).map(it => it());
   if (all.length > most) chains.push(make("div", "chain soft", `and ${all.length - most} more`));
@@ -155,7 +170,9 @@ function recordOf(it) {
   const parts = it.station ? [bold(it.station), " "] : [];
   parts.push(make("span", "what", WORDS[it.what] || it.what));
   if (it.instruments && it.instruments.length && !PLAIN.has(it.what)) parts.push(" ", ...list(it.instruments));
-  if (it.text) parts.push(": ", make("bdi", "", it.text.length > 300 ? it.text.slice(0, 300) + "…" : it.text));
+  // (a text that names the one instrument first needn't do so twice)
+  const text = (it.text || "").replace((it.instruments || []).length === 1 ? `${it.instruments[0]}: ` : "", "");
+  if (text) parts.push(": ", make("bdi", "", text.length > 300 ? text.slice(0, 300) + "…" : text));
   return make("div", `record${BAD.has(it.what) ? " bad" : ""}`, make("time", "", hours(it.t)), make("span", "", ...parts));
 }
 function drawRecords() {

@@ -11,7 +11,7 @@ import hashlib
 import json
 import re
 import time
-from collections import deque
+from collections import defaultdict, deque
 from pathlib import Path
 from typing import Any, Optional
 
@@ -28,7 +28,7 @@ class Watch:
     """What a browser is told: the sessions that ended, the last records, and the status. Each has a number, so that it is told once."""
 
     def __init__(self, keeping: Any) -> None:
-        self._keeping, self._past = keeping, Past()
+        self._keeping, self._pasts = keeping, defaultdict[str, Past](Past)
         self._ended: deque[tuple[int, Record]] = deque(maxlen=MOST_ENDED)
         self._records: deque[tuple[int, Record]] = deque(maxlen=MOST_RECORDS)
         self._notes: deque[tuple[int, Record]] = deque(maxlen=MOST_NOTES)
@@ -37,16 +37,16 @@ class Watch:
         self._changed = asyncio.Event()
 
     async def run(self) -> None:
-        read = 0.0
+        read = defaultdict[str, float](float)
         for record in self._keeping.recent():
             self._add(record)
-            read = record["t"]
+            read[record.get("bay", "")] = record["t"]
         async for batch in batches(self._keeping):
             # (what was read back stands among the first, too)
             for record in batch:
-                if record["t"] > read:
+                if record["t"] > read[record.get("bay", "")]:
                     self._add(record)
-            read = 0.0
+            read.clear()
             self.number += 1
             self._changed.set()
             self._changed = asyncio.Event()
@@ -54,10 +54,11 @@ class Watch:
     def _add(self, record: Record) -> None:
         self.number += 1
         (self._notes if record["what"] == "note" else self._records).append((self.number, record))
-        over = self._past.take(record)
+        past = self._pasts[record.get("bay", "")]
+        over = past.take(record)
         if over is not None:
             self._ended.append((self.number, shown(over)))
-        self._past.ended.clear()
+        past.ended.clear()
 
     async def newer_than(self, seen: int) -> None:
         """Waits for a change, but not for longer than a beat."""

@@ -12,7 +12,7 @@ from datetime import datetime, timezone
 from typing import Optional, TextIO
 
 from .benches import records_of_journal
-from .sessions import ENDS, UNKNOWN, Fault, Past, Session, first, read_records, spans_waited_for
+from .sessions import ENDS, UNKNOWN, Fault, Past, Session, bays_in, first, read_records, spans_waited_for
 from .texts import aligned, plain, span
 
 
@@ -102,6 +102,14 @@ def used(sessions: list[Session], since: float, until: float) -> list[str]:
 # the commands
 
 
+def pasts_of(path: str, bay: Optional[str]) -> dict[str, tuple[Past, list[str]]]:
+    """Of each bay of a lab by its name, or of the one that is wanted; of one bay alone, without a name."""
+    bays = bays_in(path) if os.path.isdir(path) else []
+    if bay is not None and bay not in bays:
+        raise Fault(f"{path}: there is no bay {bay} in it: there {'is' if len(bays) == 1 else 'are'} {', '.join(bays) or 'none'}")
+    return {name: read_past(f"{path}/{name}") for name in bays if bay in (None, name)} or {"": read_past(path)}
+
+
 def read_past(path: str) -> tuple[Past, list[str]]:
     """Of a state folder or a journal; and a line for each file that isn't whole."""
     past = Past()
@@ -121,20 +129,30 @@ def read_past(path: str) -> tuple[Past, list[str]]:
     return past, faults
 
 
-def chosen(args: argparse.Namespace) -> tuple[Past, list[Session], float, float]:
-    """The past, those of its sessions that reach into the span that was asked for, and the span."""
-    past, faults = read_past(args.folder)
-    for it in faults:
-        print(f"labrun-broker: {plain(it)}", file=sys.stderr)
-    until = past.until or time.time()
-    since = first(past.begun, until)
+Chosen = tuple[Past, list[Session], float, float]
+
+
+def chosen(args: argparse.Namespace) -> dict[str, Chosen]:
+    """Of each bay the past, those of its sessions that reach into the span that was asked for, and the span: the same for all bays."""
+    its = pasts_of(args.folder, args.bay)
+    for _, faults in its.values():
+        for it in faults:
+            print(f"labrun-broker: {plain(it)}", file=sys.stderr)
+    until = max(past.until for past, _ in its.values()) or time.time()
+    since = min(first(past.begun, until) for past, _ in its.values())
     if args.last is not None:
         since = max(since, until - args.last)
-    return past, [it for it in past.sessions() if first(it.ended, until) >= since], since, until
+    return {name: (past, [it for it in past.sessions() if first(it.ended, until) >= since], since, until) for name, (past, _) in its.items()}
+
+
+def of_all(args: argparse.Namespace) -> tuple[list[Past], list[Session], float, float]:
+    """The same of all bays together, in the order of asking."""
+    its = list(chosen(args).values())
+    return [it[0] for it in its], sorted((one for it in its for one in it[1]), key=lambda one: one.asked), *its[0][2:]
 
 
 def run_table(args: argparse.Namespace) -> int:
-    _, sessions, _, until = chosen(args)
+    _, sessions, _, until = of_all(args)
     if args.notes:
         write_notes_csv(sessions, sys.stdout)
     elif args.csv:
@@ -145,15 +163,19 @@ def run_table(args: argparse.Namespace) -> int:
 
 
 def run_report(args: argparse.Namespace) -> int:
-    write_report(*chosen(args), sys.stdout)
+    for at, (name, its) in enumerate(chosen(args).items()):
+        if name:
+            sys.stdout.write(f"{'' if at == 0 else chr(10)}bay {name}, ")
+        write_report(*its, sys.stdout)
     return 0
 
 
 def run_gantt(args: argparse.Namespace) -> int:
     from .picture import gantt
 
-    past, sessions, since, until = chosen(args)
-    text = gantt(sessions, list(past.instruments), list(past.stations), since, until)
+    pasts, sessions, since, until = of_all(args)
+    instruments, stations = (list({name: None for past in pasts for name in getattr(past, its)}) for its in ("instruments", "stations"))
+    text = gantt(sessions, instruments, stations, since, until)
     if args.to is None:
         sys.stdout.write(text)
         return 0

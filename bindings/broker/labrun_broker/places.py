@@ -12,6 +12,9 @@ from dataclasses import dataclass, field, replace
 from typing import Any, Iterable, Optional, Sequence
 
 from .bay import MOST_INSTRUMENTS, MOST_STATIONS, Bay, BayFault
+from .kept import Gone, gone_of
+
+SHOWN = 8  # names in a text
 
 GUESTS = 0
 
@@ -27,21 +30,30 @@ class Out:
 
 @dataclass(frozen=True)
 class Places:
-    """`out` has what is out of order. `grace` is the longest that a client may have been told of a session that holds, in milliseconds; None: for ever."""
+    """`out` has what is out of order. `grace` is the longest that a client may have been told of a session that holds, in milliseconds; None: for
+    ever, of all. `gone` has the words by which it may have been told otherwise of some."""
 
     instruments: tuple[str, ...] = ()
     stations: tuple[str, ...] = ()
     grace: Optional[int] = 0
     out: dict[str, Out] = field(default_factory=dict)
+    gone: tuple[Gone, ...] = ()
+
+    def with_words(self, gone: Gone, are_kept: bool) -> Places:
+        """Clients are told by these from now on, and perhaps were by those before."""
+        before = self.gone if are_kept else ()
+        its = (*(it for it in before if it != gone), *(() if gone.is_of_all and not before else (gone,)))
+        return replace(self, gone=its)
 
     def with_bay(self, bay: Bay) -> Places:
         """The same, and places for what is new in the bay. BayFault: there are none left."""
         instruments = tuple(dict.fromkeys((*self.instruments, *bay.instruments)))
         stations = tuple(dict.fromkeys((*self.stations, *bay.stations)))
-        for what, names, most in (("instruments", instruments, MOST_INSTRUMENTS), ("stations", stations, MOST_STATIONS)):
+        for what, names, most, its in (("instruments", instruments, MOST_INSTRUMENTS, bay.instruments), ("stations", stations, MOST_STATIONS, bay.stations)):
             if len(names) > most:
-                why = f"with those that the state folder knows there are {len(names)}; {most} are the most"
-                raise BayFault(what, [f"{why}: begin with a new folder"])
+                former = " ".join([it for it in names if it not in its][:SHOWN])
+                why = f"with those that were taken out before there are {len(names)}, and {most} are the most in all the life of a state folder, or in etcd"
+                raise BayFault(what, [f"{why}: use the name of one that was taken out ({former}), or begin anew"])
         return replace(self, instruments=instruments, stations=stations)
 
     def classes(self, bay: Bay) -> list[tuple[int, int]]:
@@ -63,7 +75,8 @@ class Places:
 
     def text(self) -> str:
         out = {"out": {name: vars(it) for name, it in self.out.items()}} if self.out else {}
-        return json.dumps({"instruments": self.instruments, "stations": self.stations, "grace": self.grace, **out}) + "\n"
+        gone = {"gone": [vars(it) for it in self.gone]} if self.gone else {}
+        return json.dumps({"instruments": self.instruments, "stations": self.stations, "grace": self.grace, **out, **gone}) + "\n"
 
 
 def bits_of(bits: int) -> list[int]:
@@ -83,7 +96,10 @@ def places_of(text: str) -> Places:
     grace = given.get("grace")
     if grace is not None and (not isinstance(grace, int) or grace < 0):
         raise ValueError("a grace is a number of milliseconds, or null")
-    return Places(tuple(given["instruments"]), tuple(given["stations"]), grace, _out_of(given.get("out", {})))
+    words = given.get("gone", [])
+    if not isinstance(words, list):
+        raise ValueError("what becomes of whoever is gone is a list")
+    return Places(tuple(given["instruments"]), tuple(given["stations"]), grace, _out_of(given.get("out", {})), tuple(map(gone_of, words)))
 
 
 def _out_of(given: Any) -> dict[str, Out]:

@@ -21,6 +21,8 @@ if TYPE_CHECKING:
     from .held import Held
 
 DEFAULT = "unix:/run/labrun/bay.sock"
+# where a client's own token is, if nothing else says it. ($LABRUN_TOKEN is the number of a session)
+TOKEN_FILE, CERTIFICATE_FILE = "LABRUN_BROKER_TOKEN_FILE", "LABRUN_BROKER_CERTIFICATE_FILE"
 SILENT = 10.0  # seconds without a word, after which the broker is asked whether it is there, and then as many for its answer
 LATE, LATER = 1.0, 6.0  # or a second once the time limit is over, and then longer: a broker takes it ill to be asked twice in five seconds
 GIVING_UP = 0.5
@@ -44,6 +46,32 @@ def user() -> str:
     except (KeyError, OSError):
         name = str(os.getuid())
     return f"{name}@{socket.gethostname()}"
+
+
+def token_in(path: Optional[str]) -> Optional[str]:
+    """The token in a file, or in that which LABRUN_BROKER_TOKEN_FILE names; None: there is none. OSError; BadWish: no token is in it."""
+    if not (path := path or os.environ.get(TOKEN_FILE)):
+        return None
+    with open(path, encoding="ascii", errors="replace") as file:
+        token = file.read().strip()
+    if not is_token(token):
+        from .errors import BadWish
+
+        raise BadWish(f"{path}: a token is one line of letters, digits and signs, and this file {'has something else' if token else 'is empty'}")
+    return token
+
+
+def certificate_in(path: Optional[str]) -> Optional[bytes]:
+    """What is in the file of a certificate, or in that which LABRUN_BROKER_CERTIFICATE_FILE names; None: there is none. OSError."""
+    if not (path := path or os.environ.get(CERTIFICATE_FILE)):
+        return None
+    with open(path, "rb") as file:
+        return file.read()
+
+
+def is_token(text: str) -> bool:
+    """(Of anything else gRPC would make no header, and say it.)"""
+    return bool(text) and all(" " <= it <= "~" for it in text)
 
 
 class Wish(NamedTuple):
@@ -80,14 +108,15 @@ class Quick:
     and is told whether the broker was there. `begins` is called once it holds: what interrupts it from there on is no business of its own."""
 
     def __init__(
-        self, path: str, wish: Wish, waits: Optional[Callable[[str], None]], connects: Callable[[bool], Lab], begins: Callable[[], None]
+        self, path: str, wish: Wish, waits: Optional[Callable[[str], None]], connects: Callable[[bool], Lab], begins: Callable[[], None],
+        token: Optional[str] = None,
     ) -> None:
         self.instruments, self.station, self.number, self.token = wish.instruments, wish.station, 0, 0
         self.on_taken: Optional[Callable[[Any], None]] = None
         self.on_warning: Optional[Callable[[str], None]] = None
         self.is_released_if_gone = False
         self.wire = Wire()
-        self._path, self._wish, self._waits, self._connects, self._begins = path, wish, waits, connects, begins
+        self._path, self._wish, self._waits, self._connects, self._begins, self._token = path, wish, waits, connects, begins, token
         self.ticket = binascii.b2a_base64(os.urandom(32), newline=False).decode().translate({43: "-", 47: "_", 61: None})
         # where the guards of its instruments are
         self.guards: dict[str, str] = {}
@@ -105,7 +134,7 @@ class Quick:
         try:
             if self._wish.timeout is not None:
                 self.wire.limit = time.monotonic() + self._wish.timeout
-            self.wire.connects(self._path)
+            self.wire.connects(self._path, self._token)
             self._holds()
         except BaseException:
             self.wire.socket.close()
@@ -154,8 +183,9 @@ class Quick:
             threading.Thread(target=self._watches, daemon=True).start()
 
     def _gives_up(self) -> None:
-        """It leaves the line. If it came to hold just now, it lets go."""
+        """It leaves the line. If it came to hold just now, it lets go. (A session that is over has no answer, and its broker is there all the same.)"""
         self.wire.is_unlimited()
+        self.wire.is_leaving = True
         self.wire.socket.settimeout(GIVING_UP)
         with contextlib.suppress(Odd):
             self.wire.asks(LET_GO, b"")
@@ -213,13 +243,13 @@ class Wire:
 
     def __init__(self) -> None:
         self.socket, self._writing = socket.socket(socket.AF_UNIX), threading.Lock()
-        self.was_there = False  # the broker
+        self.was_there = self.is_leaving = False  # the broker; this client
         # until when it may take to hold; and for how long it is waited for after that
         self.limit, self._late = math.inf, LATE
         # bytes that came: of frames, and of messages
         self._came = self._messages = b""
 
-    def connects(self, path: str) -> None:
+    def connects(self, path: str, token: Optional[str] = None) -> None:
         self._is_patient()
         try:
             with _oddly():
@@ -230,7 +260,7 @@ class Wire:
             if isinstance(fault.__cause__, (FileNotFoundError, ConnectionRefusedError)):
                 raise Absent from fault
             raise
-        self._sends(OPENS)
+        self._sends(OPENS + _heads(token))
 
     def is_unlimited(self) -> None:
         self.limit = math.inf
@@ -280,6 +310,8 @@ class Wire:
             try:
                 came = self.socket.recv(1 << 16)
             except TimeoutError:
+                if self.is_leaving:
+                    raise
                 came = self._asks_whether_it_is_there()
         if not came:
             raise Odd
@@ -364,4 +396,12 @@ def _short(text: bytes) -> bytes:
 HEADS = b"\x83\x86\x04" + _short(b"/labrun.broker.Broker/Hold") + b"\x01" + _short(b"localhost")
 HEADS += b"".join(b"\0" + _short(name) + _short(value) for name, value in ((b"te", b"trailers"), (b"content-type", b"application/grpc")))
 OPENS = b"PRI * HTTP/2.0\r\n\r\nSM\r\n\r\n" + _frame(SETTINGS, 0, 0, struct.pack(">HI", 4, 2**31 - 1))
-OPENS += _frame(WINDOW, 0, 0, struct.pack(">I", 2**31 - 1 - 65535)) + _frame(HEADERS, HEADERS_END, 1, HEADS)
+OPENS += _frame(WINDOW, 0, 0, struct.pack(">I", 2**31 - 1 - 65535))
+
+
+def _heads(token: Optional[str]) -> bytes:
+    """(The token's name and value are never put into a table of either side: 0x10.)"""
+    value = b"" if token is None else f"Bearer {token}".encode("ascii", "replace")
+    if len(value) > 126:
+        raise Odd
+    return _frame(HEADERS, HEADERS_END, 1, HEADS + (b"\x10" + _short(b"authorization") + _short(value) if value else b""))

@@ -7,7 +7,7 @@ import asyncio
 import contextlib
 import json
 import os
-from typing import Any, AsyncIterator, Optional, Protocol
+from typing import Any, AsyncIterator, Callable, Optional, Protocol
 
 Record = dict[str, Any]
 
@@ -112,19 +112,41 @@ class News:
     def __init__(self) -> None:
         self.history: list[Record] = []
         self.file: Optional[Written] = None
+        # whether the journal has what is recorded now; while it hasn't, the file waits: else after a kill it would say what never was
+        self.may_write: Callable[[], bool] = lambda: True
+        self._later: list[Record] = []
         self._watchers: set[asyncio.Event] = set()
+        # who is told of each record at once, and of a change of which there is none
+        self.tells: Callable[[Optional[Record]], None] = lambda record: None
 
     def add(self, record: Record, **more: Any) -> None:
         self.history.append(record)
         if len(self.history) > 2 * KEPT_IN_MEMORY:
             del self.history[:-KEPT_IN_MEMORY]
         if self.file is not None:
-            self.file.add({**record, **more})
+            self._later.append({**record, **more})
+            self._hands_on(len(self._later) > KEPT_IN_MEMORY)
+        self.tells(record)
+        self._wakes()
+
+    def changed(self) -> None:
+        """Something has, of which there is no record."""
+        self.tells(None)
+        self._wakes()
+
+    def _wakes(self) -> None:
         for watcher in self._watchers:
             watcher.set()
 
-    def write(self) -> None:
+    def _hands_on(self, is_all: bool = False) -> None:
+        if self.file is not None and (is_all or self.may_write()):
+            for record in self._later:
+                self.file.add(record)
+            self._later.clear()
+
+    def write(self, is_all: bool = False) -> None:
         if self.file is not None:
+            self._hands_on(is_all)
             self.file.write()
 
     def sync(self) -> None:

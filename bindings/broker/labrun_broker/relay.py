@@ -8,12 +8,25 @@ import fcntl
 import socket
 import struct
 import termios
+import threading
 from typing import Any, Optional
 
+ROOM = 1 << 18  # bytes that are read at once
 MOST_EARLY = 1 << 16  # bytes that one end may send before there is another
 LAST_WORDS = 1.0  # seconds for an answer to one that has said all, where TLS can't tell that
 AGAIN = 0.005
 _LINGER = struct.pack("ii", 1, 0)
+
+
+class _Room(threading.local):
+    """Where all ends of a thread read. (Without it asyncio takes fresh memory for each read, and gives it back. The C library may have to ask the
+    kernel for so much; for a short message that takes longer than all else.)"""
+
+    def __init__(self) -> None:
+        self.at = memoryview(bytearray(ROOM))
+
+
+_room = _Room()
 
 
 def resets(one: socket.socket) -> None:
@@ -29,7 +42,7 @@ def _asked(transport: Any, question: int) -> int:
     return int(struct.unpack("i", fcntl.ioctl(one.fileno(), question, bytes(4)))[0])
 
 
-class End(asyncio.Protocol):
+class End(asyncio.BufferedProtocol):
     """One end of a connection. Until it is joined with another it keeps what comes. One that `resets` never leaves bytes behind that are sent
     after its socket is closed."""
 
@@ -45,7 +58,14 @@ class End(asyncio.Protocol):
     def connection_made(self, transport: Any) -> None:
         self.transport = transport
 
-    def data_received(self, data: bytes) -> None:
+    def get_buffer(self, _: int) -> memoryview:
+        return _room.at
+
+    def buffer_updated(self, count: int) -> None:
+        # (a copy: the transport of the other end may keep it until its socket takes it)
+        self.comes(bytes(_room.at[:count]))
+
+    def comes(self, data: bytes) -> None:
         self.came += len(data)
         if self.other is not None:
             self.other.writes(data)

@@ -3,6 +3,7 @@
     /labrun/BAY/places                  as `places.py` writes them
     /labrun/BAY/journal/PAGE/OFFSET     whole lines of the journal, from so many bytes on; PAGE counts how often it began anew
     /labrun/BAY/records/OFFSET          records, a line for each; those before the last few megabytes are deleted
+    /labrun/BAY/applied, applied-file   the bay that was applied last (leading.py): it comes with the page that it begins
 
 A batch of both is one transaction. etcd may do a transaction that it didn't answer later than anybody thinks. So what was once tried is what
 is tried again, byte by byte, until it is known to be there; and what the bay hands out once more after a fault, which is the same text,
@@ -14,6 +15,7 @@ import asyncio
 import contextlib
 import errno
 import threading
+import time
 from collections import deque
 from concurrent.futures import ThreadPoolExecutor
 from typing import Any, Callable, NamedTuple, Optional
@@ -21,8 +23,10 @@ from typing import Any, Callable, NamedTuple, Optional
 from labrun import JournalError
 from labrun.store import Store
 
+from .bay import Bay
+from .errors import CantChange
 from .etcd import EtcdError, delete, put
-from .leading import Deposed, Leading
+from .leading import Applied, Deposed, Leading, file_mark
 from .places import Places, places_of
 from .records import LINE, Record, Records, Written
 from .sessions import parsed
@@ -78,10 +82,11 @@ class EtcdStore:
 
     def __init__(self, leading: Leading, records: EtcdRecords) -> None:
         self._leading, self._records, self._page = leading, records, 1
-        self.path = f"etcd, {leading.prefix.decode()}journal/"
+        self.path, self.where = f"etcd, {leading.prefix.decode()}journal/", "in etcd"
         self._waiting = Waiting()
-        # what was tried as the beginning of the next page, and may be there by now
+        # what was tried as the beginning of the next page, and may be there by now; and the file of the bay that comes with it
         self._begun: Optional[bytes] = None
+        self.goes_by: Optional[tuple[str, Applied]] = None
         # how much of what is written next is here already
         self._known, self._is_read = 0, False
         self._batch: Optional[Batch] = None
@@ -143,8 +148,11 @@ class EtcdStore:
         if len(begun) > MOST or not text.startswith(begun):
             raise OSError(errno.EFBIG, f"{self.path}: its new page is too long")
         self._begun = begun
-        page = self._of(self._page)
-        self._leading.does([delete(page, page[:-1] + b"0"), put(self._of(self._page + 1) + b"%012d" % 0, begun)])
+        page, applied = self._of(self._page), self.goes_by
+        beside = [] if applied is None else self._leading.applies(*applied)
+        self._leading.does([delete(page, page[:-1] + b"0"), put(self._of(self._page + 1) + b"%012d" % 0, begun), *beside])
+        if applied is not None:
+            self.goes_by, self._leading.applied_mark = None, applied[1].mark
         self._page, self._begun, self._waiting = self._page + 1, None, Waiting()
         self._waiting.at = len(begun)
         self._known = 0
@@ -264,7 +272,7 @@ class Replica:
     def __init__(self, leading: Leading, file: Optional[Records] = None) -> None:
         self._leading, self._key = leading, leading.prefix + b"places"
         its = EtcdRecords(leading, file)
-        store = EtcdStore(leading, its)
+        self._store = store = EtcdStore(leading, its)
         its.sends = store.sends
         self.store: Store = store
         self.records: Written = its
@@ -281,6 +289,14 @@ class Replica:
 
     def keeps(self, places: Places) -> None:
         self._leading.does([put(self._key, places.text().encode())])
+
+    def lacks(self, text: str, bay: Bay) -> bool:
+        if len(text.encode()) > MOST:
+            raise CantChange(f"the file has more than {MOST >> 10} KiB, and etcd doesn't take it beside the journal")
+        return self._store.goes_by is not None or self._leading.applied_mark != file_mark(bay)
+
+    def goes_by(self, text: str, bay: Bay, by: str) -> None:
+        self._store.goes_by = text, Applied(file_mark(bay), by, round(time.time(), 3))
 
     def recent(self) -> list[Record]:
         return list(self._last)

@@ -8,11 +8,12 @@ import os
 import re
 import signal
 import subprocess
+import threading
 import time
 from typing import TYPE_CHECKING, Callable, Iterator, Optional, TypeVar, Union
 
-from .family import Family, adopting, ends
-from .quick import DEFAULT, Absent, Odd, Quick, Silent, Wish, user
+from .family import TELLING, Family, adopting, ends
+from .quick import DEFAULT, Absent, Odd, Quick, Silent, Wish, token_in, user
 from .texts import addresses_of, last, plain, seconds
 from .words import CANT_RUN, NOT_FOUND, PROGRAM, TAKEN, USAGE, add_client, lab_of, say
 
@@ -25,12 +26,14 @@ ENVIRONMENT = dict(os.environ)
 Waits = Optional[Callable[[str], None]]
 Result = TypeVar("Result")
 STARTING = 5.0  # seconds that a broker may take to begin
+# after so many without a first word it is said that none came; and who waits hears from a broker each minute
+SILENCE, MINUTE = 6.0, 80.0
 
 
 def add_hold(parser: argparse.ArgumentParser) -> None:
     parser.add_argument("instruments", metavar="INSTRUMENT", nargs="+", help="what the command needs, all at once; 'load-*' and tag:precise are one that is like that, '2 of load-*' two")
     parser.add_argument("--timeout", metavar="SECONDS", type=seconds, help="how long to wait for them at most")
-    limit = "for how long it may hold once others wait for what it has, as 90, 30min, 2h: then it is taken away; before that a line is said"
+    limit = "for how long it may hold, as 90, 30min, 2h: once that is over, whoever waits for what it has gets it; a line is said before"
     parser.add_argument("--limit", metavar="SPAN", type=last, help=limit)
     parser.add_argument("-n", "--no-wait", dest="timeout", action="store_const", const=0.0, help="take what is free, as with --timeout 0")
     parser.add_argument("--any", action="store_true", help="one of these is enough; with a comma, as in load-1,load-2, a choice has several")
@@ -52,9 +55,17 @@ def run_hold(args: argparse.Namespace) -> int:
     if not looks_around(args, any_of or (its,)):
         return USAGE
     wish = Wish(() if any_of else its, any_of, args.station, args.by or f"{user()} {os.getpid()} {what}"[:64], args.timeout, args.limit)
-    waits: Waits = None if args.quiet else lambda text: say(f"waits: {plain(text)}")
+    silence = Silence(address_of(args))
+
+    def waits(text: str) -> None:
+        silence.is_broken()
+        say(f"waits: {plain(text)}")
+
     with passing_on() as signals, adopting(), contextlib.ExitStack() as ends:
-        held = holds(args, wish, waits, signals, ends)
+        with contextlib.ExitStack() as until_held:
+            if not args.quiet:
+                until_held.enter_context(silence)
+            held = holds(args, wish, None if args.quiet else waits, signals, ends)
         variables, passes = ends.enter_context(leads(held, args))
         status = runs(args.command, held, signals, address_of(args), variables)
         if held.held:
@@ -86,6 +97,31 @@ def lets_go(held: Union[Quick, Held], status: int, signals: Signals, ends: conte
             say(f"the command ran, and ended with status {status}, but:")
             raise
         say("the broker wasn't told, as far as is known here: the session may go on holding, as `labrun-broker status` says")
+
+
+class Silence:
+    """Who waits is told if no word of the broker comes: it may be stopped, and then even its machine takes the connection. `with` it."""
+
+    def __init__(self, address: str) -> None:
+        self._address = address
+        self._timer: Optional[threading.Timer] = None
+
+    def __enter__(self) -> None:
+        self._lasts(SILENCE)
+
+    def __exit__(self, *_: object) -> None:
+        if self._timer is not None:
+            self._timer.cancel()
+
+    def is_broken(self) -> None:
+        """There was a word."""
+        self.__exit__()
+        self._lasts(MINUTE)
+
+    def _lasts(self, seconds: float) -> None:
+        self._timer = threading.Timer(seconds, say, [f"there is no word from the broker at {self._address}; hold tries on for a while, and Ctrl-C ends that"])
+        self._timer.daemon = True
+        self._timer.start()
 
 
 class Start:
@@ -146,17 +182,18 @@ def holds(args: argparse.Namespace, wish: Wish, waits: Waits, signals: Signals, 
         lab._was_there = was_there
         return lab
 
-    began, was_there, ticket, start = time.monotonic(), False, "", Start(args)
+    began, was_there, ticket, start, token = time.monotonic(), False, "", Start(args), token_in(args.token_file)
     address = address_of(args)
 
     def left() -> Optional[float]:
-        return wish.timeout and max(0.0, wish.timeout + began - time.monotonic())
+        # (0 says that it never wanted to wait)
+        return wish.timeout and max(0.001, wish.timeout + began - time.monotonic())
 
     if address.startswith("unix:") and not address.startswith("unix://") and len(addresses_of(address)) == 1:
         tried: list[Quick] = []
 
         def quickly() -> Quick:
-            tried[:] = [Quick(address.removeprefix("unix:"), wish._replace(timeout=left()), waits, connects, signals.begins)]
+            tried[:] = [Quick(address.removeprefix("unix:"), wish._replace(timeout=left()), waits, connects, signals.begins, token)]
             return ends.enter_context(tried[0])
 
         try:
@@ -232,6 +269,7 @@ class Signals:
     def __init__(self) -> None:
         self.family: Optional[Family] = None
         self.is_starting = self.were_sent = self.is_telling = self.is_late = False
+        self.telling: Optional[threading.Timer] = None
         self.came: list[int] = []
 
     def begins(self) -> None:
@@ -263,7 +301,7 @@ class Signals:
         has_ended = family.command.returncode is not None
         with contextlib.suppress(OSError):
             if not has_ended and number == signal.SIGINT and os.isatty(0) and os.tcgetpgrp(0) == os.getpgrp():
-                self.were_sent = True
+                self.is_sent(family)
                 return
         self.send(ends(number) if has_ended else number)
 
@@ -271,6 +309,19 @@ class Signals:
         self.were_sent = True
         if self.family is not None:
             self.family.send(number)
+            self.is_sent(self.family)
+
+    def is_sent(self, family: Family) -> None:
+        """A command that goes on after a signal, as one that ignores it, is told of, once."""
+        self.were_sent = True
+        if self.telling is None:
+            self.telling = threading.Timer(TELLING, self.tells, [family])
+            self.telling.daemon = True
+            self.telling.start()
+
+    def tells(self, family: Family) -> None:
+        if family.command.returncode is None and (names := family.named()):
+            say(f"waits until the command has ended, which goes on after the signal: {plain(names)}")
 
     def wait(self) -> int:
         """The status of the command. After a signal nothing of it goes on any more: who holds next would meet it at the instruments."""
@@ -286,10 +337,15 @@ class Signals:
         """While the broker is told that the command has ended. Mostly it answers at once, and then no signal keeps it from being told."""
 
         def is_late(*_: object) -> None:
+            if not first:
+                # (this process may have been stopped: then the broker's answer is read first)
+                first.append(signal.setitimer(signal.ITIMER_REAL, LATE / 5))
+                return
             self.is_late = True
             say(f"the command has ended with status {status}; the broker doesn't answer, and is told again for a minute, unless Ctrl-C gives that up")
             self.gives_up()
 
+        first: list[object] = []
         before, self.came, self.is_telling = signal.signal(signal.SIGALRM, is_late), [], True
         signal.setitimer(signal.ITIMER_REAL, LATE)
         try:

@@ -9,11 +9,12 @@ import dataclasses
 import resource
 import signal
 import sys
-from typing import TYPE_CHECKING, Any, Awaitable, Callable
+from typing import TYPE_CHECKING, Any, Awaitable, Callable, Optional
 
 import labrun
 
-from .bay import BadAddress, read_bay
+from .bay import BadAddress
+from .labs import Lab, read_any, texts_of
 from .quick import DEFAULT
 from .standby import add_etcd, until_it_leads
 from .texts import counted, mebibytes, plain, seconds
@@ -22,7 +23,8 @@ from .words import USAGE, say, tell_systemd
 if TYPE_CHECKING:
     from .door import Door
     from .entrance import Entrance
-    from .keeping import Keeping
+    from .folder import State
+    from .bays import Kept
 
 LEAST_GRACE = 1.0
 MOST_TOLD = 2000  # characters of a line: a pipe that can take any takes as much
@@ -55,45 +57,64 @@ def run_serve(args: argparse.Namespace) -> int:
 async def serve(args: argparse.Namespace) -> int:
     # (what only the broker needs: a client begins sooner without)
     from . import door, service
+    from .bays import Bays
     from .entrance import Entrance
     from .folder import Folder
     from .keeping import Keeping
 
-    bay = read_bay(args.bay)
-    if bay.gone == "release" and args.grace < LEAST_GRACE:
+    read = read_any(args.bay)
+    lab = read if isinstance(read, Lab) else None
+    bay = read.whole if isinstance(read, Lab) else read
+    if lab is not None and args.etcd is not None:
+        say(f"{args.bay} has [bays], and at etcd a broker keeps one bay: give each bay brokers of its own, or keep the lab in a folder (--state)")
+        return USAGE
+    if any(it.its_gone.may_release for it in (lab.bays.values() if lab else (bay,))) and args.grace < LEAST_GRACE:
         say(f"--grace {args.grace:g}: where gone = \"release\" it is {LEAST_GRACE:g} s at least, so that a client that is there can say so")
         return USAGE
     _, hard = resource.getrlimit(resource.RLIMIT_NOFILE)
     resource.setrlimit(resource.RLIMIT_NOFILE, (hard, hard))
     # (the thread that syncs a slow disk isn't to wait for the interpreter's lock when it is through)
     sys.setswitchinterval(0.0005)
-    its_door = door.Door(tuple(args.listen or (DEFAULT,)), args.tls_certificate, args.tls_key, args.token_file, args.group)
+    its_door = door.Door(tuple(args.listen or (DEFAULT,)), args.tls_certificate, args.tls_key, args.token_file, args.group, bool(bay.people))
     its_door.check()
     by_http = dataclasses.replace(its_door, addresses=tuple(args.http))
     by_http.check()
     end = the_end()
-    state, opens = args.state, None
-    if args.etcd is not None:
-        state, opens = await until_it_leads(args, bay, its_door, end)
-        if opens is None:
-            return 0
-    keeping = Keeping(bay, state, args.grace, args.sync == "data", opens or Folder)
-    keeping.most_bytes = args.journal_size
+    # (while it begins, or stands by, there is no bay to be changed)
+    asyncio.get_running_loop().add_signal_handler(signal.SIGHUP, lambda: None)
+    state: Optional[str] = args.state
+    opens: Callable[[str, bool], State] = Folder
     # (at first stands which bay it is, and where)
     begins = list[str]()
+    if args.etcd is not None:
+        led = await until_it_leads(args, bay, its_door, end)
+        if led is None:
+            return 0
+        state, bay, opens, begins = args.etcd, led.bay, led.opens, led.says
+        # (without people a door that needed no token would let in everybody)
+        its_door, by_http = (dataclasses.replace(it, has_people=bool(bay.people)) for it in (its_door, by_http))
+        its_door.check()
+        by_http.check()
+    its = max(LEAST_GRACE, args.grace), args.sync == "data"
+    keeping: Kept = Keeping(bay, state, *its, opens) if lab is None else Bays(lab, state, *its)
+    keeping.most_bytes = args.journal_size
     keeping.says = begins.append
     ends = contextlib.AsyncExitStack()
     try:
         await keeping.open()
         ends.push_async_callback(keeping.close)
-        entrance = Entrance(keeping, its_door.token())
+        entrance = Entrance(keeping, its_door.token(), its_door.seen_without_token(by_http))
+        # (whoever finds the broker's socket finds that of HTTP, too: it is there sooner, and for longer)
+        for runner in await by_requests(args, keeping, by_http, entrance):
+            ends.push_async_callback(runner.cleanup)
         server = await service.start(keeping, its_door, entrance)
         ends.push_async_callback(server.stop, 0.5)
-        for runner in await web(args, keeping, by_http, entrance):
+        for runner in await web(args, keeping):
             ends.push_async_callback(runner.cleanup)
         where = " ".join(its_door.addresses) + (f", by HTTP at {' '.join(args.http)}" if args.http else "")
-        say(f"bay {bay.name}: {counted(len(bay.instruments), 'instrument')}, at {where}")
-        for it in (*keeping.complaints, *begins):
+        of = "" if lab is None else f"{counted(len(lab.bays), 'bay')} ({', '.join(lab.bays)}), "
+        say(f"{'bay' if lab is None else 'lab'} {bay.name}: {of}{counted(len(bay.instruments), 'instrument')}, at {where}")
+        for it in (*keeping.complaints, *entrance.complaints(), *begins):
             say(plain(it))
         keeping.says = lambda text: say(plain(text)[:MOST_TOLD]) if door.is_read() else None
         tell_systemd("READY=1\nSTATUS=")
@@ -105,33 +126,48 @@ async def serve(args: argparse.Namespace) -> int:
         await ends.aclose()
 
 
-def hears(keeping: Keeping, path: str) -> None:
+def hears(keeping: Kept, path: str) -> None:
     """SIGHUP: the bay goes on as its file has it by now."""
     task = asyncio.ensure_future(applies(keeping, path))
     keeping.tasks.add(task)
     task.add_done_callback(keeping.tasks.discard)
 
 
-async def applies(keeping: Keeping, path: str) -> None:
-    from .applying import apply
-
+async def applies(keeping: Kept, path: str) -> None:
     try:
-        with open(path, encoding="utf-8") as file:
-            text = file.read()
-        if not await apply(keeping, text, "a signal", False):
+        if not await applies_file(keeping, path):
             keeping.says(f"{path}: nothing has changed")
     except (labrun.LabrunError, OSError, ValueError) as fault:
         for line in str(fault).split("\n"):
             keeping.says(f"{path}: {line}")
 
 
-async def web(args: argparse.Namespace, keeping: Keeping, by_http: Door, entrance: Entrance) -> list[Any]:
-    """What needs packages that the broker alone doesn't."""
-    runners: list[Any] = []
-    if by_http.addresses:
-        from .http_door import serve_http
+async def applies_file(keeping: Kept, path: str) -> list[str]:
+    from .applying import apply
+    from .bays import Bays
+    from .lab_applying import apply_lab
 
-        runners += await shown("--http", serve_http, keeping, by_http, entrance, args.http_origin)
+    if not isinstance(keeping, Bays):
+        with open(path, encoding="utf-8") as file:
+            return await apply(keeping, file.read(), "a signal", False)
+    text, texts = texts_of(path)
+    return await apply_lab(keeping, text, texts, "a signal", False)
+
+
+# (what needs packages that the broker alone doesn't)
+
+
+async def by_requests(args: argparse.Namespace, keeping: Kept, by_http: Door, entrance: Entrance) -> list[Any]:
+    if not by_http.addresses:
+        return []
+    from .http_door import serve_http
+
+    return list(await shown("--http", serve_http, keeping, by_http, entrance, args.http_origin))
+
+
+async def web(args: argparse.Namespace, keeping: Kept) -> list[Any]:
+    """What only shows."""
+    runners: list[Any] = []
     if args.page is not None:
         from .page import serve_page
 

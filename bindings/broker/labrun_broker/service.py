@@ -7,22 +7,25 @@ from __future__ import annotations
 
 import asyncio
 import time
+from contextlib import asynccontextmanager
+from dataclasses import replace
 from typing import Any, AsyncIterator, Awaitable, Callable, Coroutine, Optional
 
 import grpc
 import labrun
 
 from . import broker_pb2 as pb
-from . import guarding
-from .applying import apply
+from . import guarding, lab_applying, people
 from .bay import BadAddress
+from .bays import Kept
 from .door import Complaints, Door, check_free
-from .entrance import Entrance, Pace
-from .errors import KINDS, BadWish
-from .keeping import Keeping
+from .entrance import Caller, Entrance, NotLetIn, Pace
+from .errors import KINDS, BadWish, NoInstrument, NotAllowed
+from .front import WITHIN, Fronts, for_its_user
 from .outage import disable, enable
+from .rights import check_operator
 from .sockets import for_the_group, give
-from .standing import Session, Standings
+from .standing import Session
 from .wishes import Ended, Wish, check_form, wish_of
 
 # when a client that waits is told for whom, when again if that has changed, and when again if it hasn't
@@ -38,12 +41,14 @@ OPTIONS = [
     ("grpc.keepalive_time_ms", 10000),
     ("grpc.keepalive_timeout_ms", 5000),
     ("grpc.keepalive_permit_without_calls", 1),
-    ("grpc.http2.min_recv_ping_interval_without_data_ms", 5000),
+    # (a client asks each six seconds whether this one is there; from a busy machine two such questions may come at once)
+    ("grpc.http2.min_ping_interval_without_data_ms", 500),
     ("grpc.server_handshake_timeout_ms", 10000),
     ("grpc.so_reuseport", 0),
 ]
 
 GONE = pb.Told(gone=pb.Gone())
+AN_OPERATOR = "an operator"
 
 
 def fault_of(fault: labrun.LabrunError) -> Any:
@@ -55,8 +60,8 @@ def fault_of(fault: labrun.LabrunError) -> Any:
 class Client:
     """One client's stream. It is the owner of the session that it holds."""
 
-    def __init__(self, keeping: Keeping, context: Any) -> None:
-        self.keeping, self.context = keeping, context
+    def __init__(self, keeping: Kept, context: Any, person: str = "") -> None:
+        self.keeping, self.context, self.person = keeping, context, person
         self.session: Optional[Session] = None
         self.pace = Pace(keeping.bay.limits.requests)
         # what waits until it holds
@@ -128,7 +133,7 @@ class Client:
     async def _wish(self, asked: Any) -> None:
         if self.session is not None:
             raise BadWish("this stream holds a session, and is in one at a time: another needs a stream of its own")
-        wish, asks = wish_of(asked), list[Session]()
+        wish, asks = replace(wish_of(asked), person=self.person), list[Session]()
         # (at once: what follows may be answered later)
         check_form(wish, self.keeping.bay)
         self._waiting = self._starts(self._holds(wish, asks))
@@ -141,8 +146,8 @@ class Client:
         try:
             it = self.session = await self.keeping.hold(wish, self, asks.append)
             held = pb.Held(station=it.name, session=it.number, instruments=it.instruments, ticket=wish.ticket, token=it.token)
-            if (lease := self.keeping.lease) is not None:
-                held.grace, held.lease = self.keeping.grace, lease
+            if (lease := self.keeping.lease_of(it)) is not None:
+                held.grace, held.lease = self.keeping.grace_of(it), lease
             held.guards.update({name: at for name, at in self.keeping.bay.guards.items() if name in it.instruments})
             told = pb.Told(held=held)
         except labrun.LabrunError as fault:
@@ -155,7 +160,9 @@ class Client:
         said: Any = None
         said_at, span = 0.0, FIRST_WORD
         while not (await asyncio.wait({waiting}, timeout=span))[0]:
-            keepers, why, for_whom = Standings(self.keeping).for_whom(asks[0]) if asks else ([], "", ())
+            if asks and asks[0].state == "over":
+                return  # (it is told so once that is kept)
+            keepers, why, for_whom = self.keeping.for_whom(asks[0]) if asks else ([], "", ())
             now = time.monotonic()
             async with self._writing:
                 if self._waiting is waiting and asks and (for_whom != said or now > said_at + AGAIN):
@@ -194,106 +201,158 @@ class Client:
 
 
 class Service:
-    """The calls of the service. Who comes by the network gives the token, if there is one; who comes by the socket was let in by its
-    mode."""
+    """The calls of the service. Who comes by the network gives a token, if there is one; who comes by the socket was let in by its mode. Where
+    the bay names people, each is one of them, unless they only look at the socket."""
 
-    def __init__(self, keeping: Keeping, entrance: Entrance) -> None:
-        self.keeping, self.entrance = keeping, entrance
+    def __init__(self, keeping: Kept, entrance: Entrance, fronts: Optional[Fronts] = None) -> None:
+        self.keeping, self.entrance, self.fronts = keeping, entrance, fronts
 
-    async def _lets_in(self, context: Any) -> None:
-        """Whoever is told no by an abort gets no further."""
-        if not context.peer().startswith("unix:"):
-            given = next((value for key, value in context.invocation_metadata() if key == "authorization"), "")
-            await self._refuses_if(context, "UNAUTHENTICATED", self.entrance.is_unknown(str(given)))
+    def _caller(self, context: Any, looks: bool) -> Caller:
+        peer = context.peer()
+        given = next((value for key, value in context.invocation_metadata() if key == "authorization"), "")
+        if not peer.startswith("unix"):
+            return self.entrance.caller(str(given), False, looks=looks)
+        if self.fronts is not None and peer not in self.fronts.users:
+            raise NotLetIn(401, "its connection is over" if self.fronts.was_given(peer) else "this socket is the broker's own")
+        return self.entrance.caller(str(given), True, None if self.fronts is None else self.fronts.users[peer], looks)
+
+    @asynccontextmanager
+    async def _lets_in(self, context: Any, looks: bool = False) -> AsyncIterator[str]:
+        """The person's name, if there are people. Whoever is told no by an abort gets no further, now or when they are let in no more."""
+        try:
+            caller = self._caller(context, looks)
+            with self.entrance.present(caller):
+                yield caller.person
+        except NotLetIn as fault:
+            await self._refuses_if(context, "UNAUTHENTICATED", str(fault))
 
     async def _refuses_if(self, context: Any, code: str, why: Optional[str]) -> None:
         if why is not None:
             self.entrance.tells(context.peer(), why)
             await context.abort(getattr(grpc.StatusCode, code), why)
 
-    async def _paces(self, context: Any) -> None:
-        await self._lets_in(context)
-        await self._refuses_if(context, "RESOURCE_EXHAUSTED", self.entrance.is_too_fast(context.peer()))
+    @asynccontextmanager
+    async def _paces(self, context: Any, looks: bool = False) -> AsyncIterator[str]:
+        async with self._lets_in(context, looks) as person:
+            # (of all that come by the sockets, together)
+            peer = "unix:" if context.peer().startswith("unix") else context.peer()
+            await self._refuses_if(context, "RESOURCE_EXHAUSTED", self.entrance.is_too_fast(peer))
+            yield person
+
+    def _by(self, wish: Any) -> str:
+        return str(wish.by[: self.keeping.bay.limits.name])
 
     async def Hold(self, _: Any, context: Any) -> None:
-        await self._lets_in(context)
-        await self._refuses_if(context, "RESOURCE_EXHAUSTED", self.entrance.is_full())
-        self.entrance.clients += 1
-        try:
-            # (so that the client knows that it is in)
-            await context.send_initial_metadata(())
-            await Client(self.keeping, context).talk()
-        finally:
-            self.entrance.clients -= 1
+        async with self._lets_in(context) as person:
+            await self._refuses_if(context, "RESOURCE_EXHAUSTED", self.entrance.is_full())
+            self.entrance.clients += 1
+            try:
+                # (so that the client knows that it is in)
+                await context.send_initial_metadata(())
+                await Client(self.keeping, context, person).talk()
+            finally:
+                self.entrance.clients -= 1
 
     async def Status(self, _: Any, context: Any) -> Any:
-        await self._paces(context)
-        return pb.Bay(**self.keeping.status())
+        async with self._paces(context, looks=True):
+            return pb.Bay(**self.keeping.status())
 
     async def Watch(self, _: Any, context: Any) -> AsyncIterator[Any]:
-        await self._paces(context)
-        yield pb.Bay(**self.keeping.status())
-        async for _ in self.keeping.changes():
-            await asyncio.sleep(WATCH)
+        async with self._paces(context, looks=True):
             yield pb.Bay(**self.keeping.status())
+            async for _ in self.keeping.changes():
+                await asyncio.sleep(WATCH)
+                yield pb.Bay(**self.keeping.status())
 
     async def Guard(self, wish: Any, context: Any) -> AsyncIterator[Any]:
-        await self._paces(context)
-        if (why := guarding.why_not(self.keeping, wish)) is not None:
-            await context.abort(grpc.StatusCode.FAILED_PRECONDITION, why)
-        async for told in guarding.holders(self.keeping, tuple(wish.instruments)):
-            yield told
+        async with self._paces(context):
+            if (why := guarding.why_not(self.keeping, wish)) is not None:
+                await context.abort(grpc.StatusCode.FAILED_PRECONDITION, why)
+            async for told in guarding.holders(self.keeping.with_all(wish.instruments), tuple(wish.instruments)):
+                yield told
 
     async def Release(self, wish: Any, context: Any) -> Any:
-        await self._paces(context)
-        by = wish.by[: self.keeping.bay.limits.name] or "an operator"
-        return pb.Released(instruments=await _answer(context, self.keeping.release(wish.station, by, wish.session)))
-
+        async with self._paces(context) as person:
+            by = self._by(wish) or ("" if person else AN_OPERATOR)
+            return pb.Released(instruments=await _answer(context, self.keeping.release(wish.station, by, wish.session, person, wish.bay)))
 
     async def Apply(self, wish: Any, context: Any) -> Any:
-        await self._paces(context)
-        by = wish.by[: self.keeping.bay.limits.name] or "an operator"
-        return pb.Applied(changes=await _answer(context, apply(self.keeping, wish.bay, by, wish.only_check)))
+        async def applies(person: str) -> list[str]:
+            if not wish.only_check:
+                check_operator(self.keeping.bay, person, "change the bay")
+            return await lab_applying.applies(self.keeping, wish, people.told(person, self._by(wish)) or AN_OPERATOR)
+
+        async with self._paces(context) as person:
+            return pb.Applied(changes=await _answer(context, applies(person), unwritten=grpc.StatusCode.INTERNAL))
 
     async def Outage(self, wish: Any, context: Any) -> Any:
-        await self._paces(context)
-        by = wish.by[: self.keeping.bay.limits.name] or "an operator"
-        does = disable(self.keeping, wish.instrument, wish.why, by) if wish.HasField("why") else enable(self.keeping, wish.instrument, by)
-        await _answer(context, does)
-        return pb.Noted()
+        async def does(person: str) -> None:
+            by, is_out = people.told(person, self._by(wish)) or AN_OPERATOR, wish.HasField("why")
+            check_operator(self.keeping.bay, person, f"{'disable' if is_out else 'enable'} {wish.instrument[:64]}")
+            home = self.keeping.with_instrument(wish.instrument)
+            await (disable(home, wish.instrument, wish.why, by) if is_out else enable(home, wish.instrument, by))
+
+        async with self._paces(context) as person:
+            await _answer(context, does(person))
+            return pb.Noted()
 
 
-async def _answer(context: Any, work: Awaitable[Any]) -> Any:
+async def _answer(context: Any, work: Awaitable[Any], unwritten: Any = grpc.StatusCode.DATA_LOSS) -> Any:
     try:
         return await work
+    except NotAllowed as fault:
+        await context.abort(grpc.StatusCode.PERMISSION_DENIED, str(fault))
     except labrun.NotHeld as fault:
         await context.abort(grpc.StatusCode.FAILED_PRECONDITION, str(fault))
+    except NoInstrument as fault:
+        await context.abort(grpc.StatusCode.INVALID_ARGUMENT, str(fault))
     except BadWish as fault:
         await context.abort(grpc.StatusCode.NOT_FOUND, str(fault))
+    except labrun.JournalError as fault:
+        await context.abort(unwritten, str(fault))
     except (labrun.LabrunError, OSError) as fault:
         await context.abort(grpc.StatusCode.INTERNAL, str(fault))
 
 
-async def start(keeping: Keeping, door: Door, entrance: Optional[Entrance] = None) -> Any:
+class Running:
+    """The server of gRPC, and what stands before its sockets."""
+
+    def __init__(self, server: Any, fronts: Optional[Fronts]) -> None:
+        self._server, self._fronts = server, fronts
+
+    async def stop(self, grace: Optional[float]) -> None:
+        if self._fronts is not None:
+            self._fronts.takes_no_more()
+        await self._server.stop(grace)
+        if self._fronts is not None:
+            await self._fronts.close()
+
+
+async def start(keeping: Kept, door: Door, entrance: Optional[Entrance] = None) -> Running:
     """The server, which has begun to listen. BadAddress and OSError say why it can't."""
     door.check()
-    service, credentials = Service(keeping, entrance or Entrance(keeping, door.token())), door.credentials()
+    fronts = Fronts() if keeping.bay.people else None
+    service, credentials = Service(keeping, entrance or Entrance(keeping, door.token()), fronts), door.credentials()
+    within = {it: it + WITHIN if fronts is not None and it.startswith("unix:") else it for it in door.addresses}
     # (a server of gRPC that is made and not started may keep the program from ending, so all is looked at before)
-    for address in door.addresses:
+    for address in {*within, *within.values()}:
         check_free(address)
     asyncio.get_running_loop().set_exception_handler(Complaints())
     server = grpc.aio.server(options=OPTIONS)
     server.add_generic_rpc_handlers((_methods(service),))
-    with for_the_group():
-        for address in door.addresses:
+    with for_the_group() if fronts is None else for_its_user():
+        for address in within.values():
             is_socket = address.startswith("unix:")
             bound = server.add_secure_port(address, credentials) if credentials and not is_socket else server.add_insecure_port(address)
             if not bound:
                 raise BadAddress(f"{address}: it can't listen there")
-            if is_socket:
+            if is_socket and fronts is None:
                 give(address.removeprefix("unix:"), door.group)
         await server.start()
-    return server
+    for address in within:
+        if fronts is not None and address.startswith("unix:"):
+            await fronts.listens(address.removeprefix("unix:"), door.group)
+    return Running(server, fronts)
 
 
 def _methods(service: Service) -> Any:

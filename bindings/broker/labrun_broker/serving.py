@@ -3,6 +3,7 @@
 from __future__ import annotations
 
 import asyncio
+import contextlib
 import logging
 import os
 import re
@@ -105,14 +106,32 @@ def limited(server: web.Server, silent: set[Any], more: int) -> Callable[[], asy
     return new
 
 
+def file_at(path: str) -> Optional[tuple[int, int]]:
+    """Which one is there."""
+    try:
+        it = os.lstat(path)
+    except OSError:
+        return None
+    return it.st_dev, it.st_ino
+
+
+Address = Union[str, tuple[str, int]]
+
+
 class Served:
     """A server that runs, until `cleanup`."""
 
-    def __init__(self, runner: web.AppRunner, listener: asyncio.AbstractServer) -> None:
+    def __init__(self, runner: web.AppRunner, listener: asyncio.AbstractServer, at: Address) -> None:
         self._runner, self._listener = runner, listener
+        self._path = at if isinstance(at, str) else ""
+        self._file = file_at(self._path)
         self.sockets = listener.sockets  # type: ignore[attr-defined]
 
     async def cleanup(self) -> None:
+        # (not a socket that somebody else made there meanwhile)
+        if self._file is not None and file_at(self._path) == self._file:
+            with contextlib.suppress(OSError):
+                os.unlink(self._path)
         self._listener.close()
         await self._runner.shutdown()
         if self._runner.server is not None:
@@ -127,9 +146,6 @@ async def serve(app: web.Application, address: str, group: Optional[str] = None)
     return await served(app, at, group)
 
 
-Address = Union[str, tuple[str, int]]
-
-
 async def served(app: web.Application, at: Address, group: Optional[str], tls: Optional[ssl.SSLContext] = None, more: int = 0) -> Served:
     """As `serve`, wherever it is, to so many more connections."""
     app[IS_TCP], app[SILENT] = not isinstance(at, str), set()
@@ -138,7 +154,7 @@ async def served(app: web.Application, at: Address, group: Optional[str], tls: O
     await runner.setup()
     assert runner.server is not None
     try:
-        return Served(runner, await listener_at(at, group, limited(runner.server, app[SILENT], more), tls))
+        return Served(runner, await listener_at(at, group, limited(runner.server, app[SILENT], more), tls), at)
     except BaseException:
         await runner.cleanup()
         raise

@@ -180,6 +180,13 @@ def files_in(folder: str) -> list[str]:
     return [os.path.join(folder, name) for name in (*(name for _, name in found), *(["records.jsonl"] if "records.jsonl" in names else []))]
 
 
+def bays_in(folder: str) -> list[str]:
+    """The names of the bays of a lab whose folders are in this one, if it is that of a lab."""
+    if files_in(folder):
+        return []
+    return sorted(name for name in os.listdir(folder) if os.path.isdir(f"{folder}/{name}") and files_in(f"{folder}/{name}"))
+
+
 def read_records(folder: str) -> tuple[list[Record], list[str]]:
     """All records of a state folder, and a line for each file in which some aren't whole."""
     records: list[Record] = []

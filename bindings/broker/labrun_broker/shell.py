@@ -49,6 +49,8 @@ class Shell:
         self._is_syncing = self._is_urgent = self._takes_all = self._is_closed = False
         self._took_all_at = self._loop.time()
         self.path = "" if store is None else store.path
+        # (a store that isn't a file says so)
+        self.where = str(getattr(store, "where", "on the disk"))
         # why a write failed, until that is mended; and the same until all is written; and how many did
         self.fault: Optional[Exception] = None
         self._last_fault: Optional[Exception] = None
@@ -295,13 +297,18 @@ class Shell:
         finally:
             self._waiting.remove(one)
 
+    @property
+    def what(self) -> str:
+        """Where all is kept: the disk, or etcd."""
+        return self.where.partition(" ")[2]
+
     def why(self) -> JournalError:
         """Why something isn't on the disk."""
-        return JournalError(self.path, f"it isn't on the disk after {DISK:g} s: {self._because()}")
+        return JournalError(self.path, f"it isn't {self.where} after {DISK:g} s: {self._because()}")
 
     def _because(self) -> str:
         it = self._last_fault
-        return "the disk doesn't answer" if it is None else f"a write failed ({getattr(it, 'strerror', None) or it})"
+        return f"{self.what} doesn't answer" if it is None else f"a write failed ({getattr(it, 'strerror', None) or it})"
 
     def _is_wrong_since(self, moment: int) -> None:
         if self.wrong_since is None:

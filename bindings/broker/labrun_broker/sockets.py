@@ -1,4 +1,4 @@
-"""Unix sockets to listen at: who may use them, and what becomes of those that a broker left which is gone."""
+"""Sockets to listen at: of Unix sockets who may use them, and what becomes of those that a broker left which is gone; of all others TLS."""
 
 from __future__ import annotations
 
@@ -7,6 +7,7 @@ import grp
 import os
 import shutil
 import socket
+import ssl
 import stat
 from typing import Iterator, Optional, Union
 
@@ -23,6 +24,16 @@ def parsed(text: str) -> Union[str, tuple[str, int]]:
     if int(port) > 65535:
         raise BadAddress(f"{text}: it can't listen there: a port is 65535 at most")
     return host.strip("[]"), int(port)
+
+
+def tls_of(certificate: str, key: str) -> ssl.SSLContext:
+    """BadAddress: these files are no certificate and its key."""
+    made = ssl.SSLContext(ssl.PROTOCOL_TLS_SERVER)
+    try:
+        made.load_cert_chain(certificate, key)
+    except ssl.SSLError as fault:
+        raise BadAddress(f"{certificate} and {key} are no certificate and its key: {fault.reason or fault}") from None
+    return made
 
 
 def family_of(host: str) -> socket.AddressFamily:

@@ -4,13 +4,16 @@ from __future__ import annotations
 
 import argparse
 import asyncio
+import contextlib
 import os
 import socket
-from typing import TYPE_CHECKING, Any, Callable, Optional
+import time
+from dataclasses import replace
+from typing import TYPE_CHECKING, Any, Callable, NamedTuple, Optional
 
 from labrun import LabrunError
 
-from .bay import BadAddress, Bay
+from .bay import BadAddress, Bay, BayFault, read_bay
 from .sockets import parsed
 from .words import NOT_WRITTEN, say, tell_systemd
 
@@ -78,11 +81,17 @@ def listens_at(addresses: tuple[str, ...]) -> str:
     return f"{socket.gethostname()}, {addresses[0]}"
 
 
-async def until_it_leads(
-    args: argparse.Namespace, bay: Bay, door: Door, end: asyncio.Event
-) -> tuple[str, Optional[Callable[[str, bool], State]]]:
-    """What its keeping is opened with; nothing, if the broker is ended before it leads."""
-    from .leading import Leading
+class Led(NamedTuple):
+    """What the keeping of one that leads is opened with; and what is to be told of its bay, if that isn't of its own file."""
+
+    bay: Bay
+    opens: Callable[[str, bool], State]
+    says: list[str]
+
+
+async def until_it_leads(args: argparse.Namespace, bay: Bay, door: Door, end: asyncio.Event) -> Optional[Led]:
+    """None: the broker is ended before it leads."""
+    from .leading import Leading, file_mark
     from .replica import Replica
 
     file = records_in(args.state, args.sync == "data")
@@ -93,9 +102,18 @@ async def until_it_leads(
     if not leads.done():
         await asyncio.to_thread(leading.close)
     if not await leads:
-        return "", None
+        return None
     ended.cancel()
-    return args.etcd, lambda *_: Replica(leading, file)
+    applied = await asyncio.to_thread(leading.applied)
+    if applied is None:
+        # (who may come is as the file has it by now: it may be long since it was read)
+        return Led(replace(bay, people=read_bay(args.bay).people), lambda *_: Replica(leading, file), [])
+    it, its_bay = applied
+    with contextlib.suppress(BayFault, OSError):
+        bay = read_bay(args.bay)
+    at = time.strftime("%Y-%m-%d %H:%M", time.localtime(it.at))
+    says = [f"it goes by the bay that was applied by {it.by}, {at}, and {args.bay} is another one: to go by that, apply it"]
+    return Led(its_bay, lambda *_: Replica(leading, file), says if file_mark(bay) != it.mark else [])
 
 
 def stands_by(text: str) -> None:

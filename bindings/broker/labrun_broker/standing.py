@@ -9,14 +9,14 @@ import itertools
 import math
 import operator
 import time
-from dataclasses import dataclass
+from dataclasses import dataclass, field
 from typing import TYPE_CHECKING, Any, Iterable, Optional, Protocol
 
 from labrun.machine import HOLDS, WAITS
 
 from .journals import notes_of
 from .places import bits_of
-from .texts import span
+from .texts import counted, span
 from .wishes import Wish
 
 if TYPE_CHECKING:
@@ -25,7 +25,9 @@ if TYPE_CHECKING:
     from .keeping import Keeping
 
 
-GONE, ON_DISK = "gone for", "once that is on the disk"
+GONE, ONCE = "gone for", "once that is"
+# the state of a session that is over for its client, while what it had is made safe (making_safe.py)
+ENDING = "ending"
 SHOWN = 8  # guests in a text
 
 
@@ -41,8 +43,8 @@ class Owner(Protocol):
 
 @dataclass(eq=False)
 class Session:
-    """What a client asked for, until it is over. `state` is waiting, holding, gone (it holds, and its client isn't there) or over; moments
-    are the bay's. `told` is done once the client may be told that it holds."""
+    """What a client asked for, until it is over. `state` is waiting, holding, gone (it holds, and its client isn't there), ending or over;
+    moments are the bay's. `told` is done once the client may be told that it holds."""
 
     number: int
     name: str
@@ -57,6 +59,8 @@ class Session:
     by: Optional[str] = None
     note: Optional[str] = None
     taken_by: str = ""
+    # whose it is, where the bay names people
+    person: str = ""
     gone_at: Optional[int] = None
     # since when it waits, or holds; and its token, once it holds
     since: int = 0
@@ -68,6 +72,16 @@ class Session:
     # for how long it may hold while others wait for what it has, in seconds; and when its client is warned of the end
     limit: Optional[float] = None
     warning: Optional[asyncio.TimerHandle] = None
+    # whether one of its instruments had a command as it asked: then the broker ends it, and not the machine
+    is_followed: bool = False
+    # whether it is kept when its client is gone, as its client was told
+    is_kept: bool = False
+    # how it ended, which commands still run, since when, and what ends with them
+    ended: str = ""
+    unsafe: dict[str, int] = field(default_factory=dict)
+    safe: Optional[asyncio.Future[None]] = None
+    # the bay that it is in
+    home: Optional[Keeping] = None
 
     @property
     def holds(self) -> bool:
@@ -80,8 +94,18 @@ class Session:
 
     def in_a_new_file(self) -> list[bytes]:
         """What the journal's next file has to say of it, for it holds."""
-        by = notes_of("by", f"{self.name} {self.by or ''}")
-        return by if self.note is None else [*by, *notes_of("note", self.note)]
+        its = [*self.about(), ("note", self.note), ("over", self.ended or None)]
+        return [note for word, text in its if text is not None for note in notes_of(word, text)]
+
+    def about(self) -> list[tuple[str, str]]:
+        """What the journal's notes say of it once it holds: words and texts."""
+        its = [("by", f"{self.name} {self.by or ''}"), ("person", self.person or None), ("limit", self.own_limit)]
+        return [(word, text) for word, text in its if text is not None]
+
+    @property
+    def own_limit(self) -> Optional[str]:
+        """In milliseconds, if the machine doesn't know it."""
+        return str(math.ceil(self.limit * 1000)) if self.is_followed and self.limit is not None else None
 
     def stops_looking(self) -> None:
         """Whether its client is silent doesn't matter any more."""
@@ -109,6 +133,7 @@ class Standings:
                 self.holders.append((session, it.needs, it.since))
             elif it.what == WAITS:
                 self.waiters.append((session, it.since))
+        self._places = {session.number: place for place, (session, _) in enumerate(self.waiters, 1)}
         # for each instrument, by its bit: who holds it, and since when
         self._held = {bit: (session, since) for session, needs, since in self.holders for bit in bits_of(needs)}
         self._holding = {session.number: needs for session, needs, _ in self.holders}
@@ -153,42 +178,74 @@ class Standings:
             return self._is_taken(session)
         return ", ".join(it["text"] for it in self.keepers(session)) or "nobody keeps it any more"
 
+    def instead(self, name: str) -> str:
+        """What a station, or a guest, does that holds nothing: it may wait, and no release ends that."""
+        its = [it for it, _ in self.waiters if it.name == name]
+        if not its:
+            return ""
+        one, others = its[0], len(its) - 1
+        more = f"; {others} more {'wait' if others > 1 else 'waits'} as {name}" if others else ""
+        text = f": it waits for {' '.join(one.instruments)}{f' ({one.by})' if one.by else ''}: {self.why(one)}{more}"
+        return f"{text}. To end that, end its client, as by Ctrl-C there: it leaves the line"
+
     def for_whom(self, session: Session) -> tuple[list[dict[str, Any]], str, tuple[Any, ...]]:
         """Whom a session waits for, as a text, too; and what of that has to change before it is told again."""
         keepers, why = self.keepers(session), self.why(session)
         who = tuple((it["instrument"], it["station"], it["holds"]) for it in keepers)
-        return keepers, why, (who, self.is_full(session.kind), self._holds(session) and why, why.count(GONE), why.count(ON_DISK))
+        return keepers, why, (who, self.is_full(session.kind), self._holds(session) and why, why.count(GONE), why.count(ONCE))
 
     def _name(self, bit: int) -> str:
         return self._keeping.places.instruments[bit]
 
     def _is_held(self, bit: int, holder: Session, since: int) -> str:
+        if holder.state == ENDING:
+            return self._is_made_safe(self._name(bit), holder)
         if self._wrong and self._is_untold(holder):
             return f"{self._name(bit)} is {holder.name}'s {self._once_written()}"
         return f"{self._name(bit)} is held by {holder.name} for {self._for(since)}{self._about(holder)}"
 
+    def _is_made_safe(self, name: str, of: Session) -> str:
+        after = f"after session {of.number} of {of.name}" + (f" ({of.by})" if of.by else "")
+        if name in of.unsafe:
+            return f"{name} is being made safe for {self._for(of.unsafe[name])} {after}"
+        return f"{name} is free once {' and '.join(of.unsafe) or 'that is written'} is made safe {after}"
+
     def _once_written(self) -> str:
-        return ON_DISK + (f" ({self._wrong})" if self._wrong else "")
+        return f"{ONCE} {self._keeping.kept_where}" + (f" ({self._wrong})" if self._wrong else "")
 
     def _is_kept(self, bit: int, other: Session) -> str:
-        ends = [(it, *self._held[it]) for it in bits_of(other.wanted) if it in self._held]
-        because = [f"{self._name(it)}, held by {who.name} for {self._for(since)}{self._about(who)}" for it, who, since in ends]
-        return f"{self._name(bit)} is kept for {other.name}" + (f", which waits for {', '.join(because)}" if because else "")
+        """Also why, and until when: and for what that one waits, down to the one that holds it."""
+        passed = self._line(other)["passed"]
+        first = f"{counted(passed, 'other')} went before it" if passed else "it asked first"
+        text = f"{self._name(bit)} is kept for {other.name} until it holds, since {first}"
+        return text + (f" and it waits for {' and '.join(ends)}" if (ends := self._ends(other)) else "")
+
+    def _ends(self, other: Session) -> list[str]:
+        """What keeps one waiting, told of each instrument: who holds it; or, if nobody holds any, for whom it is kept."""
+        held = [self._is_held(it, *self._held[it]) for it in bits_of(other.wanted) if it in self._held]
+        if not held:
+            by = [(it, self._keeping.machine.keeper(other.number, it)) for it in bits_of(other.wanted)]
+            kept = [(it, self._keeping.by_number.get(who.number)) for it, who in by if who is not None]
+            held = [f"{self._name(it)} is kept for {who.name}" for it, who in kept if who is not None]
+        return [it.replace(" is ", ", ", 1) for it in held]
 
     def _is_taken(self, session: Session) -> str:
         of = [other for other, _, _ in self.holders if other.kind == session.kind]
+        if session.kind and of[0].state == ENDING:
+            return f"{session.name} is in one session at a time, and {self._is_made_safe(of[0].instruments[0], of[0])}"
         if session.kind:
             return f"{session.name} is in a session of {of[0].by or 'somebody'}, and is in one at a time{self._about(of[0], is_named=True)}"
         its = [f"{it.name} by {it.by or 'somebody'}{self._about(it, is_named=True)}" for it in of[:SHOWN]]
         more = [f"and {len(of) - SHOWN} more"] if len(of) > SHOWN else []
-        return f"all {len(of)} guests of the bay are taken: {', '.join([*its, *more])} (guests.count says how many hold at once)"
+        all_of = f"all {len(of)} places for guests are" if len(of) > 1 else "the only place for a guest is"
+        return f"{all_of} taken: {', '.join([*its, *more])} (guests.count says how many hold at once)"
 
     def _about(self, holder: Session, is_named: bool = False) -> str:
         """Who that is, and what somebody has to do if its client is gone."""
         parts = [] if is_named or not holder.by else [holder.by]
         if holder.gone_at is not None:
             see = f"see to it, and then run labrun-broker release {holder.name} --session {holder.number}"
-            does = see if math.isinf(self._keeping.grace) else f"it is released after {self._keeping.grace:g} s"
+            does = see if holder.is_kept else f"it is released after {self._keeping.its_grace:g} s"
             parts.append(f"{GONE} {self._for(holder.gone_at)}: {does}")
         return f" ({', '.join(parts)})" if parts else ""
 
@@ -219,6 +276,7 @@ class Standings:
             "version": 2,
             "disk": self._wrong,
             "disk_since": self.when(self._wrong_since),
+            "overtakes": keeping.overtakes,
         }
 
     def _instrument(self, name: str, waiting: dict[int, list[str]]) -> dict[str, Any]:
@@ -227,6 +285,7 @@ class Standings:
         bay, out = self._keeping.bay, self._keeping.places.out.get(name)
         row: dict[str, Any] = {"name": name, "label": bay.labels.get(name, ""), "tags": [tag for tag, its in bay.tags.items() if name in its]}
         row |= {"holder": None if holder is None else holder.name, "since": self.when(since), "waiting": waiting.get(bit, [])}
+        row["being_made_safe"] = self.when(holder.unsafe.get(name)) if holder is not None else None
         return {**row, "out": None if out is None else out.why, "out_since": out and out.since, "out_by": out and out.by}
 
     def _rows(self) -> tuple[list[dict[str, Any]], list[dict[str, Any]]]:
@@ -236,7 +295,8 @@ class Standings:
         for session, since in self.waiters:
             if session.name in of or self.is_full(session.kind):
                 station = session.name if session.kind else ""
-                in_line.append({"station": station, "instruments": list(session.instruments), "by": session.by, "since": self.when(since)})
+                row = {"station": station, "instruments": list(session.instruments), "by": session.by, "since": self.when(since)}
+                in_line.append({**row, **self._line(session)})
             else:
                 of[session.name] = session, since
         usual = (*self._keeping.bay.stations, *self._keeping.bay.guest_names)
@@ -244,16 +304,23 @@ class Standings:
 
     def _row(self, name: str, of: Optional[tuple[Session, int]]) -> dict[str, Any]:
         session, since = of or (None, self._keeping.idle_since.get(name, self._keeping.opened_at))
+        since = session.since if session is not None and session.state == ENDING else since
         row = {"name": name, "state": "idle", "instruments": [], "since": self.when(since), "by": None, "note": None, "gone_since": None}
         if session is None:
-            return {**row, "session": None, "token": None, "waits_for": []}
+            return {**row, "session": None, "token": None, "place": None, "passed": None, "waits_for": []}
         state = session.state
         if self._is_untold(session):
             # (it is at its instruments as good as ever, unless the disk keeps it from them)
             state = "waiting" if self._wrong else "holding"
         row |= {"state": state, "instruments": list(session.chosen(self._holding.get(session.number, 0))), "by": session.by, "note": session.note}
-        row |= {"gone_since": self.when(session.gone_at), "session": session.number, "token": session.token or None}
+        row |= {"gone_since": self.when(session.gone_at), "session": session.number, "token": session.token or None, **self._line(session)}
         return {**row, "waits_for": self.keepers(session) if state == "waiting" else []}
+
+    def _line(self, session: Session) -> dict[str, Optional[int]]:
+        """Its place among all that wait; and how many were let in since it asked that need what it does, at the set where these are most."""
+        waits = (self._keeping.machine.waits(session.number, at) for at in range(len(session.sets)))
+        place = self._places.get(session.number)
+        return {"place": place, "passed": None if place is None else max((it[1] for it in waits if it is not None), default=0)}
 
     def _holds(self, session: Session) -> bool:
         return session.number in self._holding

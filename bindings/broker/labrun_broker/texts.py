@@ -3,6 +3,7 @@
 from __future__ import annotations
 
 import argparse
+import math
 import re
 from typing import Optional
 
@@ -37,26 +38,51 @@ def aligned(rows: list[list[str]]) -> list[str]:
 # how arguments are typed
 
 
+BELOW = "below 1000000000"
+
+
 def seconds(text: str) -> float:
-    value = float(text)
+    value = _number(text)
     if not 0 <= value < 1e9:
-        raise argparse.ArgumentTypeError(f"{text} is no number of seconds")
+        raise argparse.ArgumentTypeError(f"{text!r} is no number of seconds, 0 or more and {BELOW}")
     return value
 
 
 def mebibytes(text: str) -> int:
     """So many MiB, in bytes."""
-    value = float(text)
+    value = _number(text)
     if not 0.001 <= value <= 1 << 20:
-        raise argparse.ArgumentTypeError(f"{text} is no number of MiB from 0.001 to {1 << 20}")
+        raise argparse.ArgumentTypeError(f"{text!r} is no number of MiB from 0.001 to {1 << 20}")
     return int(value * (1 << 20))
 
 
 def last(text: str) -> float:
-    """A span of the past: 90, 30s, 15min, 4h, 2d."""
-    if (found := span_of(text)) is None:
-        raise argparse.ArgumentTypeError(f"{text!r} is no span: write 90, 30s, 15min, 4h or 2d")
+    """A span: 90, 30s, 15min, 4h, 2d."""
+    found = span_of(text)
+    if found is None or not 0 < found < 1e9:
+        raise argparse.ArgumentTypeError(f"{text!r} is no span of more than 0 and {BELOW} s: write 90, 30s, 15min, 4h or 2d")
     return found
+
+
+def session(text: str) -> int:
+    """The number of one."""
+    if not text.isascii() or not text.isdigit() or not 0 < int(text) < 1 << 64:
+        raise argparse.ArgumentTypeError(f"{text!r} is no number of a session, 1 or more")
+    return int(text)
+
+
+def address(text: str) -> str:
+    """(What is wrong with another one is said when it is asked.)"""
+    if not text:
+        raise argparse.ArgumentTypeError("an address is wanted, as unix:PATH or HOST:PORT")
+    return text
+
+
+def _number(text: str) -> float:
+    try:
+        return float(text)
+    except ValueError:
+        return math.nan
 
 
 def span_of(text: str) -> Optional[float]:

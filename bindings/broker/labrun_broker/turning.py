@@ -44,6 +44,8 @@ class Turns:
         self.records: Optional[Written] = None
         self.classes: Callable[[], Classes] = tuple
         self.notes: Callable[[], Iterable[tuple[int, bytes]]] = tuple
+        # called once a new file stands, and what was given meanwhile is in it
+        self.stood: Callable[[], None] = lambda: None
         self._wish: Optional[Wish] = None
         # how far the journal was when the records were synced last; what a file has that just began; and from which size on a bay is made quiet
         self._recorded, self._least, self._hushes_at = -1, 0, 0
@@ -111,7 +113,7 @@ class Turns:
 
     def _gives_up(self, gate: asyncio.Event) -> None:
         if self._gate is gate:
-            self._opens("the bay has no quiet moment, or the disk doesn't answer: nothing has changed")
+            self._opens(f"the bay has no quiet moment, or {self._shell.what} doesn't answer: nothing has changed")
 
     def _opens(self, why: str = "") -> None:
         gate, self._gate = self._gate, None
@@ -180,3 +182,4 @@ class Turns:
         self.count, self._least, self._hushes_at = self.count + 1, len(text), 0
         self._made.set()
         self._shell.has_file(self._base, text)
+        self.stood()

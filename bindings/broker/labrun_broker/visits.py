@@ -14,10 +14,11 @@ from typing import Any, Callable, Iterator, Optional
 
 from labrun import LabrunError, NotHeld, Stopped
 
-from .entrance import Entrance, NotLetIn
-from .keeping import Keeping
-from .standing import Session, Standings
-from .wishes import Ended, Wish, owner_of
+from .bays import Kept
+from .entrance import UNKNOWN, Caller, Entrance, NotLetIn
+from .rights import check_same
+from .standing import Session
+from .wishes import Ended, Wish, check_asked_again, owner_of
 
 QUIET, CUT = 15.0, 2.0  # seconds
 # how often a client is to say that it is there: so often in that time, and so often in its lease
@@ -36,8 +37,10 @@ WAITING, HOLDING, OVER = "waiting", "holding", "over"
 class Visit:
     """One client, until its session is over or it is gone. It is the owner of the session that it holds."""
 
-    def __init__(self, visits: Visits, key: Key, wish: Wish) -> None:
+    def __init__(self, visits: Visits, key: Key, wish: Wish, caller: Caller) -> None:
         self.wish, self.state, self.key = wish, WAITING, key
+        # whose the last request was
+        self.caller = caller
         # once it is in the line; and why it is over
         self.session: Optional[Session] = None
         self.fault: Optional[LabrunError] = None
@@ -118,7 +121,7 @@ class Visit:
         if self.state == WAITING:
             self._holding.cancel()
             self._ends(Ended("NotHeld", "its client wasn't heard while it waited, and so it left the line"))
-        elif self._keeping.lease is None:
+        elif self.session is None or self._keeping.lease_of(self.session) is None:
             self._is_gone(Ended("NotHeld", "its client is gone"))
 
     def _is_gone(self, why: LabrunError) -> None:
@@ -130,9 +133,12 @@ class Visit:
 
     async def closes(self) -> None:
         """The broker ends."""
-        self._is_gone(Stopped("the broker ends"))
-        self._holding.cancel()
+        self.is_cut_off(Stopped("the broker ends"))
         await asyncio.wait({self._holding})
+
+    def is_cut_off(self, why: LabrunError) -> None:
+        self._is_gone(why)
+        self._holding.cancel()
 
     # ---- what it asks
 
@@ -155,7 +161,17 @@ class Visit:
         return MOST_WAIT if lease is None else min(MOST_WAIT, lease / PART_OF_LEASE)
 
     async def notes(self, text: str) -> None:
-        await self._keeping.note(self._held(), self, text)
+        with self._as_it_ended():
+            await self._keeping.note(self._held(), self, text)
+
+    @contextlib.contextmanager
+    def _as_it_ended(self) -> Iterator[None]:
+        """Whose session is taken away while it asks is told that."""
+        try:
+            yield
+        except NotHeld:
+            self.raises()
+            raise
 
     def _held(self) -> Session:
         self.raises()
@@ -170,7 +186,8 @@ class Visit:
             await asyncio.wait({self._holding})
         if self.state == HOLDING:
             limit = self._keeping.bay.limits.note
-            await self._keeping.let_go(self._held(), self, None if failed is None else failed[:limit])
+            with self._as_it_ended():
+                await self._keeping.let_go(self._held(), self, None if failed is None else failed[:limit])
             self._ends(Ended("LetGo", "the session has let go"))
 
     def raises(self) -> None:
@@ -179,51 +196,70 @@ class Visit:
 
     def shown(self) -> dict[str, Any]:
         """As it is told: always with the same keys."""
-        it, waits, lease = self.session, self.state == WAITING, self._keeping.lease if self.state == HOLDING else None
-        keepers, why, _ = Standings(self._keeping).for_whom(it) if waits and it is not None else ([], "", ())
+        it, waits, lease = self.session, self.state == WAITING, None
+        if self.state == HOLDING and it is not None:
+            lease = self._keeping.lease_of(it)
+        keepers, why, _ = self._keeping.for_whom(it) if waits and it is not None else ([], "", ())
         about: dict[str, Any] = {"state": self.state, "ticket": self.wish.ticket, "station": it and it.name, "session": it and it.number}
         about |= {"token": it.token if it is not None and self.state == HOLDING else None, "warning": self.warning}
         about |= {"instruments": list(it.instruments) if it else [], "text": why, "waits_for": keepers}
         beat = QUIET / BEATS_OF_QUIET if lease is None else lease / BEATS_OF_LEASE
-        return {**about, "grace": None if lease is None else self._keeping.grace, "lease": lease, "ping": round(beat, 3)}
+        return {**about, "grace": None if lease is None or it is None else self._keeping.grace_of(it), "lease": lease, "ping": round(beat, 3)}
 
 
 class Visits:
     """All of them, by their tickets' hashes."""
 
-    def __init__(self, keeping: Keeping, entrance: Entrance) -> None:
+    def __init__(self, keeping: Kept, entrance: Entrance) -> None:
         self.keeping, self.entrance = keeping, entrance
         self._of: dict[Key, Visit] = {}
         # what became of the last ones that asked here, so that they can be told (of those that held, Keeping knows more)
         self._ends: dict[Key, LabrunError] = {}
+        entrance.looks_again.append(self._looks_again)
 
-    async def asks(self, wish: Wish) -> Visit:
+    def _looks_again(self) -> None:
+        """Who isn't let in any more."""
+        for visit in list(self._of.values()):
+            if (why := self.entrance.why_not(visit.caller)) is not None:
+                visit.is_cut_off(NotLetIn(UNKNOWN, why))
+
+    async def asks(self, wish: Wish, caller: Caller) -> Visit:
         """Whoever sends its wish once more, because no answer came, has still its place in the line."""
         key = owner_of(wish.ticket)
-        visit = self._of.get(key)
+        visit = self._visit(key, caller)
+        if visit is not None and visit.state == HOLDING and visit.session is not None:
+            check_asked_again(wish, visit.session.instruments, self.keeping.bay)
         if visit is None or visit.state == WAITING and visit.wish != wish:
-            visit = self._comes(key, wish)
+            visit = self._comes(key, wish, caller)
         await visit.begins()
         return visit
 
-    async def of(self, ticket: str) -> Visit:
+    def _visit(self, key: Key, caller: Caller) -> Optional[Visit]:
+        """NotAllowed: it is of somebody else."""
+        visit = self._of.get(key)
+        if visit is not None:
+            check_same(self.keeping.bay, caller.person, visit.wish.person)
+            visit.caller = caller
+        return visit
+
+    async def of(self, ticket: str, caller: Caller) -> Visit:
         """That of a ticket; one that nobody knows here may have held before."""
         key = owner_of(ticket)
-        visit = self._of.get(key)
+        visit = self._visit(key, caller)
         if visit is None:
             if (fault := self._ends.get(key)) is not None:
                 raise fault.with_traceback(None)
-            visit = self._comes(key, Wish(ticket=ticket, comes_back=True, pings=True))
+            visit = self._comes(key, Wish(ticket=ticket, comes_back=True, pings=True, person=caller.person), caller)
         await visit.begins()
         visit.raises()
         return visit
 
-    def _comes(self, key: Key, wish: Wish) -> Visit:
+    def _comes(self, key: Key, wish: Wish, caller: Caller) -> Visit:
         if (why := self.entrance.is_full()) is not None:
             raise NotLetIn(TOO_MANY, why)
         self.entrance.clients += 1
         self._ends.pop(key, None)
-        visit = self._of[key] = Visit(self, key, wish)
+        visit = self._of[key] = Visit(self, key, wish, caller)
         return visit
 
     def forgets(self, visit: Visit) -> None:

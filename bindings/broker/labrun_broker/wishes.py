@@ -2,20 +2,20 @@
 
 from __future__ import annotations
 
-import difflib
 import hashlib
 import math
 import secrets
 from dataclasses import dataclass, replace
 from typing import Any, Optional, Sequence
 
-from labrun import MayNotUse, NotHeld
-from labrun.picks import NoSuch, TooFew, TooMany, is_plain, sets_of
+from labrun import LabrunError, MayNotUse, NotHeld
+from labrun.picks import NoSuch, TooFew, TooMany, is_plain, near, sets_of
 
+from . import rights
 from .bay import MOST_SECONDS, Bay
 from .errors import BadWish, NoInstrument
 
-MOST_CHOICES, LEAST_TICKET = 100, 16
+MOST_CHOICES, LEAST_TICKET, MOST_NEAR = 100, 16, 32
 KEPT_IN_MEMORY = 1000  # ends
 
 
@@ -37,6 +37,9 @@ class Ends:
         self._of[owner] = taken
         if len(self._of) > 2 * KEPT_IN_MEMORY:
             self._of = dict(list(self._of.items())[KEPT_IN_MEMORY:])
+
+    def __contains__(self, owner: tuple[int, int]) -> bool:
+        return owner in self._of
 
     def why(self, owner: tuple[int, int]) -> Ended:
         """Why nobody can come back for it."""
@@ -61,6 +64,8 @@ class Wish:
     # in seconds; and whether its client wants to be warned before that
     limit: Optional[float] = None
     wants_warning: bool = False
+    # who asks, where the bay names people: no client says this of itself
+    person: str = ""
 
     @property
     def choices(self) -> tuple[tuple[str, ...], ...]:
@@ -84,9 +89,10 @@ def wish_of(asked: Any) -> Wish:
 
 def check_form(wish: Wish, bay: Bay) -> None:
     """Lengths and numbers. BadWish says what is wrong."""
-    for text in (wish.by, wish.station, wish.ticket, *wish.instruments, *(name for choice in wish.any_of for name in choice)):
+    names = (("an instrument's name", name) for name in (*wish.instruments, *(name for choice in wish.any_of for name in choice)))
+    for what, text in (("a `by`", wish.by), ("a station's name", wish.station), ("a ticket", wish.ticket), *names):
         if len(text) > bay.limits.name:
-            raise BadWish(f"a name of {len(text)} characters; {bay.limits.name} are the most")
+            raise BadWish(f"{what} of {len(text)} characters; {bay.limits.name} are the most")
     if len(wish.any_of) > MOST_CHOICES:
         raise BadWish(f"{len(wish.any_of)} choices; {MOST_CHOICES} are the most")
     if wish.timeout is not None and not 0 <= wish.timeout < MOST_SECONDS:
@@ -100,17 +106,20 @@ def check_form(wish: Wish, bay: Bay) -> None:
 def check(wish: Wish, bay: Bay) -> None:
     """Whether the bay has it for this client. BadWish, NoInstrument or MayNotUse says what is wrong."""
     if wish.station and wish.station not in bay.stations:
-        raise BadWish(f"{wish.station} is no station of this bay: there are {', '.join(bay.stations) or 'none'}")
+        hint = "; guests ask without one" if wish.station in bay.guest_names else near(wish.station, bay.stations)
+        raise BadWish(f"{wish.station} is no station of this {bay.what}: there are {', '.join(bay.stations) or 'none'}{hint}")
     if not wish.station and not bay.guests:
-        raise BadWish(f"this bay has no guests: say which station you are, of {', '.join(bay.stations)}")
-    if wish.any_of and wish.instruments or not all(wish.choices):
+        raise BadWish(f"this {bay.what} has no guests: say which station you are, of {', '.join(bay.stations)}")
+    if wish.any_of and wish.instruments:
+        raise BadWish("say either which instruments, or which sets of them to choose from (any_of), and not both")
+    if not all(wish.choices):
         raise BadWish("say which instruments, or which sets of them to choose from (any_of)")
     may = _may_use(wish, bay)
     for name in filter(is_plain, wish.names):
         if name not in bay.instruments:
             raise _no_such(name, bay)
         if name not in may:
-            raise MayNotUse(wish.station or "a guest", name, may)
+            raise _may_not_use(wish, (name,), bay)
 
 
 def check_instrument(name: str, bay: Bay) -> None:
@@ -119,7 +128,19 @@ def check_instrument(name: str, bay: Bay) -> None:
 
 
 def _may_use(wish: Wish, bay: Bay) -> tuple[str, ...]:
+    return rights.allowed(bay, wish.person, _places_use(wish, bay))
+
+
+def _places_use(wish: Wish, bay: Bay) -> tuple[str, ...]:
     return bay.stations[wish.station] if wish.station else bay.guests_use
+
+
+def _may_not_use(wish: Wish, words: Sequence[str], bay: Bay) -> MayNotUse:
+    """Because it isn't for the station, or a guest; else because it isn't for the person."""
+    its, what = _places_use(wish, bay), " ".join(words)
+    if bay.people and _is_there(words, its, bay):
+        return rights.may_not_have(bay, wish.person, what)
+    return MayNotUse(wish.station or "a guest", what, its)
 
 
 def resolved(wish: Wish, bay: Bay) -> Wish:
@@ -135,29 +156,53 @@ def resolved(wish: Wish, bay: Bay) -> Wish:
     return replace(wish, instruments=(), any_of=tuple(choices))
 
 
+def check_asked_again(wish: Wish, held: Sequence[str], bay: Bay) -> None:
+    """Whether who comes again with a ticket asks for what its session holds. BadWish: it wouldn't get what it asks for."""
+    if wish.comes_back or not wish.names:
+        return
+    try:
+        check(wish, bay)
+        choices = resolved(wish, bay).choices
+    except LabrunError:
+        return  # (the bay isn't as it was when that was asked for)
+    if all(set(it) != set(held) for it in choices):
+        raise BadWish(f"this ticket is that of a session that holds {' '.join(held)}: ask with another one")
+
+
 def _sets(words: Sequence[str], wish: Wish, bay: Bay) -> tuple[tuple[str, ...], ...]:
     may = _may_use(wish, bay)
     try:
         return sets_of(words, may, bay.tags)
     except (NoSuch, TooFew) as fault:
-        if _is_there(words, bay):
-            raise MayNotUse(wish.station or "a guest", " ".join(words), may) from None
+        if _is_there(words, bay.instruments, bay):
+            raise _may_not_use(wish, words, bay) from None
         raise NoInstrument(str(fault)) from None
     except TooMany as fault:
         raise BadWish(str(fault)) from None
 
 
-def _is_there(words: Sequence[str], bay: Bay) -> bool:
-    """Whether the bay has it for somebody."""
+def _is_there(words: Sequence[str], its: Sequence[str], bay: Bay) -> bool:
+    """Whether it can be had of these instruments."""
     try:
-        return bool(sets_of(words, bay.instruments, bay.tags))
+        return bool(sets_of(words, its, bay.tags))
+    except TooMany:
+        return True
     except ValueError:
         return False
 
 
 def _no_such(name: str, bay: Bay) -> NoInstrument:
-    near = difflib.get_close_matches(name, bay.instruments, 1)
-    return NoInstrument(f"{name} is no instrument of this bay: there are {', '.join(bay.instruments)}" + (f" (did you mean {near[0]}?)" if near else ""))
+    its = name.split(",")
+    hint = f" (each is a word of its own: {' '.join(its)})" if len(its) > 1 and set(its) <= set(bay.instruments) else near(name, bay.instruments)
+    return NoInstrument(f"{name or 'an empty name'} is no instrument of this {bay.what}: there are {', '.join(bay.instruments)}{hint}")
+
+
+def no_station(name: str, bay: Bay) -> BadWish:
+    """Of those that hold, guests too."""
+    guests = {0: (), 1: ("guest-1",)}.get(bay.guests, (f"{'and ' if bay.stations else ''}guest-1 to guest-{bay.guests}",))
+    # (of a thousand guests the loop would look for long)
+    known = (*bay.stations, *bay.guest_names[:MOST_NEAR])
+    return BadWish(f"{name[:bay.limits.name]} is no station of this {bay.what}: there are {', '.join((*bay.stations, *guests))}{near(name, known)}")
 
 
 def check_note(text: str, bay: Bay) -> None:

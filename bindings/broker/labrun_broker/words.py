@@ -9,7 +9,8 @@ import socket
 import sys
 from typing import TYPE_CHECKING, Any, Callable, NamedTuple
 
-from .quick import DEFAULT
+from .quick import CERTIFICATE_FILE, DEFAULT, TOKEN_FILE
+from .texts import address
 
 if TYPE_CHECKING:
     from .client import Lab
@@ -37,7 +38,7 @@ STATUSES = (
     (str(NOT_WRITTEN), "the broker couldn't write down what it did; of `hold`, the command may have run"),
     (str(TIMED_OUT), "the time limit passed; nothing was run"),
     (str(TAKEN), "the session was taken away while the command ran, which got SIGTERM"),
-    (str(MAY_NOT), "the station, or a guest, may not use one of the instruments"),
+    (str(MAY_NOT), "the station, a guest or you may not use one of the instruments, or only operators may do that"),
     (str(NO_BAY), "the bay's file has faults, or the broker may not listen there"),
     (f"{CANT_RUN}, {NOT_FOUND}", "what `hold` was to run can't be run, or isn't there"),
     (str(INTERRUPTED), "Ctrl-C"),
@@ -55,14 +56,18 @@ def tell_systemd(text: str) -> None:
 
 
 def add_client(parser: argparse.ArgumentParser) -> None:
-    parser.add_argument("--broker", metavar="ADDR", help=f"where the broker listens, or several, with commas between; without, LABRUN_BROKER says it, or it is {DEFAULT}")
-    parser.add_argument("--token-file", metavar="FILE", help="the token, for a broker on another machine")
-    parser.add_argument("--certificate", metavar="FILE", help="the certificate to know that broker by, and guards; of several, one behind the other")
+    parser.add_argument("--broker", metavar="ADDR", type=address, help=f"where the broker listens, or several, with commas between; without, LABRUN_BROKER says it, or it is {DEFAULT}")
+    token = f"your token, for a broker on another machine or one that asks who you are; without, {TOKEN_FILE} says where it is"
+    parser.add_argument("--token-file", metavar="FILE", help=token)
+    known = f"the certificate to know that broker by, and guards; of several, one behind the other; without, {CERTIFICATE_FILE} says where it is"
+    parser.add_argument("--certificate", metavar="FILE", help=known)
 
 
 def lab_of(args: argparse.Namespace, **more: Any) -> Lab:
     # (what a `hold` does without; gRPC's own lines say no more than ours)
     os.environ.setdefault("GRPC_VERBOSITY", "NONE")
+    # (a command is begun by a fork, in the midst of gRPC's threads; and nothing of gRPC goes on in it)
+    os.environ.setdefault("GRPC_ENABLE_FORK_SUPPORT", "0")
     from .client import connect
 
     return connect(args.broker, token_file=args.token_file, certificate_file=args.certificate, **more)

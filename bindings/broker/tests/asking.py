@@ -8,6 +8,7 @@ import os
 import re
 import socket
 import ssl
+import time
 from typing import Any, Iterator, Optional
 from urllib.parse import quote, urlencode
 
@@ -16,7 +17,7 @@ import labrun_broker
 with open(os.path.join(os.path.dirname(labrun_broker.__file__), "openapi.json"), encoding="utf-8") as _file:
     OPENAPI: dict[str, Any] = json.load(_file)
 KINDS = {"object": dict, "array": list, "string": str, "number": (int, float), "integer": int, "boolean": bool}
-LIMIT = 20.0
+LIMIT = 80.0  # (a request may be open for a minute)
 
 
 def found(it: dict[str, Any]) -> dict[str, Any]:
@@ -90,7 +91,7 @@ class Asking:
         text = body if isinstance(body, bytes) or body is None else json.dumps(body).encode()
         status, heads, said = self.raw(method, f"{path}?{urlencode(query)}" if query else path, text)
         told = json.loads(said)
-        known = operation(method, path)
+        known = operation(method, path.partition("?")[0])
         if known is None:
             check({"$ref": "#/components/schemas/Fault"}, told, f"{method} {path}")
         else:
@@ -104,7 +105,10 @@ class Asking:
 
     def holds(self, *instruments: str, **more: Any) -> str:
         """The ticket of a session that holds, once that is written."""
-        status, told = self.asks(*instruments, wait=5, **more)
+        status, told = self.asks(*instruments, wait=20, **more)
+        end = time.monotonic() + LIMIT
+        while status == 202 and time.monotonic() < end:
+            status, told = self.of(told["ticket"], wait=20)
         if (status, told.get("state")) != (200, "holding"):
             raise AssertionError(f"{status}: {told}")
         return str(told["ticket"])

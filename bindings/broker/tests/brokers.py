@@ -4,6 +4,7 @@ from __future__ import annotations
 
 import contextlib
 import os
+import random
 import signal
 import socket
 import subprocess
@@ -16,7 +17,9 @@ from typing import Any, Callable, Iterator, Optional
 import labrun_broker
 
 TOP = os.path.realpath(os.path.join(os.path.dirname(__file__), "..", "..", ".."))
-LIMIT = 20.0  # seconds, for what takes a fraction of one on a quiet machine
+LIMIT = 45.0  # seconds, for what takes a fraction of one on a quiet machine
+# seconds, for what is done at once, where a fault would take LIMIT
+SOON = LIMIT / 3
 
 BAY = """
 bay = "north"
@@ -41,14 +44,28 @@ def until(is_so: Callable[[], Any], what: str = "it") -> Any:
     return found
 
 
+_ports, _dice = set[int](), random.Random()
+
+
 def free_port() -> int:
-    with socket.socket() as one:
-        one.bind(("127.0.0.1", 0))
-        return int(one.getsockname()[1])
+    """One that nobody has. It is below those that the kernel gives to whoever connects: so it is still free when it is bound."""
+    while True:
+        port = _dice.randrange(10000, 32768)
+        with socket.socket() as one:
+            try:
+                one.bind(("127.0.0.1", port))
+            except OSError:
+                continue
+        if port not in _ports:
+            _ports.add(port)
+            return port
 
 
 class Broker:
     """`labrun-broker serve`, begun anew as often as wanted."""
+
+    # what stands in the first line that it says
+    opens = ": bay "
 
     def __init__(self, folder: str, bay: str = BAY, words: tuple[str, ...] = (), command: list[str] = COMMAND) -> None:
         self.folder, self.words, self.command = folder, words, command
@@ -65,7 +82,7 @@ class Broker:
         self.process = subprocess.Popen(words, stderr=subprocess.PIPE, text=True)
         assert self.process.stderr is not None
         self.first = self.process.stderr.readline()
-        if ": bay " not in self.first:
+        if self.opens not in self.first:
             raise AssertionError(self.first + self.process.stderr.read())
 
     def kill(self) -> None:

@@ -129,7 +129,8 @@ def cuts(times: int, seed: int, grace: float = GRACE, at_once: int = AT_ONCE, se
         with concurrent.futures.ThreadPoolExecutor(at_once) as pool:
             list(pool.map(tries, range(times)))
         broker.end()
-        said = [line for line in broker.said.splitlines() if not line.endswith(tuple(f"was gone for {grace:g} s: {it}" for it in names))]
+        gone = tuple(f" with {it} was taken away by the broker, because its client was gone for {grace:g} s" for it in names)
+        said = [line for line in broker.said.splitlines() if not line.endswith(gone)]
         wrong = [line for trial in trials for line in trial.wrong] + said
     counts: collections.Counter[str] = sum((trial.counts for trial in trials), collections.Counter())
     return {"wrong": wrong, "counts": dict(counts), "late": max(trial.late for trial in trials)}

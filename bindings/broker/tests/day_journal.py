@@ -60,10 +60,13 @@ def left_in(disk: Disk) -> dict[int, Left]:
     return found
 
 
-def next_in(disk: Disk) -> int:
-    """The number below which all were given when the file began."""
-    head = disk.journal().split(b"\n")[0].split(b" ")
-    return int(head[4], 16) if len(head) == 5 and len(head[4]) == 16 else 0
+def given_in(disk: Disk) -> tuple[int, int]:
+    """The number below which all were given when the file began, and the largest token that was; none, if it hasn't begun."""
+    head, end, _ = disk.journal().partition(b"\n")
+    if not end:
+        return 0, 0
+    _, _, _, _, number, token = head.split(b" ")
+    return int(number, 16), int(token, 16)
 
 
 def _takes(it: Left, word: str, words: list[str]) -> None:

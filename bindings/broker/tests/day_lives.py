@@ -20,7 +20,7 @@ from labrun_broker.errors import CantChange
 from tests import day_checks as checks
 from tests import day_model as rules
 from tests.day_checks import Wrong
-from tests.day_journal import ENDS, Left, ends_in, left_in, next_in, notes_in, records_in, wrong_records
+from tests.day_journal import ENDS, Left, ends_in, given_in, left_in, notes_in, records_in, wrong_records
 from tests.day_life import Life, Stream
 from tests.day_model import Rules, Wish, model
 from tests.day_world import PLACES, Disk, Killed, lines_of
@@ -125,8 +125,9 @@ class Day:
             it.sessions[one.number] = self._taken_up(one, now)
             its = one.number, one.kind, rules.owner_of(one.ticket), None, None, one.asked, one.since, one.needs, now, model.HOLDS, "", "holds", "durable"
             it.line.asks.append(model.Ask(*its, token=one.token))
-        it.line.granted = max([0, *(one.token for one in left.values())])
-        it.line.next = it.next = max(it.line.granted, 1 + max([0, *left, *(one["session"] or 0 for one in self.before)]), next_in(self.disk))
+        number, token = given_in(self.disk)
+        it.line.granted = max([token, *(one.token for one in left.values())])
+        it.line.next = it.next = max(it.line.granted, 1 + max([0, *left, *(one["session"] or 0 for one in self.before)]), number)
         it.line.now = now
         checks.takes_up(self)
         it.follows()
@@ -283,17 +284,36 @@ class Day:
         if self.disk.is_dead:
             return
         self.rules.now = self.now()
-        before = copy.deepcopy((self.rules, [it.rules for it in self.life.streams])), list(self.releases), (self.read_to, self.read_of)
-        try:
-            self._saw(first[1], second[1])
-        except Wrong as fault:
-            (self.rules, streams), self.releases, (self.read_to, self.read_of) = before
-            for it, its in zip(self.life.streams, streams):
-                it.rules = its
+        before, faults, after = self._now(), list[Wrong](), list[Any]()
+        for says in ((first[1], second[1]), (second[1], first[1])):
+            self._is_as(before)
             try:
-                self._saw(second[1], first[1])
-            except Wrong:
-                raise fault from None
+                self._saw(*says)
+            except Wrong as fault:
+                faults.append(fault)
+                continue
+            after.append(self._now())
+            # (who gave up may have been let in just before, or not: that isn't told anybody, but takes a token)
+            if self.rules.line.granted == self._granted():
+                return
+        if not after:
+            raise faults[0]
+        self._is_as(after[0])
+
+    def _now(self) -> Any:
+        """What the rules say by now, and what was compared."""
+        return (self.rules, [it.rules for it in self.life.streams]), self.releases, (self.read_to, self.read_of)
+
+    def _is_as(self, now: Any) -> None:
+        """(Of a copy, so that it can be so once more.)"""
+        (self.rules, streams), self.releases, (self.read_to, self.read_of) = copy.deepcopy(now[0]), list(now[1]), now[2]
+        for it, its in zip(self.life.streams, streams):
+            it.rules = its
+
+    def _granted(self) -> int:
+        """The largest token that the journal has."""
+        holds = [line.split(b" ") for line in self.disk.journal().split(b"\n")[:-1] if line[17:22] == b"hold "]
+        return max([given_in(self.disk)[1], *(int(it[-1], 16) for it in holds)])
 
     def _saw(self, *says: Callable[[], None]) -> None:
         for it in says:

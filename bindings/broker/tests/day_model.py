@@ -1,4 +1,4 @@
-"""What the broker promises, by hand: the line is that of the bay's model (bench/bay/model.py), and the rest is written from the guide. It is told
+"""What the broker promises, by hand: the line is that of the bay's model (checks/bay/model.py), and the rest is written from the guide. It is told
 what clients, operators, the clock and the disk do, one after another, and says what each client may have been told, who holds, who waits, and
 what status and records show."""
 
@@ -12,7 +12,7 @@ from typing import Any, NamedTuple, Optional
 
 from tests.day_bays import INSTRUMENTS, STATIONS, File, bits, names_of, owner_of
 
-sys.path.insert(0, os.path.realpath(os.path.join(os.path.dirname(__file__), "..", "..", "..", "bench", "bay")))
+sys.path.insert(0, os.path.realpath(os.path.join(os.path.dirname(__file__), "..", "..", "..", "checks", "bay")))
 import model  # type: ignore[import]  # noqa: E402
 
 KINDS = ("", *STATIONS)
@@ -177,6 +177,9 @@ class Rules:
         wait = min(BACK, math.inf if self.grace is None else math.ceil(self.grace / 8))
         if held is not None and held.back_at + wait > self.now:
             self.later.append((held.back_at + wait, stream, wish))
+        elif held is not None and held.holds and self._is_anothers(held, wish):
+            stream.waits = False
+            stream.told.append(("fault", "BadWish"))
         elif held is not None and held.holds:
             self._comes_back(stream, held, wish)
         elif (fault := self._fault(wish)) is not None:
@@ -186,6 +189,10 @@ class Rules:
             if held is not None:
                 self._leaves(held, "another connection came for the session", ("fault", "TakenAway"))
             self._is_new(stream, wish)
+
+    def _is_anothers(self, held: Session, wish: Wish) -> bool:
+        """Whether it asks with the ticket of a session for what that doesn't hold."""
+        return not wish.comes_back and self._fault(wish) is None and all(set(it) != set(held.instruments) for it in wish.choices)
 
     def _fault(self, wish: Wish) -> Optional[str]:
         uses = dict(self.file.uses).get(wish.station) if wish.station else self.file.guests_use if self.file.guests else None

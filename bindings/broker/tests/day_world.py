@@ -382,5 +382,6 @@ class _Written(io.StringIO):
         return self._number
 
     def flush(self) -> None:
-        text = self.getvalue().encode()
-        self._disk.pwrite(self._number, text[len(self._disk._file(self._number).cache) :], len(self._disk._file(self._number).cache))
+        text, so_far = self.getvalue().encode(), len(self._disk._file(self._number).cache)
+        while so_far < len(text):
+            so_far += self._disk.pwrite(self._number, text[so_far:], so_far)

@@ -31,8 +31,8 @@ class Guarded:
         self.process: Optional[subprocess.Popen[str]] = None
         self.begin()
 
-    def begin(self) -> None:
-        words = [*COMMAND, "guard", f"{self.folder}/guards.toml", "--broker", self.broker.address, *self.words]
+    def begin(self, before: str = "") -> None:
+        words = [*COMMAND, "guard", f"{self.folder}/guards.toml", "--broker", before + self.broker.address, *self.words]
         self.process = subprocess.Popen(words, stderr=subprocess.PIPE, text=True)
         assert self.process.stderr is not None
         self.said = [self.process.stderr.readline() for _ in self.ports]

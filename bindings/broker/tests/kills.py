@@ -43,19 +43,21 @@ from instruments import Talk
 ports = dict(it.split("=") for it in sys.argv[4:])
 chance = random.Random(sys.argv[3])
 with labrun_broker.connect(sys.argv[2]) as lab:
+    has_held = False
     while True:
         try:
-            lab.status()
-            break
-        except labrun_broker.Unreachable:  # the broker was killed just now, and this program doesn't know it yet
-            time.sleep(0.05)
-    while True:
-        with lab.hold(*chance.sample(sorted(ports), chance.randint(1, 3)), timeout=60) as held:
-            for name in held.instruments:
-                with Talk(int(ports[name])) as talk:
-                    talk.ask("ADD 1")
-                    time.sleep(chance.random() * 0.004)
-        os.write(1, f"did {held.station} {held.number}\\n".encode())
+            with lab.hold(*chance.sample(sorted(ports), chance.randint(1, 3)), timeout=600) as held:
+                has_held = True
+                for name in held.instruments:
+                    with Talk(int(ports[name])) as talk:
+                        talk.ask("ADD 1")
+                        time.sleep(chance.random() * 0.004)
+        except labrun_broker.Unreachable:
+            if has_held:
+                raise
+            time.sleep(0.05)  # (the broker was killed just now, and this program doesn't know it yet)
+        else:
+            os.write(1, f"did {held.station} {held.number}\\n".encode())
 """
 
 
@@ -119,7 +121,7 @@ def release_who_is_gone(lab: labrun_broker.Lab, running: set[int]) -> int:
     status, count = patiently(lab.status), 0
     for one in status["stations"]:
         # (who holds is USER@HOST PROCESS NAME; of one that was let in as its broker was killed that may be in no file)
-        is_dead = int(one["by"].split()[1]) not in running if one["by"] else status["at"] - (one["gone_since"] or status["at"]) > 5
+        is_dead = int(one["by"].split()[1]) not in running if one["by"] else status["at"] - (one["gone_since"] or status["at"]) > LIMIT / 4
         if one["state"] == "gone" and is_dead:
             try:
                 patiently(lab.release, one["name"])
@@ -146,20 +148,25 @@ def kills(times: int, seed: int, brokers_too: bool = True, pause: float = 0.3) -
         with broker.lab() as lab:
             until(lambda: lab.status()["sessions"] >= PROGRAMS, "each has begun")
             wanted = {"client": times, "broker": times if brokers_too else 0}
+            begins = 0.0
             while any(killed[it] < wanted[it] for it in wanted):
-                time.sleep(chance.uniform(0, pause))
+                # (where a broker begins slowly, its clients need as long to find it again; after a minute without one they give up)
+                time.sleep(chance.uniform(0, max(pause, 2 * begins)))
                 what = chance.choice([it for it in wanted if killed[it] < wanted[it]])
                 killed[what] += 1
                 if what == "client":
                     programs.kill_one()
                 else:
                     broker.kill()
+                    begun = time.monotonic()
                     broker.begin()
+                    begins = time.monotonic() - begun
                 killed["released"] += release_who_is_gone(lab, programs.processes())
                 if programs.ended():
                     break
             # all who were only cut off come back
             time.sleep(1.0)
+            until(lambda: programs.ended() or programs.text("said").count("\n") > PROGRAMS, "sessions are done")
             ended = programs.ended()
             programs.kill_all()
             until(lambda: is_idle(lab) or release_who_is_gone(lab, set()) * 0, "all is released")

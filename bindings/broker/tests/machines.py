@@ -4,7 +4,8 @@ share instruments that refuse, and count, a second client.
 usage: python3 -m tests.machines [FAULTS] [--seed N] [--lease SECONDS] [--only KIND] [--disk] [--safe]
        so many faults (100), run in bindings/broker by root: the machines are network namespaces
 
-A fault ends the broker that leads by `kill -9` or SIGTERM, stops it for longer than its lease, cuts its machine off for as long, or kills a
+A fault ends the broker that leads by `kill -9` or SIGTERM, stops it for longer than its lease, cuts its machine off for as long, or only from
+the other two (`blind`: clients reach it, and its member of etcd reaches nobody), kills all of its machine and cuts it off (`dead`), or kills a
 member of etcd; each is there again soon after. A program takes some instruments, talks to all of them at once, notes, and lets go. No
 instrument may refuse; no program may fail; and at the end everybody can hold everything. It tells for each kind how long it took from the
 fault until a program held. What etcd writes is in memory (/dev/shm), unless --disk says otherwise. With --safe only what an instrument refuses counts, as on a machine
@@ -27,7 +28,7 @@ import sys
 import tempfile
 import threading
 import time
-from typing import Any, Callable, Optional
+from typing import Any, Callable, Optional, Sequence
 
 import labrun
 import labrun_broker
@@ -40,7 +41,7 @@ from instruments import Bay  # type: ignore[import]  # noqa: E402
 NAMES = [f"instrument-{at}" for at in range(6)]
 PROGRAMS, MACHINES = 6, 3
 BAY = f'bay = "north"\ninstruments = {json.dumps(NAMES)}\n[guests]\ncount = {PROGRAMS + 1}\n'
-KINDS = {"kill": 3, "end": 2, "stop": 3, "cut": 3, "etcd": 2}  # and how often each of them comes
+KINDS = {"kill": 3, "end": 2, "stop": 3, "cut": 3, "blind": 3, "dead": 2, "etcd": 2}  # and how often each of them comes
 NET, HERE = "10.78.0", 9
 LONG = 180.0  # seconds, within which somebody holds after a fault, on a machine that is busy with other things
 CLONE_NEWNET = 0x40000000
@@ -107,11 +108,17 @@ class Net:
     def switch(self, at: int, how: str) -> None:
         ip("link", "set", f"to{at}", how)
 
+    def blinds(self, at: int, how: str) -> None:
+        """`add`: it reaches no other machine, and all programs; `del`: it does again."""
+        for other in range(1, MACHINES + 1):
+            if other != at:
+                ip("-n", self.names[at - 1], "route", how, "blackhole", f"{NET}.{other}/32")
+
 
 class Machine:
     """A member of etcd and a broker. Whatever ended is begun anew, as by systemd."""
 
-    def __init__(self, at: int, net: Net, folder: str, lease: int) -> None:
+    def __init__(self, at: int, net: Net, folder: str, lease: int, more: Sequence[str] = ()) -> None:
         self.at, self.folder, self._in = at, folder, ["ip", "netns", "exec", net.names[at - 1]]
         cluster = ",".join(f"m{it}=http://{NET}.{it}:2380" for it in range(1, MACHINES + 1))
         mine, peer = f"http://{NET}.{at}:2379", f"http://{NET}.{at}:2380"
@@ -119,9 +126,9 @@ class Machine:
         self._etcd += ["--listen-peer-urls", peer, "--initial-advertise-peer-urls", peer, "--initial-cluster", cluster]
         tls = ["--tls-certificate", f"{folder}/certificate", "--tls-key", f"{folder}/key", "--token-file", f"{folder}/token"]
         where = ",".join(f"{NET}.{it}:2379" for it in range(1, MACHINES + 1))
-        self._serve = [*COMMAND, "serve", f"{folder}/bay.toml", "--listen", f"{NET}.{at}:7443", *tls, "--etcd", where, "--lease", str(lease)]
+        self._serve = [*COMMAND, "serve", f"{folder}/bay.toml", "--listen", f"{NET}.{at}:7443", *tls, "--etcd", where, "--lease", str(lease), *more]
         self.etcd, self.broker = self._begins("etcd"), self._begins("broker")
-        self.is_over, self.etcd_may_begin = False, 0.0
+        self.is_over, self.may_begin = False, 0.0
         threading.Thread(target=self._watches, daemon=True).start()
 
     def _begins(self, what: str) -> subprocess.Popen[bytes]:
@@ -131,10 +138,11 @@ class Machine:
 
     def _watches(self) -> None:
         while not self.is_over:
-            if self.broker.poll() is not None:
-                self.broker = self._begins("broker")
-            if self.etcd.poll() is not None and time.monotonic() > self.etcd_may_begin:
-                self.etcd = self._begins("etcd")
+            if time.monotonic() > self.may_begin:
+                if self.broker.poll() is not None:
+                    self.broker = self._begins("broker")
+                if self.etcd.poll() is not None:
+                    self.etcd = self._begins("etcd")
             time.sleep(0.1)
 
     def ends(self) -> None:
@@ -152,7 +160,9 @@ class Programs:
     def __init__(self, folder: str, addresses: str, bay: Any) -> None:
         self._folder, self._words = folder, [f"{TOP}/examples/broker", addresses, folder]
         self._ports = [f"{name}={port}" for name, port in bay.ports.items()]
-        self.failed, self.count, self.holds, self.done = list[str](), 0, list[float](), 0
+        self.failed, self.count, self.holds, self.done = list[str](), 0, list[float](), set[str]()
+        # sessions that two programs did
+        self.twice = list[str]()
         self._lock = threading.Lock()
         self.running = [self._begun() for _ in range(PROGRAMS)]
 
@@ -172,7 +182,9 @@ class Programs:
                 if word == "held":
                     self.holds.append(float(value))
                 else:
-                    self.done += 1
+                    if value in self.done:
+                        self.twice.append(value)
+                    self.done.add(value)
 
     def look(self) -> None:
         for at, it in enumerate(self.running):
@@ -229,9 +241,20 @@ class Day:
             self.net.switch(at.at, "down")
             time.sleep(away)
             self.net.switch(at.at, "up")
+        elif kind == "blind":
+            self.net.blinds(at.at, "add")
+            time.sleep(away)
+            self.net.blinds(at.at, "del")
+        elif kind == "dead":
+            self.net.switch(at.at, "down")
+            at.may_begin = begun + away
+            at.broker.kill()
+            at.etcd.kill()
+            time.sleep(away)
+            self.net.switch(at.at, "up")
         else:
             at = self.chance.choice(self.machines)
-            at.etcd_may_begin = begun + 1 + self.chance.random()
+            at.may_begin = begun + 1 + self.chance.random()
             at.etcd.kill()
         held = until(lambda: self.programs.next_hold(begun), f"{kind} of machine {at.at}: that one holds")
         self.spans[kind].append(held - begun)
@@ -309,11 +332,16 @@ def main() -> int:
         except (AssertionError, labrun.LabrunError) as it:
             fault = f"{type(it).__name__}: {it}"
         refused = tells(folder, bay, day, programs, fault)
-        return 1 if refused or not args.safe and (programs.failed or fault) else 0
+        return status_of(refused, len(programs.done), bool(programs.failed or fault), args.safe)
+
+
+def status_of(refused: int, sessions: int, is_fault: bool, is_safe: bool) -> int:
+    """Nobody who never held is refused: such a run says nothing, and isn't safe."""
+    return 1 if refused or not sessions or is_fault and not is_safe else 0
 
 
 def tells(folder: str, bay: Any, day: Optional[Day], programs: Programs, fault: str) -> int:
-    """How many talks were refused."""
+    """How many talks were refused, and sessions done twice."""
     bay.process.stdin.close()
     counts = [line.split() for line in bay.process.stdout if line.strip()]
     talks, refused = (sum(int(it[at]) for it in counts) for at in (2, 4))
@@ -325,8 +353,9 @@ def tells(folder: str, bay: Any, day: Optional[Day], programs: Programs, fault: 
         if name.startswith("faults-") and os.path.getsize(f"{folder}/{name}") or fault and name.startswith("broker-"):
             with open(f"{folder}/{name}", encoding="utf-8", errors="replace") as file:
                 print(f"{name}: {file.read()[-2000:]}")
-    print(f"{programs.done} sessions, {talks} talks, {refused} refused, {len(programs.failed)} programs failed{': ' if fault else ''}{fault}")
-    return refused
+    ends = f"{len(programs.twice)} done twice, {len(programs.failed)} programs failed{': ' if fault else ''}{fault}"
+    print(f"{len(programs.done)} sessions, {talks} talks, {refused} refused, {ends}")
+    return refused + len(programs.twice)
 
 
 if __name__ == "__main__":

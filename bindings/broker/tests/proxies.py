@@ -8,6 +8,8 @@ import threading
 from types import TracebackType
 from typing import Any, Callable, Coroutine, Optional
 
+from tests.brokers import LIMIT
+
 # who is told that the connection has ended; whoever isn't hears nothing
 CUTS = {"client": (True, False), "broker": (False, True), "both": (True, True), "neither": (False, False)}
 
@@ -29,7 +31,7 @@ class Ways:
         self.loop.close()
 
     def run(self, work: Coroutine[Any, Any, Any]) -> Any:
-        return asyncio.run_coroutine_threadsafe(work, self.loop).result(10)
+        return asyncio.run_coroutine_threadsafe(work, self.loop).result(LIMIT)
 
 
 class Proxy:

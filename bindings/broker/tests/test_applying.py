@@ -3,6 +3,7 @@
 import asyncio
 import os
 import signal
+import subprocess
 import sys
 import tempfile
 import threading
@@ -13,11 +14,12 @@ from unittest import mock
 from labrun import JournalError
 from labrun.store import FileStore
 from labrun_broker.applying import apply, changes
-from labrun_broker.bay import bay_of
+from labrun_broker.bay import BayFault, bay_of
 from labrun_broker.errors import BadWish, CantChange, NoInstrument
 from labrun_broker.keeping import Keeping
+from labrun_broker.places import Places
 from labrun_broker.wishes import Wish
-from tests.brokers import BAY, TOP, Broker, OnBroker, station, until
+from tests.brokers import BAY, SOON, TOP, Broker, OnBroker, station, until
 from tests.test_keeping import TICKET, OnFolder, Owner, how
 
 MORE = """
@@ -43,7 +45,25 @@ count = 4
 """
 
 
+class OfAWholeLife(unittest.TestCase):
+    def test_names(self) -> None:
+        """Who wants one too many is told which names may be had again."""
+
+        def bay(*names: str) -> str:
+            return "bay = 'north'\ninstruments = [" + ", ".join(f"'{it}'" for it in names) + "]\n[guests]\ncount = 1\n"
+
+        most = [f"load-{it}" for it in range(64)]
+        full = Places().with_bay(bay_of(bay(*most)))
+        with self.assertRaisesRegex(BayFault, r"there are 65, and 64 are the most .*: use the name of one that was taken out \(load-0\), or begin anew"):
+            full.with_bay(bay_of(bay(*most[1:], "oven")))
+        self.assertEqual(full.with_bay(bay_of(bay(*most[2:]))).with_bay(bay_of(bay(*most[1:]))), full)
+
+
 class OnApplied(OnFolder):
+    async def asyncSetUp(self) -> None:
+        # (on a busy machine the disk may not be quiet within a second)
+        self.enterContext(mock.patch("labrun_broker.turning.QUIET", SOON))
+
     async def opened(self, folder: Optional[str], bay: str = BAY) -> Keeping:
         keeping = Keeping(bay_of(bay), folder)
         await keeping.open()
@@ -52,6 +72,16 @@ class OnApplied(OnFolder):
 
 
 class Applied(OnApplied):
+    async def test_words_alone(self) -> None:
+        """A file in which only tags, labels or guards are other is taken, too."""
+        keeping = await self.opened(None)
+        more = BAY + '\n[tags]\nprecise = ["scope"]\n[labels]\nscope = "by the window"\n[guards]\nsupply = "bench-2:5025"\n'
+        its = ["label scope: by the window, and not none", "guard supply: bench-2:5025, and not none", "tag precise: scope, and not none"]
+        self.assertEqual(await apply(keeping, more, "eve", False), its)
+        self.assertEqual((keeping.bay.tags, keeping.bay.labels, keeping.bay.guards), ({"precise": ("scope",)}, {"scope": "by the window"}, {"supply": "bench-2:5025"}))
+        self.assertEqual((await keeping.hold(Wish(("tag:precise",)), Owner())).instruments, ("scope",))
+        self.assertEqual(await apply(keeping, more, "eve", False), [])
+
     async def test_while_some_hold_and_wait(self) -> None:
         """Who holds goes on, who waits goes on waiting in the old order, and what is new is there; also after a restart."""
         for folder in (None, self.folder()):
@@ -99,7 +129,7 @@ class Applied(OnApplied):
         """What nobody has goes; who asks for it then is told that there is none. It may come back."""
         keeping, owner = await self.opened(self.folder()), Owner()
         held = await keeping.hold(Wish(("supply",), station="board"), owner)
-        self.assertEqual(await apply(keeping, LESS, "eve", False), ["instrument scope: taken out", "station radio: taken out", "station board: may not use scope any more", "guests: may not use scope any more"])
+        self.assertEqual(await apply(keeping, LESS, "eve", False), ["instrument scope: taken out", "station radio: taken out", "station board: may no longer use scope", "guests: may no longer use scope"])
         with self.assertRaisesRegex(NoInstrument, "scope is no instrument of this bay"):
             await keeping.hold(Wish(("scope",)), owner)
         with self.assertRaisesRegex(BadWish, "radio is no station of this bay"):
@@ -128,7 +158,7 @@ class Applied(OnApplied):
             self.assertRegex(lines[2], r"^radio is taken out, and has waited for scope for \d\.\d s$")
         self.assertEqual((os.listdir(folder), keeping.places, keeping.bay), before)
         for text, why in (
-            (BAY.replace('board = ["scope", "supply"]', 'board = ["supply"]'), r"board may not use scope any more, and board \(ann\) has held it"),
+            (BAY.replace('board = ["scope", "supply"]', 'board = ["supply"]'), r"board may no longer use scope, and board \(ann\) has held it"),
             (BAY.replace('board = ["scope", "supply"]\n', ""), r"board \(ann\) is taken out, and has held scope and supply for"),
             (BAY.replace('"north"', '"south"'), "the file is of the bay south, and this one is north"),
         ):
@@ -173,7 +203,7 @@ class Applied(OnApplied):
         folder, owner, may = self.folder(), Owner(), threading.Event()
         self.addCleanup(may.set)
         keeping = await self.opened(folder)
-        with mock.patch("os.fdatasync", lambda file: may.wait(20)), mock.patch("labrun_broker.turning.QUIET", 0.1):
+        with mock.patch("os.fdatasync", lambda file: may.wait(SOON)), mock.patch("labrun_broker.turning.QUIET", 0.1):
             holds = asyncio.create_task(keeping.hold(Wish(("scope",)), owner))
             await asyncio.sleep(0.05)
             with self.assertRaisesRegex(JournalError, "the bay has no quiet moment, or the disk doesn't answer: nothing has changed"):
@@ -200,7 +230,8 @@ class Applied(OnApplied):
         with mock.patch.object(FileStore, "anew", fails):
             await apply(keeping, BAY.replace("count = 4", "count = 5"), "eve", False)
             self.assertEqual(keeping.bay.guests, 5)
-            async with asyncio.timeout(5):
+            # (the new file is awaited for ten seconds otherwise)
+            async with asyncio.timeout(8):
                 with self.assertRaisesRegex(JournalError, "a write failed .No space left on device.: nothing has changed"):
                     await apply(keeping, MORE, "eve", False)
             self.assertEqual(keeping.bay.guests, 5)
@@ -214,12 +245,16 @@ class Applied(OnApplied):
 class Texts(unittest.TestCase):
     def test_what_the_rest_is(self) -> None:
         before, after = bay_of(BAY), bay_of("overtakes = 3\n" + BAY + "may_use = [\"load-1\", \"load-2\"]\n")
-        self.assertEqual(changes(before, after), ["guests: may not use scope supply any more", "overtakes (with the next start of the broker): 3, and not what it is without a line"])
+        self.assertEqual(changes(before, after), ["guests: may no longer use scope supply", "overtakes (with the next start of the broker): 3, and not what it is without a line"])
         self.assertEqual(changes(after, after), [])
 
 
 class Commands(OnBroker):
     """`bay apply`, and the signal, at a broker of its own."""
+
+    def unless_busy(self, done: "subprocess.CompletedProcess[str]") -> "Optional[subprocess.CompletedProcess[str]]":
+        """None: the disk wasn't quiet within a second, as it may be on a busy machine, and nothing has changed."""
+        return None if "the bay has no quiet moment" in done.stderr else done
 
     def test_applied(self) -> None:
         folder = self.enterContext(tempfile.TemporaryDirectory())
@@ -233,7 +268,7 @@ class Commands(OnBroker):
             self.assertEqual((checked.returncode, checked.stderr), (0, ""))
             self.assertIn("instrument laser: new\n", checked.stdout)
             self.assertEqual(len(lab.status()["instruments"]), 4)
-            done = broker.ran("bay", "apply", f"{folder}/bay.toml")
+            done = until(lambda: self.unless_busy(broker.ran("bay", "apply", f"{folder}/bay.toml")))
             self.assertEqual((done.returncode, done.stdout, done.stderr), (0, checked.stdout, ""))
             self.assertEqual((len(lab.status()["instruments"]), station(lab, "board")["state"]), (5, "holding"))
             with open(f"{folder}/bay.toml", "w", encoding="utf-8") as file:
@@ -243,7 +278,6 @@ class Commands(OnBroker):
             self.assertRegex(refused.stderr, r"labrun-broker: nothing has changed:\nlabrun-broker: scope is taken out, and board \(tester\) has held it for")
         assert broker.process is not None
         process = broker.process.pid
-        # (on a busy machine the disk may not be quiet within a second)
         until(lambda: os.kill(process, signal.SIGHUP) or len(lab.status()["instruments"]) == 3)
         with open(f"{folder}/bay.toml", "w", encoding="utf-8") as file:
             file.write("instruments = 5")
@@ -254,7 +288,7 @@ class Commands(OnBroker):
         self.assertRegex(broker.said, "the bay has changed, by a signal: instrument scope: taken out")
 
 
-COMMAND = [sys.executable, f"{TOP}/bench/bay/simulated.py"]
+COMMAND = [sys.executable, f"{TOP}/checks/bay/simulated.py"]
 
 
 if __name__ == "__main__":

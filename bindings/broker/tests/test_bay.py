@@ -1,5 +1,6 @@
 """The bay's file: what it says, and each fault with its key or line."""
 
+import hashlib
 import re
 import tomllib
 import unittest
@@ -7,6 +8,7 @@ from dataclasses import replace
 from typing import Any
 
 from labrun_broker.bay import Bay, BayFault, Limits, bay_of
+from labrun_broker.people import People, Person
 from labrun_broker.ways import Way, way_of
 from tests.brokers import BAY, TOP
 
@@ -58,6 +60,24 @@ FAULTY = (
     ('instruments = ["scope"]\n[stations]\n' + "".join(f's{it} = ["scope"]\n' for it in range(32)), ["stations: 32 stations; a bay has 31 at most"]),
 )
 
+# what is nearly there, and what was meant
+NEARLY = (
+    ("instrument = 5\n" + ONE, "instruments"),
+    ("stations.bord = [\"scop\"]\n" + ONE, "scope"),
+    (ONE + "may_us = 5\n", "may_use"),
+    (ONE + "[limits]\nnotes = 5\n", "note"),
+    (ONE + '[tags]\nx = ["scop"]\n', "scope"),
+    (ONE + '[labels]\nscop = "a scope"\n', "scope"),
+    (ONE + '[guards]\nscop = "a:1"\n', "scope"),
+    (ONE + '[on_release]\nscop = "true"\n', "scope"),
+    (ONE + '[instrument_gone]\nscop = "keep"\n', "scope"),
+    (ONE + '[stations]\nboard = ["scope"]\n[station_gone]\nbord = "keep"\n', "board"),
+    (ONE + '[stations]\nboard = ["scope"]\n[station_limits]\nbord = 5\n', "board"),
+    (ONE + '[people]\nana = {unix = "ana", my = ["scope"]}\n', "may"),
+    (ONE + '[tags]\nprecise = ["scope"]\n[people]\nana = {unix = "ana", may = ["tag:precis"]}\n', "precise"),
+    ('operators = ["anna"]\n' + ONE + '[people]\nana = {unix = "ana"}\n', "ana"),
+)
+
 
 class Bays(unittest.TestCase):
     def test_it_says(self) -> None:
@@ -91,12 +111,23 @@ class Bays(unittest.TestCase):
                     self.assertTrue(one.startswith(start), (one, start))
                 self.assertEqual(str(caught.exception), "\n".join(f"it: {one}" for one in found))
 
+    def test_what_was_meant(self) -> None:
+        for text, meant in NEARLY:
+            with self.subTest(text):
+                with self.assertRaises(BayFault) as caught:
+                    bay_of(text, "it")
+                self.assertEqual(len(caught.exception.faults), 1, caught.exception)
+                self.assertTrue(caught.exception.faults[0].endswith(f" (did you mean {meant}?)"), caught.exception)
+
     def test_most(self) -> None:
         """As much as the library takes is no fault."""
         names = ", ".join(f'"i{it}"' for it in range(64))
         stations = "".join(f's{it} = ["i{it}", "i63"]\n' for it in range(31))
         bay = bay_of(f"instruments = [{names}]\n[stations]\n{stations}[guests]\ncount = 1000\n")
         self.assertEqual((len(bay.instruments), len(bay.stations), bay.guests), (64, 31, 1000))
+
+
+PEOPLE = {it: hashlib.sha256(f"an example for {it}".encode()).hexdigest() for it in ("ana", "runner-1")}
 
 
 class Example(unittest.TestCase):
@@ -110,14 +141,20 @@ class Example(unittest.TestCase):
         whole = re.sub(r"(?m)^# (?=[\w-]+ = |\[)", "", text)
         more: dict[str, Any] = {"tags": {"precise": ("scope", "meter")}, "labels": {"scope": "DSO-X 3034, by the window"}, "guards": {"scope": "bench-1:5025"}}
         more |= {"limit": 12 * 3600.0, "guests_limit": 2 * 3600.0, "station_limits": {"burn-in": 3 * 86400.0}}
-        self.assertEqual(bay_of(whole), replace(bay, overtakes=16, **more))
+        more |= {"on_release": {"supply": "/usr/local/bin/safe-state supply"}}
+        more |= {"station_gone": {"burn-in": "keep", "": "release"}, "instrument_gone": {"load-1": "release"}}
+        people = People({"ana": Person((PEOPLE["ana"],), ("ana",)), "bob": Person((), ("bob",), ("scope", "load-*")), "runner-1": Person((PEOPLE["runner-1"],), (), ("scope", "tag:precise"))}, ("ana",))
+        self.assertEqual(bay_of(whole), replace(bay, overtakes=16, people=people, **more))
         given = tomllib.loads(whole)
-        self.assertEqual(set(given), {"bay", "instruments", "gone", "overtakes", "stations", "guests", "limits", "tags", "labels", "guards", "limit", "station_limits"})
-        self.assertEqual((set(given["guests"]), set(given["limits"])), ({"count", "may_use", "limit"}, {"clients", "requests", "name", "note"}))
+        self.assertEqual(set(given), {"bay", "instruments", "gone", "overtakes", "stations", "guests", "limits", "tags", "labels", "guards", "limit", "station_limits", "on_release", "on_release_limit", "station_gone", "instrument_gone", "people", "groups", "operators"})
+        self.assertEqual((set(given["guests"]), set(given["limits"])), ({"count", "may_use", "limit", "gone"}, {"clients", "requests", "name", "note"}))
 
     def test_each_key_is_in_formats(self) -> None:
         with open(f"{TOP}/docs/FORMATS.md", encoding="utf-8") as file:
             part = file.read().partition("## A bay's file")[2].partition("\n## ")[0]
         rows = set(re.findall(r"(?m)^\| `([\w.]+)` \|", part))
         limits = {f"limits.{it}" for it in vars(Limits())}
-        self.assertEqual(rows, {"bay", "instruments", "gone", "overtakes", "stations.NAME", "guests.count", "guests.may_use", "tags.NAME", "labels.NAME", "guards.NAME", "limit", "guests.limit", "station_limits.NAME", *limits})
+        wanted = {"bay", "instruments", "gone", "overtakes", "stations.NAME", "guests.count", "guests.may_use", "tags.NAME", "labels.NAME", "guards.NAME"}
+        wanted |= {"people.NAME.token", "people.NAME.unix", "people.NAME.may", "groups.NAME", "operators"}
+        wanted |= {"limit", "guests.limit", "station_limits.NAME", "on_release_limit", "on_release.NAME", "guests.gone", "station_gone.NAME", "instrument_gone.NAME"}
+        self.assertEqual(rows, {*wanted, *limits})

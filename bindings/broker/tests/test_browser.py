@@ -7,6 +7,7 @@ import time
 import unittest
 from typing import Any, Callable
 
+from .brokers import LIMIT
 from .fake import Keeping
 from .webs import Web
 
@@ -32,7 +33,9 @@ def started() -> Any:
         options.add_argument(it)
     options.binary_location = shutil.which("chromium")
     options.set_capability("goog:loggingPrefs", {"browser": "ALL"})
-    return webdriver.Chrome(service=Service(shutil.which("chromedriver")), options=options)
+    browser = webdriver.Chrome(service=Service(shutil.which("chromedriver")), options=options)
+    browser.set_script_timeout(2 * LIMIT)
+    return browser
 
 
 @unittest.skipIf(LACKS, f"there is no {LACKS}")
@@ -63,7 +66,7 @@ class Browser(unittest.TestCase):
     def text(self, where: str) -> str:
         return str(self.browser.execute_script("const it = document.querySelector(arguments[0]); return it ? it.innerText ?? it.textContent : ''", where))
 
-    def seen(self, where: str, is_so: Callable[[str], bool], within: float = 5.0) -> float:
+    def seen(self, where: str, is_so: Callable[[str], bool], within: float = LIMIT) -> float:
         """How long it took until a text was there."""
         begun = time.monotonic()
         while time.monotonic() < begun + within:
@@ -76,14 +79,20 @@ class Browser(unittest.TestCase):
         return f'[data-instrument="{name}"]'
 
     def test_a_session_is_seen_within_a_second(self) -> None:
-        for _ in range(3):
+        # (of several, because the machine may do something else)
+        held, free, looks = list[float](), list[float](), list[float]()
+        for _ in range(5):
             self.do("hold", "board", "scope", "supply", by="ana")
-            self.seen(self.row("scope"), lambda text: "board by ana" in text, 1.0)
+            held.append(self.seen(self.row("scope"), lambda text: "board by ana" in text))
             self.do("end", "board")
-            self.seen(self.row("scope"), lambda text: "free" in text, 1.0)
+            free.append(self.seen(self.row("scope"), lambda text: "free" in text))
+            looks.append(self.seen("h1", bool))
         self.assertIn("board let go scope, supply", self.text("#records"))
-        # in the picture, too: a bar at each of the two, with its times
-        self.seen("#gantt rect.bar title", lambda text: text.startswith("board: ") and text.endswith(", done"), 1.0)
+        for took in (held, free):
+            # (a look takes some milliseconds, where the machine does nothing else)
+            self.assertLess(min(took), 1 + 10 * min(looks), took)
+        # in the picture, too: a bar at each of the two, with its times (if not, it would come with the next message, after five seconds)
+        self.seen("#gantt rect.bar title", lambda text: text.startswith("board: ") and text.endswith(", done"), 4.0)
 
     def test_what_is_stuck_stands_out(self) -> None:
         self.assertEqual(self.text("#stuck"), "Nothing is stuck.")
@@ -246,7 +255,7 @@ class Browser(unittest.TestCase):
         self.do("back", "board")
         self.seen("#stuck", lambda text: text == "")
         self.web.keeping.disk = ""
-        self.seen("#disk", lambda text: text == "", 8.0)
+        self.seen("#disk", lambda text: text == "")
         self.assertEqual((self.text("#stuck"), self.text("#told"), self.text("#waits")), ("Nothing is stuck.", "Nothing is stuck.", "Nobody waits."))
         self.assertFalse(self.browser.execute_script("return document.querySelector('#disk').checkVisibility()"))
 
@@ -255,6 +264,24 @@ class Browser(unittest.TestCase):
         self.web.keeping.notice = "Simulated: it isn't the proved one"
         self.do("hold", "board", "scope")
         self.seen("header", lambda text: "Simulated: it isn't the proved one" in text)
+
+    def test_each_of_several_bays_has_its_head(self) -> None:
+        bays = {"scope": "north", "supply": "north", "oven": "south"}
+
+        class OfLab(Keeping):
+            def status(self) -> Any:
+                it = super().status()
+                rows = [{**row, "bay": bays[row["name"]]} for row in it["instruments"]]
+                return {**it, "instruments": rows, "overtakes": 9, "bays": [{"bay": "north", "overtakes": 7}, {"bay": "south", "overtakes": 8}]}
+
+        web = Web(serve_page, lambda: OfLab(BAY))
+        self.addCleanup(web.close)
+        self.browser.get(f"http://127.0.0.1:{web.port}/")
+        self.seen("#instruments", lambda text: "oven" in text)
+        order = "return [...document.querySelectorAll('#instruments > *')].map(it => it.dataset.instrument || it.textContent)"
+        self.assertEqual(self.browser.execute_script(order), ["north", "scope", "supply", "south", "oven"])
+        passed = "return [{bay: 'south', place: 1, passed: 2}, {bay: '', place: 1, passed: 2}].map(lineOf)"
+        self.assertEqual([it.split("; ")[1] for it in self.browser.execute_script(passed)], [f"2 others went first, and after {most} what it needs is kept for it" for most in (8, 9)])
 
     def test_light_and_dark(self) -> None:
         colours = []

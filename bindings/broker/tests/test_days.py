@@ -15,6 +15,13 @@ class Days(unittest.TestCase):
         for what, least in (("kills", 50), ("power cuts", 30), ("stops", 50), ("sessions that came back", 100), ("bay files refused", 5), ("turns", 20), ("changes", 10), ("changes refused", 10)):
             self.assertGreater(counts[what], least, what)
 
+    def test_days_that_were_wrong(self) -> None:
+        """A ticket in use that the bay has nothing for any more, a places file on a full disk, who comes back twice in a second for what is kept,
+        tokens behind a file that began anew, a let-go while one is made, and who gives up just as it is let in."""
+        for seed in ("7 15", "7 76", "7 177", "7 202", "7 223", "7 275", "11 134", "31 257"):
+            with self.subTest(seed):
+                self.assertIsNone(run(steps_of(seed))[0])
+
     def test_a_day_is_the_same_again(self) -> None:
         steps = steps_of("1 7")
         self.assertEqual(steps, steps_of("1 7"))

@@ -12,7 +12,7 @@ import sys
 import termios
 import time
 import unittest
-from typing import Any
+from typing import Any, Callable
 
 import labrun
 from tests.brokers import LIMIT, free_port, station, until
@@ -116,6 +116,13 @@ class Commands(BeforeInstruments):
                 if not it.ask("*IDN?"):
                     raise ConnectionError
 
+    def test_a_guard_of_several_brokers(self) -> None:
+        """The first of its list isn't there: it hears the one that is."""
+        self.at.end()
+        self.at.begin(f"unix:{self.folder}/nobody.sock,")
+        with self.lab().hold("scope") as held, talk(held.address("scope")) as it:
+            self.assertEqual(it.ask("*IDN?"), "scope")
+
     def test_a_guard_that_is_away(self) -> None:
         self.at.end()
         done = self.at.broker.ran("hold", "scope", "--", "bash", "-c", "exec 3<>/dev/tcp/127.0.0.1/${LABRUN_SCOPE#*:}; cat <&3")
@@ -160,7 +167,7 @@ class Ends(BeforeInstruments):
                     one.sendall(b"x" * 65536)
             taker = slow.accept()
             # (what its machine has taken by now is its own)
-            had = struct.unpack("i", fcntl.ioctl(taker.fileno(), termios.FIONREAD, bytes(4)))[0]
+            had = steady(lambda: struct.unpack("i", fcntl.ioctl(taker.fileno(), termios.FIONREAD, bytes(4)))[0])
             lab.release(held.station)
             time.sleep(0.5)
             took = 0
@@ -209,6 +216,15 @@ def is_back(lab: Any, name: str) -> bool:
         return station(lab, name)["state"] == "holding"
     except labrun.LabrunError:
         return False
+
+
+def steady(count: Callable[[], int]) -> int:
+    """A number that grows, once it doesn't any more."""
+    last = -1
+    while (now := count()) != last:
+        last = now
+        time.sleep(1)
+    return last
 
 
 class Slow:
@@ -275,6 +291,7 @@ class Tables(unittest.TestCase):
             ("scope = 5\n", "scope: a table is wanted: [scope]\n"),
             ("[scope]\n", both),
             (good + "colour = 3\n", "scope.colour: there is no such key; there are listen, instrument, by_host, settle, clear\n"),
+            (good + "setle = 3\n", "scope.setle: there is no such key; there are listen, instrument, by_host, settle, clear (did you mean settle?)\n"),
             (good + "settle = -1\n", "scope.settle: a number of seconds is wanted\n"),
             (good + "by_host = 1\n", "scope.by_host: true or false is wanted\n"),
             (good + 'clear = "a\\nb"\n', "scope.clear: a line of ASCII is wanted\n"),

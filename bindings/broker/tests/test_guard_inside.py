@@ -22,7 +22,7 @@ from labrun_broker.guard import Caller, Guard, Holder, Way
 from labrun_broker.guarding import holders
 from labrun_broker.wishes import Wish, digits_of, owner_of
 from tests.brokers import LIMIT
-from tests.test_keeping import TICKET, OnFolder, Owner
+from tests.test_keeping import TICKET, OnFolder, Owner, eventually
 
 TICKETS = [letter * 20 for letter in "abcdefgh"]
 
@@ -160,9 +160,10 @@ class Exclusion(Inside):
 
     async def test_one_that_is_being_opened(self) -> None:
         """Its session ends meanwhile: it isn't opened, and holds up nobody."""
-        may, real = asyncio.Event(), guards.connected
+        begun, may, real = asyncio.Event(), asyncio.Event(), guards.connected
 
         async def slow(host: str, port: int) -> Any:
+            begun.set()
             await may.wait()
             return await real(host, port)
 
@@ -171,19 +172,25 @@ class Exclusion(Inside):
         old = await self.client()
         with mock.patch.object(guards, "connected", slow):
             answer = asyncio.create_task(old.asks(f"labrun {TICKETS[1]}"))
-            await asyncio.sleep(0.1)
+            await asyncio.wait_for(begun.wait(), LIMIT)
         guard.told(holder(2))
         may.set()
         self.assertEqual(await answer, "")
         self.assertEqual(await (await self.through(2)).asks("*IDN?"), "1")
 
     async def test_one_that_leaves_while_it_waits(self) -> None:
-        guard = await self.guard()
-        for _ in range(guards.MOST_WAITING + 10):
-            client = await self.client()
-            client.writer.write(b"labrun nobody\n")
-            client.writer.close()
-        await asyncio.sleep(0.3)
+        guard, real, came = await self.guard(), Guard._token_of, list[int]()
+
+        async def counted(guard: Guard, is_its: Any) -> int:
+            came.append(1)
+            return await real(guard, is_its)
+
+        with mock.patch.object(Guard, "_token_of", counted):
+            for _ in range(guards.MOST_WAITING + 10):
+                client = await self.client()
+                client.writer.write(b"labrun nobody\n")
+                client.writer.close()
+            await eventually(lambda: len(came) == guards.MOST_WAITING + 10 and not guard._waiting)
         guard.told(holder(1))
         await self.through(1)
 
@@ -198,16 +205,16 @@ class Exclusion(Inside):
 
 class Between(Inside):
     async def test_settle(self) -> None:
-        guard, loop = await self.guard(settle=0.4), asyncio.get_running_loop()
+        guard, loop = await self.guard(settle=2.0), asyncio.get_running_loop()
         guard.told(holder(1))
         await self.through(1)
         begun = loop.time()
         await self.through(1)
-        self.assertLess(loop.time(), begun + 0.35, "of one session the next needn't wait")
+        self.assertLess(loop.time(), begun + 1.9, "of one session the next needn't wait")
         begun = loop.time()
         guard.told(holder(2))
         await self.through(2)
-        self.assertGreaterEqual(loop.time(), begun + 0.39)
+        self.assertGreaterEqual(loop.time(), begun + 1.95)
 
     async def test_clear(self) -> None:
         guard = await self.guard(clear="*CLS")
@@ -227,9 +234,19 @@ class Between(Inside):
         client.writer.write(b"a\nb\n")
         client.writer.write_eof()
         self.assertEqual(await client.reader.read(), b"1\n1\n")
-        for _ in range(100):
-            await asyncio.sleep(0.01)
-        self.assertEqual((self.instrument.open, len(guard.through)), (0, 0))
+        await eventually(lambda: (self.instrument.open, len(guard.through)) == (0, 0))
+
+    async def test_bytes_that_another_guard_had(self) -> None:
+        """One that was started again waits for them only as long as a connection of the session is open."""
+        guard = await self.guard()
+        guard.told(holder(1))
+        client, ends = await self.through(1), await self.client()
+        self.assertEqual(await client.asks("abc"), "1")
+        answer = asyncio.create_task(ends.asks(f"labrun {TICKETS[1]} ends 1000"))
+        self.assertFalse((await asyncio.wait({answer}, timeout=0.5))[0])
+        client.writer.close()
+        async with asyncio.timeout(2):
+            self.assertEqual(await answer, "ok")
 
     async def test_numbers(self) -> None:
         try:
@@ -348,8 +365,7 @@ class Told(OnFolder):
         self.assertEqual((one.instrument, one.ticket_hash, one.station, one.by), ("scope", digits_of(owner_of(TICKET)), "radio", "ann"))
         self.assertGreater(one.token, 0)
         await told.aclose()
-        await asyncio.sleep(0.05)
-        self.assertEqual(len(keeping._news._watchers), 0, "nobody looks any more")
+        await eventually(lambda: not keeping._news._watchers, "nobody looks any more")
         assert session.owner is not None
         await keeping.let_go(session, session.owner)
         await keeping.close()

@@ -60,10 +60,13 @@ class Beyond(unittest.TestCase):
         tls = ("--tls-certificate", f"{folder}/guard.crt", "--tls-key", f"{folder}/guard.key")
         self.begins(f"clients come to {HOST}:5025", *COMMAND, "guard", f"{folder}/guards.toml", "--broker", at, *tls)
         for name, out, fault in (("guard", "scope\n", ""), ("other", "", "no certificate that is known here")):
-            words = [*COMMAND, "hold", "scope", "--broker", at, "--certificate", f"{folder}/{name}.crt", "--", sys.executable, "-c", ASKS, f"{TOP}/examples/broker"]
-            done = subprocess.run(["ip", "netns", "exec", NAME, *words], capture_output=True, text=True, timeout=3 * LIMIT)
-            self.assertEqual(done.stdout, out, done.stderr)
-            self.assertIn(fault, done.stderr)
+            certificate = f"{folder}/{name}.crt"
+            for given, more in ((("--certificate", certificate), {}), ((), {"LABRUN_BROKER_CERTIFICATE_FILE": certificate})):
+                words = [*COMMAND, "hold", "scope", "--broker", at, *given, "--", sys.executable, "-c", ASKS, f"{TOP}/examples/broker"]
+                how = {"env": {**os.environ, **more}, "timeout": 3 * LIMIT}
+                done = subprocess.run(["ip", "netns", "exec", NAME, *words], capture_output=True, text=True, **how)
+                self.assertEqual(done.stdout, out, done.stderr)
+                self.assertIn(fault, done.stderr)
 
 
 if __name__ == "__main__":

@@ -1,16 +1,20 @@
-"""PyVISA by a guard, at an instrument that speaks SCPI and has a large waveform; and the two connections of HiSLIP."""
+"""PyVISA and labgrid by a guard, at an instrument that speaks SCPI and has a large waveform; and the two connections of HiSLIP."""
 
 from __future__ import annotations
 
-import importlib
+import importlib.util
+import re
 import socket
 import struct
+import subprocess
+import sys
+import textwrap
 import threading
 import unittest
 import warnings
 from typing import Any
 
-from tests.brokers import LIMIT
+from tests.brokers import LIMIT, TOP
 from tests.guards import Folder, Guarded
 
 POINTS = 8 << 20
@@ -85,6 +89,33 @@ class ByVisa(unittest.TestCase):
                                     self.reads(held.address("scope"))
                     finally:
                         at.ends()
+
+
+class AsThePageHasIt(unittest.TestCase):
+    """The programs of docs/broker.md, with the broker's address in place of the page's."""
+
+    def prints(self, begins: str) -> str:
+        with open(f"{TOP}/docs/broker.md", encoding="utf-8") as page:
+            [program] = [textwrap.dedent(it) for it in re.findall(r"(?m)(?:^    .*\n|^\n(?=    ))+", page.read()) if begins in it]
+        scope = Scope()
+        self.addCleanup(scope.close)
+        at = Guarded(self.enterContext(Folder()), {"scope": scope.port})
+        self.addCleanup(at.ends)
+        program, count = re.subn(r"connect\([^)]*\)", f"connect({at.broker.address!r})", program)
+        self.assertEqual(count, 1)
+        ran = subprocess.run([sys.executable, "-W", "ignore", "-c", program], capture_output=True, text=True, timeout=LIMIT)
+        self.assertEqual((ran.returncode, ran.stderr), (0, ""))
+        return ran.stdout
+
+    def test_pyvisa(self) -> None:
+        if not importlib.util.find_spec("pyvisa_py"):
+            self.skipTest("there is no pyvisa-py")
+        self.assertEqual(self.prints("import labrun_broker, pyvisa"), "labrun,scope,1,0\n")
+
+    def test_labgrid(self) -> None:
+        if not importlib.util.find_spec("labgrid"):
+            self.skipTest("there is no labgrid")
+        self.assertEqual(self.prints("from labgrid import Target"), "labrun,scope,1,0\n")
 
 
 class Hislip:

@@ -75,7 +75,9 @@ class Page(OnBroker):
         until(lambda: self.browser.title == "holds scope", "it holds")
         # its pings keep the session for longer than the grace
         time.sleep(9)
-        self.assertEqual(one.status("guest-1")["state"], "holding")
+        # (one that is late once is gone for a moment)
+        until(lambda: one.status("guest-1")["state"] == "holding")
+        self.assertEqual(self.browser.title, "holds scope")
         self.browser.execute_script("go()")
         until(lambda: self.browser.title == "over", "it has let go")
         self.assertEqual(one.status("guest-1")["state"], "idle")

@@ -8,7 +8,7 @@ import tempfile
 import threading
 import time
 import unittest
-from typing import Any, Optional
+from typing import Any, Callable, Optional
 from unittest import mock
 
 import labrun
@@ -22,7 +22,7 @@ from labrun_broker.places import Places
 from labrun_broker.sessions import Past, read_records
 from labrun_broker.standing import Session, Standings
 from labrun_broker.wishes import Ended, Wish
-from tests.brokers import BAY
+from tests.brokers import BAY, LIMIT
 
 TICKET = "a ticket of a test"
 
@@ -35,6 +35,15 @@ class Owner:
 
     def taken(self, why: str) -> None:
         self.told.append(why)
+
+
+async def eventually(is_so: Callable[[], Any], what: str = "it") -> None:
+    """Waits on the loop until something is so."""
+    end = time.monotonic() + LIMIT
+    while not is_so():
+        if time.monotonic() > end:
+            raise AssertionError(f"{what} isn't so after {LIMIT} s")
+        await asyncio.sleep(0.005)
 
 
 class OnKeeping(unittest.IsolatedAsyncioTestCase):
@@ -102,10 +111,49 @@ class Sessions(OnKeeping):
         board = await self.asks(keeping, "scope", "supply", station="board")
         guest = await self.asks(keeping, "supply")
         text = how(keeping, "guest-1")["waits_for"][0]["text"]
-        self.assertRegex(text, r"^supply is kept for board, which waits for scope, held by radio for \d+\.\d s$")
+        self.assertRegex(text, r"^supply is kept for board until it holds, since it asked first and it waits for scope, held by radio for \d+\.\d s$")
         await keeping.let_go(radio, self.owner)
         await keeping.let_go(await board, self.owner)
         await keeping.let_go(await guest, self.owner)
+
+    async def test_whoever_was_passed_comes_first(self) -> None:
+        """It is said how often that was, and why it waits, though what it waits for is only kept for another."""
+        keeping = await self.keeping("overtakes = 2\n" + BAY)
+        holds = await self.holds(keeping, "load-1")
+        board = await self.asks(keeping, "load-1", "load-2", station="")
+        for _ in range(2):
+            await keeping.let_go(await self.holds(keeping, "load-2"), self.owner)
+        last = await self.asks(keeping, "load-2")
+        text = how(keeping, "guest-3")["waits_for"][0]["text"]
+        self.assertRegex(text, r"^load-2 is kept for guest-2 until it holds, since 2 others went before it and it waits for load-1, held by guest-1 for \d+\.\d s$")
+        await keeping.let_go(holds, self.owner)
+        for one in (board, last):
+            await keeping.let_go(await one, self.owner)
+
+    async def test_kept_for_one_for_whom_nothing_is_kept_yet(self) -> None:
+        """Of one that waits for what only is kept for another, that one is said."""
+        keeping = await self.keeping("overtakes = 0\n" + BAY)
+        holds = await self.holds(keeping, "scope")
+        asked = [await self.asks(keeping, *its) for its in (("scope", "supply"), ("supply", "load-1"), ("load-1",))]
+        text = how(keeping, "guest-4")["waits_for"][0]["text"]
+        self.assertEqual(text, "load-1 is kept for guest-3 until it holds, since it asked first and it waits for supply, kept for guest-2")
+        await keeping.let_go(holds, self.owner)
+        for one in asked:
+            await keeping.let_go(await one, self.owner)
+
+    async def test_a_chain_that_parts(self) -> None:
+        """The two for whom one waits are told as one thing, so that nobody takes the second for one that keeps the guest itself."""
+        keeping = await self.keeping("overtakes = 0\n" + BAY)
+        radio, first = await self.holds(keeping, "scope", station="radio"), await self.holds(keeping, "load-1")
+        second = await self.asks(keeping, "scope", "load-1", "supply")
+        third = await self.asks(keeping, "supply")
+        text = how(keeping, "guest-3")["waits_for"][0]["text"]
+        held = r"held by (radio|guest-1) for \d+\.\d s"
+        self.assertRegex(text, f"^supply is kept for guest-2 until it holds, since it asked first and it waits for scope, {held} and load-1, {held}$")
+        for it in (radio, first):
+            await keeping.let_go(it, self.owner)
+        for one in (second, third):
+            await keeping.let_go(await one, self.owner)
 
     async def test_a_status_holds_up_nobody(self) -> None:
         """Of two hundred clients at as many instruments as may be: all of it is done on the loop, in some 4 ms of its time on a machine that
@@ -141,10 +189,20 @@ class Sessions(OnKeeping):
     async def test_timeout(self) -> None:
         keeping = await self.keeping()
         await self.holds(keeping, "scope", station="board")
-        with self.assertRaisesRegex(labrun.TimeoutError, r"scope is held by board for 0\.\d s"):
+        with self.assertRaisesRegex(labrun.TimeoutError, r"scope is held by board for \d+\.\d s"):
             await self.holds(keeping, "scope", station="radio", timeout=0.05)
         self.assertEqual(whats(keeping, "radio"), ["asked", "gave_up"])
         self.assertEqual(how(keeping, "radio")["state"], "idle")
+
+    async def test_who_doesnt_wait(self) -> None:
+        """It is told so, and never that its time was over; and who keeps it, and since when."""
+        keeping = await self.keeping()
+        await self.holds(keeping, "scope", station="board", by="ann@bench-3 4711 sh")
+        told = r"of radio was refused, because it doesn't wait \(-n, or a timeout of 0\): scope is held by board for \d+\.\d s \(ann@bench-3 4711 sh\)$"
+        with self.assertRaisesRegex(labrun.TimeoutError, told):
+            await self.holds(keeping, "scope", station="radio", timeout=0)
+        with self.assertRaisesRegex(labrun.TimeoutError, "of radio was given up when its time was over: scope is held by board"):
+            await self.holds(keeping, "scope", station="radio", timeout=0.001)
 
     async def test_who_is_cancelled_leaves_the_line(self) -> None:
         keeping = await self.keeping()
@@ -180,12 +238,30 @@ class Sessions(OnKeeping):
         fifth, sixth = await self.asks(keeping, "load-5"), await self.asks(keeping, "load-6")
         self.assertFalse(fifth.done() or sixth.done(), "each guest holds")
         self.assertEqual([(it["station"], it["instruments"]) for it in keeping.status()["in_line"]], [("", ["load-5"]), ("", ["load-6"])])
-        with self.assertRaisesRegex(TimedOut, "all 4 guests"):
+        with self.assertRaisesRegex(TimedOut, "all 4 places for guests are taken"):
             await self.holds(keeping, "load-7", timeout=0.02)
         await keeping.let_go(first, self.owner)
         self.assertEqual(((await fifth).state, sixth.done()), ("holding", False))
         await keeping.let_go(await fifth, self.owner)
         self.assertEqual((await sixth).state, "holding")
+
+    async def test_where_one_stands_in_line(self) -> None:
+        """In the order of asking; and who went first is counted, up to the number after which nobody does who came later."""
+        keeping = await self.keeping("overtakes = 2\ninstruments = ['scope', 'supply']\n[guests]\ncount = 9\n")
+        holder = await self.holds(keeping, "scope")
+        first, second = await self.asks(keeping, "scope", "supply"), await self.asks(keeping, "scope")
+        rows = lambda: [(it["place"], it["passed"]) for it in keeping.status()["stations"] if it["state"] == "waiting"]
+        self.assertEqual((keeping.status()["overtakes"], rows()), (2, [(1, 0), (2, 0)]))
+        for times in (1, 2):
+            await keeping.let_go(await self.holds(keeping, "supply", timeout=0), self.owner)
+            self.assertEqual(rows(), [(1, times), (2, 0)])
+        with self.assertRaises(TimedOut):
+            await self.holds(keeping, "supply", timeout=0)
+        self.assertEqual([it["place"] for it in keeping.status()["stations"] if it["state"] == "holding"], [None])
+        await keeping.let_go(holder, self.owner)
+        self.assertEqual(((await first).state, rows()), ("holding", [(1, 1)]))
+        await keeping.let_go(await first, self.owner)
+        self.assertEqual((await second).state, "holding")
 
     async def test_a_station_is_in_one_session(self) -> None:
         keeping = await self.keeping()
@@ -223,10 +299,15 @@ class Sessions(OnKeeping):
             ({"any_of": (("scope",), ("suply",)), "station": "radio"}, NoInstrument, r"suply is no instrument of this bay: .* \(did you mean supply\?\)"),
             ({"instruments": ("supply",), "station": "radio"}, labrun.MayNotUse, "radio may not use supply: it may use scope"),
             ({"instruments": ("scope",), "station": "lamp"}, BadWish, "lamp is no station of this bay: there are board, radio"),
-            ({"instruments": ("scope",), "station": "guest-1"}, BadWish, "guest-1 is no station"),
+            ({"instruments": ("scope",), "station": "guest-1"}, BadWish, "guest-1 is no station of this bay: there are board, radio; guests ask without one$"),
+            ({"instruments": ("scope",), "station": "bord"}, BadWish, r"bord is no station of this bay: there are board, radio \(did you mean board\?\)$"),
+            ({"instruments": ("tag:precise",)}, NoInstrument, "precise is no tag; there are none$"),
             ({}, BadWish, "say which instruments"),
             ({"any_of": ((),)}, BadWish, "say which instruments"),
-            ({"instruments": ("scope",), "any_of": (("scope",),)}, BadWish, "say which instruments"),
+            ({"instruments": ("scope",), "any_of": (("scope",),)}, BadWish, "say either which instruments, or which sets of them to choose from .any_of., and not both"),
+            ({"instruments": ("",)}, NoInstrument, "^an empty name is no instrument of this bay: there are scope, "),
+            ({"instruments": ("scope,supply",)}, NoInstrument, r"load-2 .each is a word of its own: scope supply.$"),
+            ({"instruments": ("x" * 65,)}, BadWish, "^an instrument's name of 65 characters; 64 are the most$"),
             ({"instruments": ("scope",), "ticket": "short"}, BadWish, "a ticket has 16"),
             ({"ticket": TICKET, "comes_back": True}, Ended, "no session has this ticket"),
         )
@@ -252,7 +333,7 @@ class Sessions(OnKeeping):
         await asyncio.sleep(0.02)
         self.assertFalse(waits.done())
         await self.holds(keeping, "scope")
-        await asyncio.wait_for(waits, 1)
+        await asyncio.wait_for(waits, LIMIT)
         await changes.aclose()
 
 
@@ -314,14 +395,16 @@ class Gone(OnKeeping):
         self.assertEqual(seat.state, "gone")
 
     async def test_released_after_the_grace(self) -> None:
-        keeping = await self.keeping('gone = "release"\n' + BAY, grace=0.05)
+        keeping = await self.keeping('gone = "release"\n' + BAY, grace=1.0)
         seat = await self.holds(keeping, "scope", ticket=TICKET)
+        begun = keeping.now()
         keeping.gone(seat, self.owner)
         radio = await self.asks(keeping, "scope", station="radio")
         self.assertFalse(radio.done(), "the grace isn't over")
-        self.assertEqual((await asyncio.wait_for(radio, 1)).name, "radio")
+        self.assertEqual((await asyncio.wait_for(radio, LIMIT)).name, "radio")
+        self.assertGreaterEqual(keeping.now(), begun + 1000)
         self.assertEqual(whats(keeping, "guest-1"), ["asked", "held", "gone", "taken"])
-        with self.assertRaisesRegex(Ended, "taken away by the broker, because its client was gone for 0.05 s"):
+        with self.assertRaisesRegex(Ended, "taken away by the broker, because its client was gone for 1 s"):
             await keeping.hold(Wish(ticket=TICKET, comes_back=True), self.owner)
 
     async def test_when_a_client_is_gone(self) -> None:
@@ -362,12 +445,12 @@ class Gone(OnKeeping):
     async def test_who_comes_back_again_at_once_waits(self) -> None:
         keeping = await self.keeping()
         seat = await self.holds(keeping, "scope", ticket=TICKET)
-        with mock.patch.object(leases, "BACK", 0.3):
+        with mock.patch.object(leases, "BACK", 1.5):
             begun, owners = time.monotonic(), [Owner() for _ in range(4)]
             for owner in owners[:3]:
                 keeping.gone(seat, seat.owner)
                 await keeping.hold(Wish(ticket=TICKET, comes_back=True), owner)
-            self.assertGreater(time.monotonic() - begun, 0.55)
+            self.assertGreater(time.monotonic() - begun, 2.9)
             waits = asyncio.create_task(keeping.hold(Wish(ticket=TICKET, comes_back=True), owners[3]))
             await asyncio.sleep(0.01)
             await keeping.let_go(seat, owners[2])
@@ -375,27 +458,52 @@ class Gone(OnKeeping):
                 await waits
 
     async def test_back_within_the_grace(self) -> None:
-        keeping = await self.keeping('gone = "release"\n' + BAY, grace=0.05)
+        keeping = await self.keeping('gone = "release"\n' + BAY, grace=1.0)
         seat = await self.holds(keeping, "scope", ticket=TICKET)
         keeping.gone(seat, self.owner)
         await keeping.hold(Wish(ticket=TICKET, comes_back=True), self.owner)
-        await asyncio.sleep(0.1)
+        await asyncio.sleep(1.3)
         self.assertEqual(seat.state, "holding")
 
     async def test_released_by_an_operator(self) -> None:
         keeping = await self.keeping()
         seat = await self.holds(keeping, "scope", "supply", station="board")
         self.assertEqual(await keeping.release("board", "eve"), ("scope", "supply"))
-        self.assertEqual(self.owner.told, ["board: the session was taken away by eve: scope, supply"])
+        self.assertEqual(self.owner.told, ["board: the session with scope, supply was taken away by eve"])
         self.assertEqual((seat.state, how(keeping, "board")["state"]), ("over", "idle"))
         again = await self.holds(keeping, "scope", station="board")
         self.assertGreater(again.number, seat.number)
-        with self.assertRaisesRegex(labrun.NotHeld, f"board is in session {again.number}, and not in {seat.number} any more"):
+        with self.assertRaisesRegex(labrun.NotHeld, f"board is in session {again.number} now, and not in {seat.number}"):
             await keeping.release("board", "eve", seat.number)
         self.assertEqual(await keeping.release("board", "eve", again.number), ("scope",))
-        for name, kind, text in (("radio", labrun.NotHeld, "radio holds nothing"), ("lamp", BadWish, "lamp is no station")):
+        for name, kind, text in (
+            ("radio", labrun.NotHeld, "^radio holds nothing$"),
+            ("lamp", BadWish, "lamp is no station of this bay: there are board, radio, and guest-1 to guest-4$"),
+            ("bord", BadWish, r"guest-4 \(did you mean board\?\)$"),
+            ("gest-3", BadWish, r"guest-4 \(did you mean guest-3\?\)$"),
+        ):
             with self.subTest(name), self.assertRaisesRegex(kind, text):
                 await keeping.release(name, "eve")
+
+    async def test_a_release_of_one_that_waits(self) -> None:
+        """There is nothing to release: it is said that it waits, who that is, for what, and how that is ended; and it waits on."""
+        keeping = await self.keeping()
+        await self.holds(keeping, "scope", "load-1", station="", by="ben@bench-1 7 sh")
+        waits = [await self.asks(keeping, "scope", station="radio", by="ann@bench-3 4711 sh")]
+        why = r"radio holds nothing: it waits for scope \(ann@bench-3 4711 sh\): scope is held by guest-1 for \d+\.\d s \(ben@bench-1 7 sh\)"
+        ends = r"\. To end that, end its client, as by Ctrl-C there: it leaves the line$"
+        with self.assertRaisesRegex(labrun.NotHeld, why + ends):
+            await keeping.release("radio", "eve")
+        waits.append(await self.asks(keeping, "scope", station="radio"))
+        with self.assertRaisesRegex(labrun.NotHeld, why + r"; 1 more waits as radio" + ends):
+            await keeping.release("radio", "eve")
+        waits.append(await self.asks(keeping, any_of=(("scope",), ("load-1",))))
+        with self.assertRaisesRegex(labrun.NotHeld, r"guest-2 holds nothing: it waits for scope load-1: scope is held by guest-1 for .*, load-1 is held by guest-1 for "):
+            await keeping.release("guest-2", "eve")
+        self.assertEqual([it.done() for it in waits], [False] * 3)
+        for it in waits:
+            it.cancel()
+        await asyncio.gather(*waits, return_exceptions=True)
 
     async def test_released_before_its_client_is_told(self) -> None:
         folder, may = self.enterContext(tempfile.TemporaryDirectory()), threading.Event()
@@ -406,7 +514,7 @@ class Gone(OnKeeping):
         real = os.fdatasync
 
         def fdatasync(file: int) -> None:
-            may.wait(5)
+            may.wait(LIMIT)
             real(file)
 
         with mock.patch("os.fdatasync", fdatasync):
@@ -429,7 +537,7 @@ class Gone(OnKeeping):
         await keeping.open()
         self.addAsyncCleanup(keeping.close)
         self.addCleanup(may.set)
-        with mock.patch("os.fdatasync", lambda file: may.wait(5)):
+        with mock.patch("os.fdatasync", lambda file: may.wait(LIMIT)):
             waits = asyncio.create_task(keeping.hold(Wish(any_of=(("supply",), ("scope",)), station="board"), self.owner))
             await asyncio.sleep(0.02)
             self.assertEqual((how(keeping, "board")["state"], how(keeping, "board")["instruments"], waits.done()), ("holding", ["supply"], False))
@@ -451,7 +559,7 @@ class Gone(OnKeeping):
                 status = keeping.status()
             self.assertEqual(status["at"], round(now + jump, 3))
             guest = next(it for it in status["stations"] if it["name"] == seat.name)
-            self.assertTrue(0 <= status["at"] - guest["gone_since"] < 5 and 0 <= status["at"] - guest["since"] < 5)
+            self.assertTrue(0 <= status["at"] - guest["gone_since"] < 600 and 0 <= status["at"] - guest["since"] < 600)
 
 
 class Jumps(OnFolder):
@@ -470,7 +578,7 @@ class Jumps(OnFolder):
         for record in read_records(folder)[0]:
             past.take(record)
         board_was, radio_was = past.ended
-        self.assertTrue(0.19 < board_was.worked(now) < 5 and 0.19 < radio_was.waited(now) < 5, past.ended)
+        self.assertTrue(0.19 < board_was.worked(now) < 600 and 0.19 < radio_was.waited(now) < 600, past.ended)
 
 
 class Memory:
@@ -505,6 +613,8 @@ class Memory:
 
     def add(self, record: dict[str, Any]) -> None:
         self.told.append(record)
+
+    def has_file(self, bay: Any) -> None: ...
 
     def recent(self) -> list[dict[str, Any]]:
         return list(self.told)

@@ -13,7 +13,7 @@ from labrun_broker.bay import BayFault, bay_of
 from labrun_broker.errors import BadWish
 from labrun_broker.keeping import Keeping
 from labrun_broker.wishes import Ended, Wish
-from tests.brokers import BAY, LIMIT, OnBroker
+from tests.brokers import BAY, LIMIT, OnBroker, until
 from tests.test_keeping import TICKET, OnFolder, Owner
 
 LIMITED = "limit = \"2h\"\n" + BAY + "limit = \"30min\"\n[station_limits]\nradio = 90\n"
@@ -69,7 +69,7 @@ class Limits(OnFolder):
         self.assertTrue(0 <= seconds <= 0.04 + 0.001)
         new = await keeping.hold(Wish(("scope",), timeout=LIMIT), other)
         why = "by the broker, because it held for longer than its limit of 0.4 s, and somebody waits for what it had"
-        self.assertEqual((new.instruments, owner.told), (("scope",), [f"board: the session was taken away {why}: scope"]))
+        self.assertEqual((new.instruments, owner.told), (("scope",), [f"board: the session with scope was taken away {why}"]))
         with self.assertRaisesRegex(Ended, "because it held for longer than its limit"):
             await keeping.hold(Wish(ticket=TICKET, comes_back=True), owner)
         self.assertEqual([it["text"] for it in keeping.history if it["what"] == "taken"], [why])
@@ -96,6 +96,32 @@ class Limits(OnFolder):
         self.assertGreater(new.number, held.number)
         self.assertRegex(owner.told[0], "longer than its limit of 3 s")
 
+    async def test_one_that_is_gone(self) -> None:
+        """It is kept whatever its client does, but not from its limit; also where something is made safe."""
+        for more in ("", '[on_release]\nscope = "true"\n'):
+            with self.subTest(more):
+                keeping, owner = await self.opened(None, SHORT + more), Owner()
+                held = await keeping.hold(Wish(("scope",), ticket=TICKET), owner)
+                keeping.gone(held, owner)
+                await asyncio.sleep(0.5)
+                self.assertEqual((held.state, held.is_kept), ("gone", True))
+                new = await keeping.hold(Wish(("scope",), timeout=LIMIT), Owner())
+                self.assertGreater(new.number, held.number)
+
+    async def test_who_wants_its_place(self) -> None:
+        """The place of a station is what one waits for, too, and that of a guest if there is no other; also where something is made safe."""
+        for more in ("", '[on_release]\nscope = "true"\n'):
+            for station, guests in (("board", 4), ("", 1), ("", 2)):
+                with self.subTest(more, station=station, guests=guests):
+                    keeping, owner = await self.opened(None, SHORT.replace("count = 4", f"count = {guests}") + more), Owner()
+                    held = await keeping.hold(Wish(("scope",), station=station, ticket=TICKET), owner)
+                    if guests == 2:
+                        other = await keeping.hold(Wish(("load-1",), limit=60.0), Owner())
+                        self.assertEqual(other.name, "guest-2")
+                    new = await keeping.hold(Wish(("supply",), station=station, timeout=LIMIT), Owner())
+                    self.assertEqual((new.instruments, held.holds), (("supply",), False))
+                    self.assertRegex(owner.told[0], "longer than its limit of 0.4 s")
+
     async def test_bad_wishes(self) -> None:
         keeping, owner = await self.opened(None), Owner()
         for limit in (0.0, -1.0, 1e9, float("nan")):
@@ -114,6 +140,7 @@ class Clients(OnBroker):
         self.assertTrue(is_warned.wait(LIMIT))
         self.assertRegex(warnings[0], "^board may hold scope for 1 s, which is over in 0.[01] s: then whoever waits for it gets it$")
         with other.hold("scope", timeout=LIMIT):
+            until(lambda: taken, "it is told")
             with self.assertRaisesRegex(labrun.TakenAway, "longer than its limit of 1 s"):
                 held.release()
         self.assertEqual(len(taken), 1)
@@ -128,8 +155,7 @@ class Clients(OnBroker):
                 other = self.lab(broker)
                 with other.hold("supply"):
                     pass
-                while other.status()["instruments"][0]["holder"] is None:
-                    time.sleep(0.02)
+                until(lambda: other.status()["instruments"][0]["holder"], "it holds")
                 with other.hold("scope", timeout=LIMIT):
                     pass
                 _, said = holds.communicate(timeout=LIMIT)

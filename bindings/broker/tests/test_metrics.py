@@ -8,6 +8,7 @@ import time
 import unittest
 from typing import Any
 
+from .brokers import until
 from .fake import Keeping
 from .webs import Web
 
@@ -40,7 +41,7 @@ class Numbers(unittest.TestCase):
         web = Web(serve, lambda: Keeping(BAY, now=time.time()))
         try:
             web.do(day, web.keeping)
-            time.sleep(0.2)
+            until(lambda: 'end="gave up"' in web.get("/metrics")[2], "all is counted")
             status, heads, text = web.get("/metrics")
             self.assertEqual((status, heads["Content-Type"].split(";")[0]), (200, "text/plain"))
             self.assertEqual(web.get("/metrics")[2].count("labrun_refusals_total 4.0"), 1)
@@ -81,7 +82,7 @@ class Numbers(unittest.TestCase):
             web = Web(serve_metrics, new)
             try:
                 web.do(web.keeping.end, "board", "taken")
-                time.sleep(0.3)
+                until(lambda: "labrun_sessions_total{" in web.get("/metrics")[2], "it is counted")
                 lines = [it for it in web.get("/metrics")[2].splitlines() if it.startswith("labrun_sessions_total")]
             finally:
                 web.close()

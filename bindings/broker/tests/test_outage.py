@@ -2,16 +2,20 @@
 
 import asyncio
 import json
+import os
+import signal
+import time
 import unittest
+from concurrent.futures import ThreadPoolExecutor
 from typing import Optional
 
 from labrun_broker.bay import bay_of
-from labrun_broker.errors import BadWish, NoInstrument, OutOfOrder
+from labrun_broker.errors import AnswerLost, BadWish, NoInstrument, OutOfOrder, Unreachable
 from labrun_broker.errors import TimeoutError as TimedOut
 from labrun_broker.keeping import Keeping
 from labrun_broker.outage import disable, enable
 from labrun_broker.wishes import Wish
-from tests.brokers import BAY, OnBroker
+from tests.brokers import BAY, LIMIT, OnBroker
 from tests.test_keeping import TICKET, OnFolder, Owner, how
 
 
@@ -26,7 +30,7 @@ class Outages(OnFolder):
         """It is told so at once, and why; one with a choice goes round it; and all is as before once it is in order again."""
         keeping, owner = await self.opened(None), Owner()
         await disable(keeping, "load-1", "calibration until Friday", "ann")
-        with self.assertRaisesRegex(OutOfOrder, r"^load-1 is out of order for \d\.?\d* s: calibration until Friday \(says ann\)$"):
+        with self.assertRaisesRegex(OutOfOrder, r"^load-1 has been out of order for \d+\.?\d* s: calibration until Friday \(says ann\)$"):
             await keeping.hold(Wish(("scope", "load-1"), timeout=60), owner)
         other = await keeping.hold(Wish(any_of=(("load-1",), ("load-2",))), owner)
         self.assertEqual(other.instruments, ("load-2",))
@@ -48,7 +52,7 @@ class Outages(OnFolder):
         chooses = asyncio.create_task(keeping.hold(Wish(any_of=(("load-1",), ("load-2",)), timeout=30, by="bob"), owner))
         await asyncio.sleep(0.02)
         await disable(keeping, "load-1", "", "ann")
-        with self.assertRaisesRegex(OutOfOrder, r"load-1 is out of order for \d s \(says ann\)"):
+        with self.assertRaisesRegex(OutOfOrder, r"load-1 has been out of order for \d+\.?\d* s \(says ann\)"):
             await waits
         await keeping.note(held, owner, "5 V")
         await keeping.let_go(held, owner)
@@ -91,11 +95,11 @@ class Commands(OnBroker):
         broker = self.broker(BAY, "--state", "FOLDER/state")
         lab = self.lab(broker)
         self.assertEqual(broker.ran("disable", "scope", "calibration until Friday").returncode, 0)
-        self.assertRegex(broker.ran("status").stdout, r"\nscope is out of order for \d+ s: calibration until Friday \(says .*@.*\)\n")
+        self.assertRegex(broker.ran("status").stdout, r"\nscope has been out of order for \d+ s: calibration until Friday \(says .*@.*\)\n")
         for words in (("hold", "scope"), ("hold", "scope", "--timeout", "60")):
             done = broker.ran(*words, "--", "true")
             self.assertEqual(done.returncode, 1)
-            self.assertRegex(done.stderr, r"^labrun-broker: scope is out of order for \d+ s: calibration until Friday \(says ")
+            self.assertRegex(done.stderr, r"^labrun-broker: scope has been out of order for \d+ s: calibration until Friday \(says ")
         with self.assertRaisesRegex(OutOfOrder, "calibration"):
             lab.hold("scope").acquire()
         done = broker.ran("hold", "--any", "scope", "supply", "--", "sh", "-c", "echo $LABRUN_HELD")
@@ -104,8 +108,42 @@ class Commands(OnBroker):
         with lab.hold("scope"):
             pass
         self.assertEqual(broker.ran("enable", "scope").returncode, 1)
+        for words in (("disable", "scop", "no trigger"), ("enable", "scop")):
+            done = broker.ran(*words)
+            self.assertEqual(done.returncode, 2, words)
+            self.assertIn("labrun-broker: scop is no instrument of this bay: there are scope, ", done.stderr)
+        with self.assertRaisesRegex(NoInstrument, "did you mean scope"):
+            lab.disable("scop")
         self.assertEqual(broker.end(), 0)
         self.assertRegex(broker.said, "scope is out of order, says .*: calibration until Friday\n.*scope is in order again, says")
+
+    def test_what_cant_be_written_isnt_so(self) -> None:
+        broker = self.broker(BAY, "--state", "FOLDER/state")
+        os.mkdir(f"{broker.folder}/state/bay.json.new")
+        done = broker.ran("disable", "scope", "no trigger")
+        self.assertEqual((done.returncode, done.stdout), (74, ""))
+        why = "the bay's names, and what is out of order, couldn't be written, so this isn't done: Is a directory"
+        self.assertEqual(done.stderr, f"labrun-broker: {broker.folder}/state/bay.json: {why}\n")
+        self.assertEqual(broker.ran("hold", "scope", "-n", "--", "true").returncode, 0)
+        os.rmdir(f"{broker.folder}/state/bay.json.new")
+        self.assertEqual(broker.ran("disable", "scope", "no trigger").returncode, 0)
+
+    def test_a_broker_that_dies_before_it_answers(self) -> None:
+        """Nobody knows whether it was done, and whoever asked is told what to do."""
+        broker = self.broker()
+        lab = self.lab(broker)
+        lab.status()
+        assert broker.process is not None
+        broker.process.send_signal(signal.SIGSTOP)
+        with ThreadPoolExecutor() as threads:
+            asked = threads.submit(lab.disable, "scope", "no trigger")
+            time.sleep(2)
+            broker.kill()
+            with self.assertRaisesRegex(AnswerLost, "connection; it may have been done, or not: see `labrun-broker status`, and try again$"):
+                asked.result(LIMIT)
+        with self.assertRaises(Unreachable) as fault:
+            lab.disable("scope", "no trigger")
+        self.assertNotIsInstance(fault.exception, AnswerLost, "nobody was there to hear it")
 
 
 if __name__ == "__main__":

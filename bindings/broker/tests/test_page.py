@@ -16,6 +16,7 @@ import unittest
 from typing import Any, Callable, Iterator
 from unittest import mock
 
+from .brokers import LIMIT, SOON, until
 from .fake import Keeping
 from .webs import Web
 
@@ -30,7 +31,7 @@ BAY = {"board": ["scope", "supply"], "radio": ["scope"]}
 
 def events(port: int, count: int) -> Iterator[Any]:
     """The first events of the page, and when each came."""
-    with socket.create_connection(("127.0.0.1", port), timeout=8) as talk, talk.makefile("rb") as lines:
+    with socket.create_connection(("127.0.0.1", port), timeout=LIMIT) as talk, talk.makefile("rb") as lines:
         talk.sendall(b"GET /events HTTP/1.1\r\nHost: 127.0.0.1\r\n\r\n")
         for line in lines:
             if line.startswith(b"data: "):
@@ -65,6 +66,7 @@ class Pages(unittest.TestCase):
         for way in ("innerHTML", "outerHTML", "insertAdjacentHTML", "document.write", "eval(", "Function("):
             self.assertNotIn(way, text)
 
+    @mock.patch.object(page, "BEAT", LIMIT)
     def test_what_happens_is_told_once(self) -> None:
         told = events(self.web.port, 100)
         self.assertTrue(next(told)["all"])
@@ -76,7 +78,7 @@ class Pages(unittest.TestCase):
         self.do("end", "board")
         begun = time.monotonic()
         news = self.until(told, lambda it: len(it["records"]) == 2)
-        self.assertLess(time.monotonic() - begun, 3)
+        self.assertLess(time.monotonic() - begun, SOON)
         self.assertEqual([(it["station"], it["how"], it["instruments"]) for it in news["ended"]], [("board", "done", ["scope"])])
         self.do("hold", "radio")
         news = self.until(told, lambda it: bool(it["records"]))
@@ -96,15 +98,19 @@ class Pages(unittest.TestCase):
             self.do("hold", "board", "scope")
             self.do("end", "board")
         time.sleep(2 * sessions.REST)
-        times, told = [], []
+        begun, told = time.monotonic(), []
+
+        def works(keeping: Keeping) -> None:
+            keeping.hold("board", "scope")
+            keeping.end("board")
+
         for it in events(self.web.port, 4):
-            times.append(time.monotonic())
             told.append(it)
-            self.do("hold", "board", "scope")
-            self.do("end", "board")
+            took = time.monotonic() - begun
+            self.web.do(works, self.web.keeping)
         self.assertEqual((len(told[0]["ended"]), len(told[0]["records"])), (300, page.MOST_RECORDS))
         self.assertEqual(sum(len(it["ended"]) for it in told), 303)
-        self.assertGreater(times[3] - times[0], 3 * page.PACE - 0.05)
+        self.assertGreater(took, 3 * page.PACE - 0.05)
 
     def test_it_only_shows(self) -> None:
         for method in ("POST", "PUT", "DELETE"):
@@ -119,8 +125,8 @@ class Pages(unittest.TestCase):
         self.assertEqual({it: self.web.get("/status", host=it)[0] for it in hosts}, hosts)
 
     def test_one_connection_too_many_is_refused_and_a_silent_one_let_go(self) -> None:
-        with mock.patch.object(serving, "SLOW", 0.5), mock.patch.object(serving, "MOST_CONNECTIONS", 5):
-            talks = [socket.create_connection(("127.0.0.1", self.web.port), timeout=5) for _ in range(5)]
+        with mock.patch.object(serving, "SLOW", 3.0), mock.patch.object(serving, "MOST_CONNECTIONS", 5):
+            talks = [socket.create_connection(("127.0.0.1", self.web.port), timeout=LIMIT) for _ in range(5)]
             time.sleep(0.1)
             with self.assertRaises(OSError):
                 self.web.get("/status")
@@ -131,7 +137,7 @@ class Pages(unittest.TestCase):
 
     def test_garbage(self) -> None:
         for garbage in (b"\x16\x03\x01\x02\x00\x01", b"GET / HTTP/9.9\r\n\r\n", b"A" * 100000, b"GET /" + b"a" * 20000 + b" HTTP/1.1\r\n\r\n", b"\r\n" * 5000):
-            with socket.create_connection(("127.0.0.1", self.web.port), timeout=5) as talk:
+            with socket.create_connection(("127.0.0.1", self.web.port), timeout=LIMIT) as talk:
                 try:
                     talk.sendall(garbage)
                 except OSError:
@@ -142,8 +148,7 @@ class Pages(unittest.TestCase):
         for _ in range(20):
             next(events(self.web.port, 1))
         self.do("hold", "board", "scope")
-        time.sleep(2 * sessions.REST)
-        self.assertEqual(next(events(self.web.port, 1))["status"]["stations"][0]["state"], "holding")
+        until(lambda: next(events(self.web.port, 1))["status"]["stations"][0]["state"] == "holding")
 
 
 class Begun(unittest.TestCase):

@@ -4,13 +4,16 @@ import os
 import signal
 import subprocess
 import sys
+import threading
 import time
 import unittest
 from unittest import mock
 
+import labrun_broker
+from labrun_broker import quick, run
 from labrun_broker.command import main
 from labrun_broker.quick import HELD, Odd, Wire, _field, _fields, _number, _text
-from tests.brokers import BAY, LIMIT, Broker, OnBroker, station, until
+from tests.brokers import BAY, LIMIT, SOON, Broker, OnBroker, station, until
 
 RELEASES = BAY.replace('bay = "north"', 'bay = "north"\ngone = "release"')
 
@@ -49,6 +52,65 @@ class Quick(OnBroker):
         heavy = {"grpc", "google.protobuf", "asyncio", "labrun", "ctypes", "tomllib", "dataclasses", "ssl", "labrun_broker.client", "labrun_broker.serve"}
         self.assertEqual(modules & heavy, set())
 
+    def test_a_stopped_broker_is_told_of(self) -> None:
+        """Also to who waits without a limit; and it comes to hold once the broker goes on."""
+        broker = self.broker()
+        assert broker.process is not None
+        os.kill(broker.process.pid, signal.SIGSTOP)
+        self.addCleanup(os.kill, broker.process.pid, signal.SIGCONT)
+        program = "import sys; from labrun_broker import command, run; run.SILENCE = 0.5; sys.exit(command.main())"
+        words = [sys.executable, "-c", program, "hold", "scope", "--", "echo", "ran"]
+        with subprocess.Popen(words, env={**os.environ, "LABRUN_BROKER": broker.address}, stderr=subprocess.PIPE, stdout=subprocess.PIPE, text=True) as runs:
+            assert runs.stderr is not None
+            said = runs.stderr.readline()
+            self.assertEqual(said, f"labrun-broker: there is no word from the broker at {broker.address}; hold tries on for a while, and Ctrl-C ends that\n")
+            os.kill(broker.process.pid, signal.SIGCONT)
+            out, said = runs.communicate(timeout=LIMIT)
+        self.assertEqual((runs.returncode, out, said), (0, "ran\n", ""))
+
+    def test_taken_away_just_as_it_came_to_hold(self) -> None:
+        """As from one that is stopped for longer than the grace. It ends, though its stream says nothing more and the broker answers each ping."""
+        broker, ends = self.broker(RELEASES, "--grace", "1"), list[BaseException]()
+
+        def connects(_: bool) -> labrun_broker.Lab:
+            with broker.lab() as lab:
+                until(lambda: station(lab, "guest-1")["state"] == "idle")
+            raise labrun_broker.TakenAway("as it came to hold")
+
+        def holds() -> None:
+            wish = quick.Wish(("scope",), (), "", "", None)
+            try:
+                with quick.Quick(f"{broker.folder}/bay.sock", wish, None, connects, lambda: None):
+                    pass
+            except labrun_broker.TakenAway as fault:
+                ends.append(fault)
+
+        thread = threading.Thread(target=holds, daemon=True)
+        thread.start()
+        thread.join(LIMIT)
+        self.assertEqual([str(it) for it in ends], ["as it came to hold"])
+
+    def test_what_is_no_token(self) -> None:
+        """It is refused at once, and isn't shown."""
+        broker = self.broker()
+        for text in ("a tab\tin it", "of two\nlines", "", "stra\u00dfe"):
+            with self.subTest(text):
+                with open(f"{broker.folder}/token", "w", encoding="utf-8") as file:
+                    file.write(text)
+                for word in (["hold", "scope", "-n", "--token-file", f"{broker.folder}/token", "--", "true"], ["status", "--token-file", f"{broker.folder}/token"]):
+                    done = broker.ran(*word)
+                    self.assertEqual((done.returncode, done.stdout), (1, ""))
+                    self.assertRegex(done.stderr, rf"\Alabrun-broker: .*/token: a token is one line of letters, digits and signs, and this file {'has something else' if text else 'is empty'}\n\Z")
+
+    def test_who_was_stopped_reads_the_answer_first(self) -> None:
+        """A process that was stopped while it told the broker finds its timer over and the answer there: that isn't a broker without an answer."""
+        signals = run.Signals()
+        with mock.patch("labrun_broker.run.say") as said, signals.giving_up(0):
+            signal.raise_signal(signal.SIGALRM)
+            said.assert_not_called()
+            signal.raise_signal(signal.SIGALRM)
+            self.assertIn("the broker doesn't answer", said.call_args.args[0])
+
     def test_a_broker_that_is_killed_while_the_command_runs(self) -> None:
         for bay, number in ((BAY, signal.SIGKILL), (BAY, signal.SIGTERM), (RELEASES, signal.SIGKILL)):
             with self.subTest(bay, number=number):
@@ -74,10 +136,12 @@ class Quick(OnBroker):
 
     def test_where_it_has_to_say_that_it_is_there(self) -> None:
         """With `gone = "release"` it holds for longer than the grace; and while the broker doesn't answer its command is ended in time."""
-        broker = self.broker(RELEASES, "--state", "FOLDER/state", "--grace", "3")
+        broker = self.broker(RELEASES, "--state", "FOLDER/state", "--grace", "6")
         runs = self.holds(broker, "exit 0")
-        time.sleep(5)
-        self.assertEqual((self.state(broker), set(self.records(broker)) & {"taken", "failed", "let_go"}), ("holding", set()))
+        time.sleep(9)
+        # (one that is late once is gone for a moment)
+        until(lambda: self.state(broker) == "holding")
+        self.assertEqual(set(self.records(broker)) & {"taken", "failed", "let_go"}, set())
         self.ends(broker, runs, 0)
         os.unlink(f"{broker.folder}/go")
         runs = self.holds(broker, "exit 0")
@@ -85,7 +149,7 @@ class Quick(OnBroker):
         broker.process.send_signal(signal.SIGSTOP)
         try:
             self.assertEqual(runs.wait(LIMIT), 76)
-            self.assertIn("the broker hasn't answered for 2.25 s", runs.communicate()[1])
+            self.assertIn("nothing was heard from the broker for 4.5 s", runs.communicate()[1])
         finally:
             broker.process.send_signal(signal.SIGCONT)
 
@@ -104,7 +168,7 @@ class Quick(OnBroker):
                 begun = time.monotonic()
                 runs.send_signal(number)
                 said = runs.communicate(timeout=LIMIT)[1]
-                self.assertLess(time.monotonic() - begun, 5)
+                self.assertLess(time.monotonic() - begun, SOON)
                 self.assertEqual((runs.returncode, said.count("\n")), (5, 1), said)
                 self.assertIn("the session may go on holding", said)
                 broker.address = socket
@@ -148,11 +212,14 @@ class Quick(OnBroker):
                 socket, broker.address = broker.address, broker.address.replace("unix:", f"unix:{slashes}")
                 if not is_there:
                     os.unlink(socket.removeprefix("unix:"))
-                for limit in (["-n"], ["--timeout", "0.5"]):
+                for limit in (["-n"], ["--timeout", "4"]):
                     done = broker.ran("hold", *instrument, *limit, "--", "true")
                     self.assertEqual((done.returncode, "waits for the broker" in done.stderr), (69, limit != ["-n"]), done.stderr)
                     self.assertIn("can't be reached", done.stderr)
-                runs = broker.started("hold", *instrument, "--", "echo", "ran")
+                # (on a busy machine it may take longer to begin than a broker has)
+                program = "import sys; from labrun_broker import command, run; run.STARTING = run.SILENCE = 60.0; sys.exit(command.main())"
+                words = [sys.executable, "-c", program, "hold", *instrument, "--", "echo", "ran"]
+                runs = subprocess.Popen(words, env={**os.environ, "LABRUN_BROKER": broker.address}, stdout=subprocess.PIPE, stderr=subprocess.PIPE, text=True)
                 assert runs.stderr is not None
                 told = f"labrun-broker: waits for the broker: it doesn't listen yet at {broker.address}\n"
                 self.assertEqual(runs.stderr.readline(), told)
@@ -161,7 +228,8 @@ class Quick(OnBroker):
                 self.assertEqual((runs.communicate(timeout=LIMIT), runs.returncode), (("ran\n", ""), 0))
 
     def test_a_broker_that_is_stopped(self) -> None:
-        """A time limit is kept all the same, and nothing is held once the broker goes on."""
+        """A time limit is kept all the same, and nothing is held once the broker goes on. (Without one it would wait for a word.)"""
+        program = f"import sys; from labrun_broker import command, quick; quick.SILENT = {10 * LIMIT}; sys.exit(command.main())"
         for bay in (BAY, RELEASES):
             for limit, seconds in ((["-n"], 0.0), (["--timeout", "2"], 2.0)):
                 with self.subTest(bay, limit=limit):
@@ -170,15 +238,16 @@ class Quick(OnBroker):
                     broker.process.send_signal(signal.SIGSTOP)
                     try:
                         begun = time.monotonic()
-                        done = broker.ran("hold", "scope", *limit, "--", "echo", "ran")
+                        words = [sys.executable, "-c", program, "hold", "scope", *limit, "--", "echo", "ran"]
+                        done = subprocess.run(words, env={**os.environ, "LABRUN_BROKER": broker.address}, capture_output=True, text=True, timeout=LIMIT)
                         took = time.monotonic() - begun
                     finally:
                         broker.process.send_signal(signal.SIGCONT)
                     told = f"labrun-broker: the broker at {broker.address} doesn't answer\n"
                     self.assertEqual((done.returncode, done.stdout, done.stderr), (69, "", told))
-                    self.assertTrue(seconds <= took < seconds + 4, took)
+                    self.assertGreaterEqual(took, seconds)
                     time.sleep(1)
-                    self.assertEqual(self.state(broker), "idle", self.records(broker))
+                    until(lambda: self.state(broker) == "idle", "nothing is held")
 
     def test_a_broker_that_answers_late(self) -> None:
         """One that is there isn't given up: its own answer is awaited."""
@@ -228,7 +297,7 @@ class Quick(OnBroker):
     def test_what_is_refused(self) -> None:
         broker = self.broker(BAY + "[limits]\nclients = 1\n")
         done = broker.ran("hold", "scope", "--by", "x" * 30000, "--", "true")
-        self.assertEqual((done.returncode, done.stderr), (1, "labrun-broker: a name of 30000 characters; 64 are the most\n"))
+        self.assertEqual((done.returncode, done.stderr), (1, "labrun-broker: a `by` of 30000 characters; 64 are the most\n"))
         runs = self.holds(broker, "exit 0")
         done = broker.ran("hold", "supply", "--", "true")
         self.assertEqual(done.returncode, 69)

@@ -22,12 +22,13 @@ from labrun_broker.places import Places
 from labrun_broker.replica import EtcdRecords, EtcdStore, Replica
 from labrun_broker.service import Client
 from labrun_broker.wishes import Ended, Wish
+from tests.brokers import LIMIT, SOON, until
 from tests.etcds import OnEtcd
-from tests.test_keeping import TICKET, Owner, how
+from tests.test_keeping import TICKET, Owner, eventually, how
 
 BAY = 'bay = "NAME"\ninstruments = ["scope", "supply"]\n[stations]\nboard = ["scope"]\n[guests]\ncount = 4\n'
 RELEASE = 'gone = "release"\n'
-LEASE = 2
+LEASE = 5
 
 
 class Broker:
@@ -54,11 +55,13 @@ class Brokers(OnEtcd):
     def setUp(self) -> None:
         super().setUp()
         self.enterContext(mock.patch.object(shell, "CLOSING", 1.0))
+        # (etcd may be slow on a busy machine)
+        self.enterContext(mock.patch("labrun_broker.turning.QUIET", SOON))
 
     async def broker(self, name: str, bay: str = BAY, grace: float = 60.0) -> Broker:
         """Returns once it leads."""
         one = Broker(self, name, bay)
-        async with asyncio.timeout(20):
+        async with asyncio.timeout(LIMIT):
             self.assertTrue(await asyncio.to_thread(one.leading.leads, one.said.append))
         await one.opens(grace)
         self.addAsyncCleanup(one.keeping.close)
@@ -74,7 +77,7 @@ class Brokers(OnEtcd):
     async def never(self, one: Broker, work: Coroutine[Any, Any, Any]) -> None:
         """It isn't answered, and the broker finds that it leads no more."""
         task = asyncio.ensure_future(work)
-        await asyncio.wait_for(one.is_lost.wait(), 5)
+        await asyncio.wait_for(one.is_lost.wait(), LIMIT)
         await asyncio.wait({task}, timeout=0.3)
         self.assertIsNone(task.done() and not task.cancelled() and (task.exception() or task.result()) or None)
         self.assertFalse(task.done())
@@ -150,19 +153,40 @@ class Deposed(Brokers):
         await self.never(first, client._ping(pb.Ping(at=2.0)))
         self.assertEqual(len(told), 1)
 
+    async def test_what_one_that_waits_is_told_of_a_full_etcd(self) -> None:
+        """Once its time is over it isn't told that nobody keeps it any more, but, when that is settled, that it doesn't hold."""
+        self.enterContext(mock.patch.object(shell, "DISK", 2.0))
+        first = await self.broker("first")
+        told, context, txn = list[Any](), mock.Mock(), first.leading.etcd.txn
+        context.write = mock.AsyncMock(side_effect=told.append)
+
+        def full(compare: Any, what: Any, *given: Any, **more: Any) -> Any:
+            if any(it.HasField("request_put") for it in what):
+                raise EtcdError(28, "etcd is full")
+            return txn(compare, what, *given, **more)
+
+        with mock.patch.object(first.leading.etcd, "txn", full), mock.patch("labrun_broker.service.FIRST_WORD", 1.0):
+            await Client(first.keeping, context)._wish(pb.Wish(instruments=["scope"], timeout=0.5, wants_waits=True))
+            async with asyncio.timeout(10):
+                while not (told and told[-1].HasField("fault")):
+                    await asyncio.sleep(0.05)
+        self.assertEqual(told[-1].fault.kind, "JournalError")
+        self.assertEqual([it.waits.text for it in told[:-1] if "once that is in etcd" not in it.waits.text], [])
+        self.assertGreater(len(told), 1)
+
     async def test_its_clock(self) -> None:
         """It ends once etcd hasn't answered for the length of its lease, though nobody asks it anything."""
         first = await self.broker("first")
         begun = time.monotonic()
         self.enterContext(mock.patch.object(first.leading.etcd, "_calls", side_effect=StopIteration))
-        await asyncio.wait_for(first.is_lost.wait(), 10)
-        self.assertTrue(LEASE / 2 < time.monotonic() - begun < LEASE + 1.5)
+        await asyncio.wait_for(first.is_lost.wait(), LIMIT)
+        self.assertTrue(LEASE / 2 < time.monotonic() - begun < 3 * LEASE)
         self.assertEqual(first.why, [f"etcd hasn't answered for {LEASE} s"])
 
     async def test_its_lease(self) -> None:
         first = await self.broker("first")
         self.etcd.revoke(first.leading.lease)
-        await asyncio.wait_for(first.is_lost.wait(), 10)
+        await asyncio.wait_for(first.is_lost.wait(), LIMIT)
         self.assertIn(first.why, (["its lease is over"], ["it leads no more"]))
 
 
@@ -203,13 +227,12 @@ class Next(Brokers):
         first = await self.broker("first")
         second = Broker(self, "second")
         leads = asyncio.create_task(asyncio.to_thread(second.leading.leads, second.said.append))
-        await asyncio.sleep(0.6)
+        await eventually(lambda: second.said)
         self.assertEqual((second.said, first.keeping.status()["leads"]), (["stands by: first leads"], "first"))
-        await asyncio.sleep(LEASE / 4 + 0.5)
-        self.assertEqual(first.keeping.status()["stands_by"], ["second"])
+        await eventually(lambda: first.keeping.status()["stands_by"] == ["second"])
         begun = time.monotonic()
         await first.keeping.close()
-        self.assertTrue(await asyncio.wait_for(leads, 5))
+        self.assertTrue(await asyncio.wait_for(leads, LIMIT))
         self.assertLess(time.monotonic() - begun, LEASE)
         self.assertEqual((self.values("leader"), self.values("standby")), ({"leader": b"second"}, {}))
 
@@ -217,22 +240,68 @@ class Next(Brokers):
         await self.broker("first")
         second = Broker(self, "second")
         leads = asyncio.create_task(asyncio.to_thread(second.leading.leads, second.said.append))
-        await asyncio.sleep(0.6)
-        self.assertEqual(list(self.values("standby/")), ["standby/second"])
+        await eventually(lambda: list(self.values("standby/")) == ["standby/second"])
         second.leading.close()
-        self.assertFalse(await asyncio.wait_for(leads, 5))
+        self.assertFalse(await asyncio.wait_for(leads, LIMIT))
         self.assertEqual(self.values("standby/"), {})
 
     async def test_one_whose_lease_is_over(self) -> None:
         """It stood by for long without an answer: it takes another lease."""
         first, second = await self.broker("first"), Broker(self, "second")
         leads = asyncio.create_task(asyncio.to_thread(second.leading.leads, second.said.append))
-        await asyncio.sleep(0.6)
+        await eventually(lambda: self.values("standby/"))
         self.etcd.revoke(second.leading.lease)
-        await asyncio.sleep(LEASE)
-        self.assertEqual(list(self.values("standby/")), ["standby/second"])
+        await eventually(lambda: list(self.values("standby/")) == ["standby/second"])
         await first.keeping.close()
-        self.assertTrue(await asyncio.wait_for(leads, 10))
+        self.assertTrue(await asyncio.wait_for(leads, LIMIT))
+
+    async def test_a_silent_etcd(self) -> None:
+        """It isn't told of for one late answer, and then once a minute, whatever each member says of it."""
+        await self.broker("first")
+        second, asks = Broker(self, "second"), 0
+
+        def silent(*_: Any, **more: Any) -> Any:
+            nonlocal asks
+            asks += 1
+            raise NoAnswer(f"member {asks}: no route")
+
+        self.enterContext(mock.patch.object(leading, "LATE", 1.0))
+        tries = asyncio.create_task(asyncio.to_thread(second.leading.leads, second.said.append))
+        await asyncio.sleep(0.6)
+        leads = "stands by: first leads"
+        for seconds, more in ((0.5, []), (3.0, ["etcd doesn't answer"])):
+            with mock.patch.object(second.leading.etcd, "_asks", silent):
+                await asyncio.sleep(seconds)
+            self.assertEqual([it.partition(" (")[0].removeprefix("stands by: ") for it in second.said[1:]], more)
+            await asyncio.sleep(0.6)
+        self.assertGreater(asks, 6)
+        self.assertEqual((second.said[0], second.said[2:]), (leads, [leads]))
+        second.leading.close()
+        self.assertFalse(await asyncio.wait_for(tries, 5))
+
+    async def test_an_etcd_that_was_never_there(self) -> None:
+        """It is told of at once."""
+        only = Broker(self, "only")
+        with mock.patch.object(only.leading.etcd, "_asks", side_effect=NoAnswer("no route")):
+            tries = asyncio.create_task(asyncio.to_thread(only.leading.leads, only.said.append))
+            await asyncio.sleep(0.6)
+            self.assertEqual(only.said, ["stands by: etcd doesn't answer (no route)"])
+            only.leading.close()
+            self.assertFalse(await asyncio.wait_for(tries, 5))
+
+    async def test_an_etcd_that_only_answers_questions(self) -> None:
+        """As one whose disk is stuck: it is told of, too."""
+        first, second = await self.broker("first"), Broker(self, "second")
+        self.enterContext(mock.patch.object(leading, "LATE", 0.5))
+        self.enterContext(mock.patch.object(second.leading, "_makes_key", side_effect=NoAnswer("no disk")))
+        tries = asyncio.create_task(asyncio.to_thread(second.leading.leads, second.said.append))
+        await asyncio.sleep(0.6)
+        await first.keeping.close()
+        async with asyncio.timeout(LEASE + 5):
+            while "stands by: etcd doesn't answer (no disk)" not in second.said:
+                await asyncio.sleep(0.1)
+        second.leading.close()
+        self.assertFalse(await asyncio.wait_for(tries, 5))
 
     async def test_another_bays_file(self) -> None:
         """It is told of at once, and doesn't lead while a broker is there that has the file of the one that led last."""
@@ -241,18 +310,17 @@ class Next(Brokers):
         wrong, right = Broker(self, "wrong", BAY.replace("count = 4", "count = 1")), Broker(self, "right", "# a comment\n" + BAY)
         tries = [asyncio.create_task(asyncio.to_thread(it.leading.leads, it.said.append)) for it in (wrong, right)]
         self.addCleanup(wrong.leading.close)
-        await asyncio.sleep(0.8)
+        await eventually(lambda: wrong.said and right.said)
         self.assertIn("first leads, by another bay file than this one has: this one won't lead while a broker with that file is there", wrong.said[-1])
         self.assertEqual(right.said, ["stands by: first leads"])
         await first.keeping.close()
-        self.assertTrue(await asyncio.wait_for(tries[1], 10))
+        self.assertTrue(await asyncio.wait_for(tries[1], LIMIT))
         await right.opens()
-        await asyncio.sleep(0.6)
-        self.assertIn("right leads, by another bay file", wrong.said[-1])
+        await eventually(lambda: "right leads, by another bay file" in wrong.said[-1])
         await right.keeping.close()
         begun = time.monotonic()
         # (nobody else is there any more)
-        self.assertTrue(await asyncio.wait_for(tries[0], 20))
+        self.assertTrue(await asyncio.wait_for(tries[0], LIMIT))
         self.assertGreater(time.monotonic() - begun, LEASE - 0.5)
         self.assertIn("leads by another bay file than the last one did", wrong.said[-1])
 
@@ -277,7 +345,7 @@ class OnStore(OnEtcd):
         self.store = self.opened()
 
     def leads(self, name: str) -> Leading:
-        one = Leading(self.member.client(), bay_of(BAY.replace("NAME", self.bay)), name, 5, self.lost.append)
+        one = Leading(self.member.client(), bay_of(BAY.replace("NAME", self.bay)), name, 10, self.lost.append)
         self.addCleanup(one.close)
         self.assertTrue(one.leads(lambda text: None))
         return one
@@ -367,12 +435,13 @@ class Stores(OnStore):
         thread = threading.Thread(target=self.store.append, args=(b"one\n",), daemon=True)
         with mock.patch("threading.excepthook"):
             thread.start()
+            until(lambda: self.lost, "it finds that")
             thread.join(1)
             self.assertTrue(thread.is_alive())
             self.assertIn(self.lost[0], ("it leads no more", "its lease is over"))
             self.assertEqual(self.text(), b"")
             self.leading.close()
-            thread.join(5)
+            thread.join(LIMIT)
             self.assertFalse(thread.is_alive())
 
     def test_records(self) -> None:
@@ -414,7 +483,7 @@ class Fences(OnStore):
             # (the lease's thread looks for the others meanwhile)
             if given[0]:
                 asked.append(given)
-                may.wait(5)
+                may.wait(LIMIT)
             return txn(*given, **more)
 
         with mock.patch.object(self.leading.etcd, "txn", slow):
@@ -444,9 +513,9 @@ class Clients(OnEtcd):
     def test_leases(self) -> None:
         lease = self.etcd.grant(5).ID
         self.etcd.txn([], [put(b"leased", b"value", lease)])
-        self.assertEqual(self.etcd.keeps_alive(lease, 1.0), 5)
+        self.assertEqual(self.etcd.keeps_alive(lease, LIMIT), 5)
         self.etcd.revoke(lease)
-        self.assertEqual((self.etcd.keeps_alive(lease, 1.0), list(self.etcd.all_of(b"leased"))), (0, []))
+        self.assertEqual((self.etcd.keeps_alive(lease, LIMIT), list(self.etcd.all_of(b"leased"))), (0, []))
         with self.assertRaisesRegex(EtcdError, "lease not found"):
             self.etcd.txn([], [put(b"leased", b"value", lease)])
 

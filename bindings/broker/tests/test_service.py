@@ -4,6 +4,7 @@ import asyncio
 import concurrent.futures
 import contextlib
 import os
+import re
 import signal
 import socket
 import subprocess
@@ -13,6 +14,7 @@ import threading
 import time
 import unittest
 import unittest.mock
+from typing import Any
 
 import grpc
 import labrun
@@ -23,7 +25,7 @@ from labrun_broker.bay import BadAddress
 from labrun_broker.door import Door, Seldom, is_loopback
 from labrun_broker.service import Pace
 from labrun_broker.stream import Lost, Stream
-from tests.brokers import BAY, LIMIT, Broker, OnBroker, free_port, station, until
+from tests.brokers import BAY, LIMIT, SOON, Broker, OnBroker, free_port, station, until
 
 HOLDS = """
 import sys, labrun_broker
@@ -56,6 +58,21 @@ class Clients(OnBroker):
         with lab.hold(any_of=["scope", ("scope", "supply")]) as held:
             self.assertEqual(held.instruments, ("scope",))
 
+    def test_a_client_that_only_waits_and_is_asked_often(self) -> None:
+        """On a busy machine the questions of gRPC whether the broker is there come late, and then two at once: it minds none of that."""
+
+        async def waits(address: str) -> Any:
+            options = [("grpc.keepalive_time_ms", 1500), ("grpc.keepalive_timeout_ms", 5000), ("grpc.http2.max_pings_without_data", 0)]
+            async with grpc.aio.insecure_channel(address, options) as channel:
+                call = channel.stream_stream("/labrun.broker.Broker/Hold", pb.Ask.SerializeToString, pb.Told.FromString)()
+                await call.write(pb.Ask(wish=pb.Wish(instruments=["scope"])))
+                await call.read()
+                await asyncio.sleep(9)
+                await call.write(pb.Ask(note=pb.Note(text="still here")))
+                return (await call.read()).WhichOneof("told")
+
+        self.assertEqual(asyncio.run(waits(self.broker().address)), "noted")
+
     def test_timeouts(self) -> None:
         lab = self.lab(self.broker())
         for timeout in (-1, float("nan")):
@@ -79,6 +96,18 @@ class Clients(OnBroker):
             lab.hold(any_of="load-*")
         with self.assertRaisesRegex(labrun.NotHeld, "radio holds nothing"):
             lab.release("radio")
+
+    def test_who_enters_twice_stays_in(self) -> None:
+        """The second time is refused, and takes nothing from who is in it."""
+        broker = self.broker()
+        with broker.lab() as lab:
+            held = lab.hold("scope")
+            with held:
+                for again in (held.acquire, held.__enter__):
+                    with self.assertRaisesRegex(labrun.LabrunError, "the session is held already: it is entered once"):
+                        again()
+                    self.assertEqual((held.held, station(lab, "guest-1")["state"]), (True, "holding"))
+            self.assertEqual(station(lab, "guest-1")["state"], "idle")
 
     def test_async(self) -> None:
         lab = self.lab(self.broker())
@@ -107,7 +136,7 @@ class Clients(OnBroker):
         with self.assertRaisesRegex(RuntimeError, "smoke"):
             with lab.hold("scope"):
                 raise RuntimeError("smoke")
-        with lab.hold("scope", timeout=1):
+        with lab.hold("scope", timeout=SOON):
             pass
 
     def test_who_dies_while_it_waits_leaves_the_line(self) -> None:
@@ -131,7 +160,7 @@ class Clients(OnBroker):
         with self.assertRaisesRegex(labrun.TimeoutError, "supply is held by guest-1"):
             lab.hold("supply", timeout=0.5).acquire()
         self.assertEqual(lab.release("guest-1"), ("scope", "supply"))
-        with lab.hold("supply", timeout=5):
+        with lab.hold("supply", timeout=SOON):
             pass
 
     def test_for_whom_one_waits(self) -> None:
@@ -146,13 +175,13 @@ class Clients(OnBroker):
         lab, told = self.lab(broker), list[str]()
         thread = threading.Thread(target=lambda: lab.hold("scope", timeout=LIMIT, waits=told.append).acquire())
         thread.start()
-        until(lambda: len(told) == 2, "it is told again, though nothing has changed")
+        until(lambda: len(told) >= 2, "it is told again, though nothing has changed")
         for line in told:
             self.assertRegex(line, r"^scope is held by guest-1 for \d+(\.\d)? s \(a program\)$")
         one.kill()
         until(lambda: len(told) > 2 and "gone" in told[-1])
         see = f"see to it, and then run labrun-broker release guest-1 --session {station(lab, 'guest-1')['session']}"
-        self.assertRegex(told[-1], rf"guest-1 for .* \(a program, gone for \d\.\d s: {see}\)$")
+        self.assertRegex(told[-1], rf"guest-1 for .* \(a program, gone for \d+(\.\d)? s: {see}\)$")
         (shown,) = station(lab, "guest-2")["waits_for"]
         self.assertIn(see, shown["text"])
         with self.assertRaisesRegex(labrun_broker.TimeoutError, see):
@@ -163,7 +192,7 @@ class Clients(OnBroker):
     def test_who_waits_while_brokers_come_and_go(self) -> None:
         """It tries for a while to reach each of them, however long ago it lost the first."""
         broker = self.broker(BAY, "--state", "FOLDER/state")
-        self.enterContext(unittest.mock.patch.object(sessions, "GRACE", 5.0))
+        self.enterContext(unittest.mock.patch.object(sessions, "GRACE", 12.0))
         lab, got = self.lab(broker), list[str]()
         held = lab.hold("scope")
         held.acquire()
@@ -174,7 +203,7 @@ class Clients(OnBroker):
 
         thread = threading.Thread(target=waits)
         thread.start()
-        for pause in (5.5, 0.0):
+        for pause in (12.5, 0.0):
             until(lambda: station(lab, "radio")["state"] == "waiting")
             broker.kill()
             time.sleep(0.5)
@@ -202,18 +231,18 @@ class Clients(OnBroker):
         thread.join(LIMIT)
 
     def test_released_after_the_grace(self) -> None:
-        broker = self.broker('gone = "release"\n' + BAY, "--grace", "1")
+        broker = self.broker('gone = "release"\n' + BAY, "--grace", "4")
         lab = self.lab(broker)
         one = self.program(broker, "scope")
         assert one.stdout is not None
         one.stdout.readline()
         one.kill()
         begun, told = time.monotonic(), list[str]()
-        with lab.hold("scope", timeout=10, waits=told.append):
-            self.assertGreater(time.monotonic() - begun, 0.5)
-        self.assertRegex(told[0], r"^scope is held by guest-1 for .* \(a program, gone for 0\.\d s: it is released after 1 s\)$")
+        with lab.hold("scope", timeout=LIMIT, waits=told.append):
+            self.assertGreater(time.monotonic() - begun, 2)
+        self.assertRegex(told[-1], r"^scope is held by guest-1 for .* \(a program, gone for \d\.\d s: it is released after 4 s\)$")
         broker.end()
-        line = "labrun-broker: session 1 of guest-1 was taken away by the broker, because its client was gone for 1 s: scope\n"
+        line = "labrun-broker: session 1 of guest-1 with scope was taken away by the broker, because its client was gone for 4 s\n"
         self.assertEqual(broker.said, line)
 
     def test_who_stops_is_no_trouble(self) -> None:
@@ -225,7 +254,7 @@ class Clients(OnBroker):
         one.stdout.readline()
         one.send_signal(signal.SIGSTOP)
         for _ in range(20):
-            with lab.hold("supply", "load-1", timeout=5):
+            with lab.hold("supply", "load-1", timeout=SOON):
                 pass
         one.send_signal(signal.SIGCONT)
 
@@ -237,7 +266,7 @@ class Clients(OnBroker):
         held.on_taken = told.append
         other.release("board")
         until(lambda: told)
-        with self.assertRaisesRegex(labrun.TakenAway, "board: the session was taken away by tester: scope"):
+        with self.assertRaisesRegex(labrun.TakenAway, "board: the session with scope was taken away by tester"):
             held.note("5")
         with self.assertRaises(labrun.TakenAway):
             with lab.hold("scope") as held:
@@ -249,9 +278,13 @@ class Clients(OnBroker):
         lab = self.lab(broker := self.broker(), "board")
         waits = self.lab(broker)
         with lab.hold("scope"):
-            threading.Timer(0.3, signal.pthread_kill, (threading.main_thread().ident, signal.SIGINT)).start()
+            main = threading.main_thread().ident
+            assert main is not None
+            interrupts = threading.Thread(target=lambda: (until(lambda: station(lab, "guest-1")["state"] == "waiting"), signal.pthread_kill(main, signal.SIGINT)))
             with self.assertRaises(KeyboardInterrupt):
+                interrupts.start()
                 waits.hold("scope", timeout=LIMIT).acquire()
+            interrupts.join()
             until(lambda: station(lab, "guest-1")["state"] == "idle")
 
     def test_a_closed_lab(self) -> None:
@@ -357,6 +390,19 @@ class WhoIsLetIn(OnBroker):
         os.chmod(names[2], 0o600)
         return names
 
+    def test_what_is_no_token_of_the_door(self) -> None:
+        """A short one, and what no header of a request can say."""
+        path = os.path.join(self.enterContext(tempfile.TemporaryDirectory()), "token")
+        for text, is_one in (("of blanks, and long enough\n", True), ("too short", False), ("of two lines,\nand long enough", False), ("with a tab\tin it, long enough", False), ("with \u00df in it, and long enough", False)):
+            with open(path, "w", encoding="utf-8", opener=lambda name, flags: os.open(name, flags, 0o600)) as file:
+                file.write(text)
+            door = Door(("127.0.0.1:0",), token_file=path)
+            if is_one:
+                self.assertEqual(door.token(), text.strip())
+            else:
+                with self.assertRaisesRegex(BadAddress, "^" + re.escape(f"{path}: a token is one line of letters, digits and signs, 16 or more: openssl rand -hex 32 > {path}") + "$"):
+                    door.token()
+
     def test_tls_and_a_token(self) -> None:
         folder = self.enterContext(tempfile.TemporaryDirectory())
         _, key, _ = self.certificate(folder)
@@ -367,9 +413,9 @@ class WhoIsLetIn(OnBroker):
         port = free_port()
         broker = self.broker(BAY, "--listen", f"0.0.0.0:{port}", "--tls-certificate", certificate, "--tls-key", key, "--token-file", token)
         at = f"localhost:{port}"
-        with labrun_broker.connect(at, token_file=token, certificate_file=certificate) as lab, lab.hold("scope", timeout=5) as held:
+        with labrun_broker.connect(at, token_file=token, certificate_file=certificate) as lab, lab.hold("scope", timeout=SOON) as held:
             self.assertEqual(held.instruments, ("scope",))
-        with self.lab(broker).hold("scope", timeout=5):
+        with self.lab(broker).hold("scope", timeout=SOON):
             pass  # the socket needs no token
         for more, why in (({}, "asks for its token"), ({"token_file": f"{folder}/wrong"}, "this isn't its token")):
             with labrun_broker.connect(at, certificate_file=certificate, **more) as lab:
@@ -379,6 +425,14 @@ class WhoIsLetIn(OnBroker):
         with labrun_broker.connect(at, token_file=token) as lab:
             with self.assertRaisesRegex(labrun_broker.Unreachable, r"it closed the connection \(a broker with TLS wants --certificate FILE\)$"):
                 lab.status()
+        with unittest.mock.patch.dict(os.environ, LABRUN_BROKER_CERTIFICATE_FILE=certificate, LABRUN_BROKER_TOKEN_FILE=token):
+            for address in (at, broker.address, f"{at},{broker.address}"):  # (by the socket nobody has to be known)
+                with labrun_broker.connect(address) as lab, lab.hold("scope", timeout=SOON) as held:
+                    self.assertEqual(held.instruments, ("scope",))
+                self.assertEqual(broker.ran("status", "--broker", address).returncode, 0)
+            os.environ["LABRUN_BROKER_CERTIFICATE_FILE"] = token
+            with self.assertRaisesRegex(labrun_broker.BadWish, f"^{token}: there is no certificate in it"):
+                labrun_broker.connect(at)
         with open(certificate, encoding="ascii") as file:
             damaged = file.read().replace("M", "*")
         with open(f"{folder}/damaged", "w", encoding="ascii") as file:
@@ -404,12 +458,12 @@ class WhoIsLetIn(OnBroker):
 
 class Floods(OnBroker):
     def goes_on(self, lab: labrun_broker.Lab) -> None:
-        """A client holds and lets go, in a time that a person doesn't notice."""
+        """A client holds and lets go, in a time that a person doesn't notice (where the machine does nothing else)."""
         begun = time.monotonic()
         for _ in range(5):
-            with lab.hold("load-2", timeout=5):
+            with lab.hold("load-2", timeout=SOON):
                 pass
-        self.assertLess(time.monotonic() - begun, 5)
+        self.assertLess(time.monotonic() - begun, SOON)
 
     def stream(self, channel: "grpc.Channel", asks: "object") -> "object":
         return channel.stream_stream("/labrun.broker.Broker/Hold", pb.Ask.SerializeToString, pb.Told.FromString)(asks)
@@ -448,8 +502,8 @@ class Floods(OnBroker):
     def test_lengths(self) -> None:
         broker = self.broker()
         lab = self.lab(broker)
-        for instruments, more in ((("x" * 65,), {}), (("scope",), {"station": "x" * 65})):
-            with self.assertRaisesRegex(labrun_broker.BadWish, "a name of 65 characters; 64 are the most"):
+        for what, instruments, more in (("an instrument's name", ("x" * 65,), {}), ("a station's name", ("scope",), {"station": "x" * 65})):
+            with self.assertRaisesRegex(labrun_broker.BadWish, f"^{what} of 65 characters; 64 are the most$"):
                 lab.hold(*instruments, **more).acquire()
         with lab.hold("scope") as held:
             with self.assertRaisesRegex(labrun_broker.BadWish, "a note of 501 characters; 500 are the most"):
@@ -479,7 +533,8 @@ class Floods(OnBroker):
                 raise RuntimeError("smoke" * 100000)
         with lab.hold("scope") as held:
             held.release("smoke" * 100000)
-        self.assertLess(time.monotonic() - begun, 10)
+        # (one that isn't refused is asked again for a minute)
+        self.assertLess(time.monotonic() - begun, 2 * SOON)
         with open(f"{broker.folder}/state/records.jsonl", encoding="utf-8") as file:
             self.assertLess(len(file.readlines()), 20)
         broker.end()

@@ -8,7 +8,7 @@ from unittest import mock
 from tests import test_applying, test_keeping, test_state, test_turning, test_written
 from tests.brokers import TOP
 
-BAY = os.path.join(TOP, "bench", "bay")
+BAY = os.path.join(TOP, "checks", "bay")
 
 
 class Simulated(unittest.IsolatedAsyncioTestCase):

@@ -22,21 +22,22 @@ from labrun_broker.errors import Unreachable
 from labrun_broker.etcd import EtcdError, NoAnswer, put
 from labrun_broker.standby import add_etcd, etcd_of, listens_at
 from labrun_broker.texts import addresses_of
-from tests.brokers import BAY, COMMAND, LIMIT, free_port, station, until
+from tests.brokers import BAY, COMMAND, LIMIT, SOON, free_port, station, until
 from tests.etcds import Member, OnEtcd
+from tests.machines import status_of
 
-LEASE = 2
+LEASE = 4
 
 
 class Serving:
     """`labrun-broker serve --etcd`, and what it has said."""
 
-    def __init__(self, test: OnEtcd, port: int, *words: str) -> None:
-        folder = test.enterContext(tempfile.TemporaryDirectory())
-        with open(f"{folder}/bay.toml", "w", encoding="utf-8") as file:
-            file.write(BAY.replace("north", test.bay))
+    def __init__(self, test: OnEtcd, port: int, *words: str, bay: str = BAY, command: list[str] = COMMAND, lease: int = LEASE) -> None:
+        self.folder = test.enterContext(tempfile.TemporaryDirectory())
+        with open(f"{self.folder}/bay.toml", "w", encoding="utf-8") as file:
+            file.write(bay.replace("north", test.bay))
         self.address, etcd = f"127.0.0.1:{port}", test.member.endpoint
-        line = [*COMMAND, "serve", f"{folder}/bay.toml", "--listen", self.address, "--etcd", etcd, "--lease", str(LEASE), *words]
+        line = [*command, "serve", f"{self.folder}/bay.toml", "--listen", self.address, "--etcd", etcd, "--lease", str(lease), *words]
         self.process = subprocess.Popen(line, stderr=subprocess.PIPE, text=True)
         self.said = list[str]()
         self._reader = threading.Thread(target=self._reads, daemon=True)
@@ -116,7 +117,7 @@ class Standing(OnEtcd):
         self.assertEqual(self.brokers[0].end(signal.SIGTERM), 0)
         done = self.ran("hold", "supply", "--", "echo", "held")
         self.assertEqual((done.returncode, done.stdout), (0, "held\n"), done.stderr)
-        self.assertLess(time.monotonic() - begun, 15)
+        self.assertLess(time.monotonic() - begun, LIMIT)
         started.communicate("\n", timeout=LIMIT)
         self.assertEqual(started.returncode, 0)
 
@@ -126,6 +127,12 @@ class Standing(OnEtcd):
         self.assertIn(f"127.0.0.1:{self.ports[0]} leads, and 127.0.0.1:{self.ports[1]} stands by", done.stdout)
         status = json.loads(self.ran("status", "--json").stdout)
         self.assertEqual((status["leads"], status["stands_by"]), tuple([it.address, [that.address]][at] for at, (it, that) in enumerate([self.brokers] * 2)))
+
+    def test_a_sighup_while_it_stands_by(self) -> None:
+        """(It would change the bay of one that leads.)"""
+        self.brokers[1].process.send_signal(signal.SIGHUP)
+        self.brokers[0].end(signal.SIGTERM)
+        self.brokers[1].says("4 instruments, at ")
 
     def test_one_that_is_ended_while_it_stands_by(self) -> None:
         with self.assertRaises(ConnectionRefusedError):
@@ -177,7 +184,7 @@ class Secured(unittest.TestCase):
             one.txn([], [put(key, b"{}")])
             self.assertEqual([it.value for it in one.all_of(key)], [b"{}"])
             lease = one.grant(5)
-            self.assertEqual(one.keeps_alive(lease.ID, 2.0), 5)
+            self.assertEqual(one.keeps_alive(lease.ID, LIMIT), 5)
             one.revoke(lease.ID)
 
         user = ["--etcd-user", "broker", "--etcd-password-file"]
@@ -214,8 +221,23 @@ class Lists(unittest.TestCase):
                     lab.hold("scope", waits=said.append).acquire()
                 with self.assertRaisesRegex(Unreachable, "Connection refused"):
                     lab.status()
-        self.assertTrue(1.0 < time.monotonic() - begun < 10)
+        self.assertTrue(1.0 < time.monotonic() - begun < SOON)
         self.assertRegex(said[0], "^no broker of 127.0.0.1:.* answers$")
+
+
+class Faults(unittest.TestCase):
+    """How a run of tests.machines ends."""
+
+    def test_its_status(self) -> None:
+        for refused, sessions, is_fault, is_safe, status in (
+            (0, 5, False, False, 0),
+            (0, 5, True, True, 0),
+            (0, 5, True, False, 1),
+            (1, 5, False, True, 1),
+            (0, 0, True, True, 1),
+        ):
+            with self.subTest(refused=refused, sessions=sessions, is_fault=is_fault, is_safe=is_safe):
+                self.assertEqual(status_of(refused, sessions, is_fault, is_safe), status)
 
 
 class Words(unittest.TestCase):

@@ -112,7 +112,7 @@ class State(OnBroker):
         """Nobody comes back for it: an operator releases it."""
         broker = self.broker(BAY, "--state", "FOLDER/state")
         other = self.lab(broker)
-        holds = broker.started("hold", "scope", "--station", "board", "--", "sleep", "3")
+        holds = broker.started("hold", "scope", "--station", "board", "--", "sleep", "30")
         until(lambda: station(other, "board")["state"] == "holding")
         broker.kill()
         holds.kill()
@@ -123,7 +123,7 @@ class State(OnBroker):
             with self.assertRaisesRegex(labrun.TimeoutError, "scope is held by board"):
                 again.hold("scope", timeout=0.1).acquire()
             self.assertEqual(again.release("board"), ("scope",))
-            with again.hold("scope", timeout=5):
+            with again.hold("scope", timeout=LIMIT):
                 pass
 
     def test_what_is_there(self) -> None:
@@ -244,7 +244,7 @@ class TakenUp(OnFolder):
         await keeping.let_go(over, owner)
         gone = await keeping.hold(Wish(("load-2",), ticket="the ticket of a third"), owner)
         await keeping.release(gone.name, "eve")
-        with mock.patch("os.fdatasync", lambda file: may.wait(5)):
+        with mock.patch("os.fdatasync", lambda file: may.wait(LIMIT)):
             untold = asyncio.create_task(keeping.hold(Wish(("supply",), station="board", by="bob", ticket="the ticket of one untold"), owner))
             await asyncio.sleep(0.1)
             self.assertFalse(untold.done())
@@ -286,7 +286,7 @@ class TakenUp(OnFolder):
         folder, may = self.folder(), threading.Event()
         self.addCleanup(may.set)
         keeping = await self.keeping(folder)
-        with mock.patch("os.fdatasync", lambda file: may.wait(5)):
+        with mock.patch("os.fdatasync", lambda file: may.wait(LIMIT)):
             untold = asyncio.create_task(keeping.hold(Wish(("scope",), station="radio"), Owner()))
             await asyncio.sleep(0.02)
             untold.cancel()
@@ -305,7 +305,7 @@ class TakenUp(OnFolder):
         folder, copy, may = self.folder(), self.folder(), threading.Event()
         self.addCleanup(may.set)
         keeping = await self.keeping(folder)
-        with mock.patch("os.fdatasync", lambda file: may.wait(5)):
+        with mock.patch("os.fdatasync", lambda file: may.wait(LIMIT)):
             untold = [asyncio.create_task(keeping.hold(Wish((name,)), Owner())) for name in ("scope", "supply")]
             await asyncio.sleep(0.02)
             subprocess.run(["cp", f"{folder}/bay.journal", f"{folder}/bay.json", copy], check=True)

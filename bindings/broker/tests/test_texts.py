@@ -1,12 +1,17 @@
 """What is told to whoever isn't let in: each in one line, and what to do."""
 
 import os
+import re
 import shlex
 import shutil
 import subprocess
 import tempfile
 import unittest
+from unittest import mock
 
+import labrun_broker
+from labrun_broker import finding
+from labrun_broker.errors import Unreachable
 from tests.brokers import BAY, COMMAND, LIMIT, OnBroker, free_port
 
 
@@ -41,6 +46,28 @@ class Network(OnBroker):
                 with self.subTest(words):
                     done = broker.ran(*words)
                     self.assertEqual((done.returncode, done.stderr), (69, f"labrun-broker: the broker at {host}:{port} {said}\n"))
+
+    def test_who_isnt_let_in_by_one_of_several(self) -> None:
+        """The others stand by: that nobody listens there says nothing."""
+        port = free_port()
+        tls = ("--tls-certificate", f"{self.folder}/one", "--tls-key", f"{self.folder}/one.key", "--token-file", f"{self.folder}/token")
+        broker = self.broker(BAY, "--listen", f"localhost:{port}", *tls)
+        several = [f"localhost:{it}" for it in (free_port(), port, free_port())]
+        rows = (
+            ("localhost", "", "it closed the connection (a broker with TLS wants --certificate FILE)"),
+            ("127.0.0.1", "one", "its certificate is for another name: call it by that"),
+            ("localhost", "other", "it has another certificate than --certificate says"),
+        )
+        for host, name, said in rows:
+            addresses, file = ",".join(several).replace("localhost", host), f"{self.folder}/{name}" if name else None
+            text = f"the broker at {addresses} can't be reached: {said}"
+            with self.subTest(text):
+                options = ["--certificate", file] if file else []
+                done = broker.ran("hold", "scope", "--timeout", "2", *options, "--broker", addresses, "--", "true")
+                self.assertEqual((done.returncode, done.stderr.splitlines()[-1]), (69, f"labrun-broker: {text}"))
+                with mock.patch.object(finding, "FAILOVER", 1.0), labrun_broker.connect(addresses, certificate_file=file) as lab:
+                    with self.assertRaisesRegex(Unreachable, f"^{re.escape(text)}$"):
+                        lab.status()
 
     def test_a_key_of_another_certificate(self) -> None:
         words = ["--tls-certificate", f"{self.folder}/one", "--tls-key", f"{self.folder}/other.key", "--token-file", f"{self.folder}/token"]

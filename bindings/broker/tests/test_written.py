@@ -4,6 +4,7 @@ import asyncio
 import contextlib
 import json
 import os
+import re
 import signal
 import sys
 import tempfile
@@ -20,8 +21,8 @@ from labrun_broker.keeping import Keeping
 from labrun_broker.past import read_past
 from labrun_broker.standing import Session, Standings
 from labrun_broker.wishes import Wish
-from tests.brokers import BAY, COMMAND, LIMIT, Broker, OnBroker
-from tests.test_keeping import TICKET, OnFolder, Owner, how, whats
+from tests.brokers import BAY, COMMAND, LIMIT, SOON, Broker, OnBroker
+from tests.test_keeping import TICKET, OnFolder, Owner, eventually, how, whats
 
 
 class Records(OnBroker):
@@ -207,8 +208,7 @@ class OnDisk(OnFolder):
                     self.assertIn(b" note 12.5 V\n", on_disk["bay.journal"])
                     self.assertIn(b'"text":"12.5 V"', on_disk["records.jsonl"])
                     await keeping.let_go(session, owner)
-                    await asyncio.sleep(0.3)
-                    self.assertIn(b" let_go ", on_disk["bay.journal"], "though nobody waits for it")
+                    await eventually(lambda: b" let_go " in on_disk["bay.journal"], "it is on the disk, though nobody waits for it")
                     await keeping.close()
 
     async def test_a_let_go_is_written_before_it_is_answered(self) -> None:
@@ -227,11 +227,11 @@ class OnDisk(OnFolder):
 
         def fdatasync(file: int) -> None:
             syncs.append(file)
-            may.wait(5)
+            may.wait(LIMIT)
 
         with mock.patch("os.fdatasync", fdatasync):
             asks = [asyncio.create_task(keeping.hold(Wish(("scope",)), owner))]
-            await asyncio.sleep(0.05)
+            await eventually(lambda: syncs)
             asks += [asyncio.create_task(keeping.hold(Wish((name,)), owner)) for name in ("supply", "load-1", "load-2")]
             await asyncio.sleep(0.05)
             self.assertEqual(([it.done() for it in asks], len(syncs)), ([False] * 4, 1))
@@ -275,11 +275,9 @@ class Soon(OnFolder):
         keeping = await self.keeping(folder)
         with mock.patch("os.write", side_effect=OSError(28, "No space left on device")) as write:
             await keeping.hold(Wish(("scope",), station="radio"), Owner())
-            await asyncio.sleep(0.2)
-        self.assertGreaterEqual(write.call_count, 3)
+            await eventually(lambda: write.call_count >= 3)
         self.assertEqual(self.whats(folder), [])
-        await asyncio.sleep(0.1)
-        self.assertEqual(self.whats(folder), ["opened", "asked", "held"])
+        await eventually(lambda: self.whats(folder) == ["opened", "asked", "held"])
 
 
 class Hanging(OnFolder):
@@ -299,17 +297,21 @@ class Hanging(OnFolder):
         with mock.patch("os.fdatasync", fdatasync):
             asks = list[Session]()
             waits = asyncio.create_task(keeping.hold(Wish(("scope",), station="board"), owner, asks.append))
-            begun, began = time.monotonic(), time.time()
+            began = time.time()
             with self.assertRaisesRegex(labrun.JournalError, "it isn't on the disk after 0.5 s: the disk doesn't answer"):
                 await keeping.hold(Wish(("supply",), timeout=0), owner)
-            self.assertLess(time.monotonic() - begun, 5)
+            given_up = time.time()
+            self.assertLess(given_up - began, SOON)
             self.assertEqual(Standings(keeping).why(asks[0]), "it is its turn, and it holds once that is on the disk (the disk doesn't answer)")
             status = keeping.status()
             self.assertEqual(status["disk"], "the disk doesn't answer")
-            self.assertLess(abs(status["disk_since"] - began), 1)
+            # (since when it is at fault, and not when that was told)
+            self.assertTrue(began - 0.1 < status["disk_since"] < given_up)
             self.assertRegex(said[0], "bay.journal: the disk doesn't answer: nobody is told that it holds until it does$")
-            may.set()
-            self.assertEqual((await asyncio.wait_for(waits, LIMIT)).name, "board")
+            with mock.patch.object(shell, "SLOW", LIMIT):
+                may.set()
+                self.assertEqual((await asyncio.wait_for(waits, LIMIT)).name, "board")
+                await keeping.close()
         self.assertRegex(said[1], "bay.journal: all is written$")
         self.assertEqual(len(said), 2)
 
@@ -318,7 +320,7 @@ class Hanging(OnFolder):
         keeping, owner, may = await self.keeping(self.folder()), Owner(), threading.Event()
         self.addCleanup(may.set)
         with mock.patch.object(shell, "NOW_AND_THEN", -1.0), mock.patch("labrun_broker.records.Records.sync", lambda self: may.wait(LIMIT)):
-            held = await asyncio.wait_for(keeping.hold(Wish(("scope",), station="board"), owner), 5)
+            held = await asyncio.wait_for(keeping.hold(Wish(("scope",), station="board"), owner), SOON)
             note = asyncio.create_task(keeping.note(held, owner, "5 V"))
             await asyncio.sleep(0.1)
             self.assertFalse(note.done(), "a note is in the records before it is answered")
@@ -338,12 +340,12 @@ class Since(OnFolder):
         since = how(keeping, "board")["gone_since"]
         await keeping.hold(Wish(ticket="a ticket of another test", comes_back=True), owner)
         for _ in range(2):
-            await asyncio.sleep(0.6)
+            await asyncio.sleep(1.2)
             await keeping.close()
             keeping = await self.keeping(folder)
-        self.assertAlmostEqual(how(keeping, "board")["gone_since"], since, delta=0.1)
-        self.assertGreater(how(keeping, "guest-1")["gone_since"], since + 0.5)
-        with self.assertRaisesRegex(labrun.TimeoutError, r"gone for [1-5]\.\d s: see to it"):
+        self.assertAlmostEqual(how(keeping, "board")["gone_since"], since, delta=0.6)
+        self.assertGreater(how(keeping, "guest-1")["gone_since"], since + 0.8)
+        with self.assertRaisesRegex(labrun.TimeoutError, r"gone for ([2-9]\.\d|\d\d+(\.\d)?) s: see to it"):
             await keeping.hold(Wish(("scope",), timeout=0), owner)
 
     async def test_spans_after_a_restart(self) -> None:
@@ -355,10 +357,14 @@ class Since(OnFolder):
         await asyncio.sleep(1.2)
         await keeping.close()
         keeping = await self.keeping(folder)
-        self.assertAlmostEqual(how(keeping, "board")["since"], since, delta=0.1)
-        self.assertAlmostEqual(how(keeping, "scope")["since"], since, delta=0.1)
-        with self.assertRaisesRegex(labrun.TimeoutError, r"scope is held by board for [1-4]\.\d s \(ann, gone for 0\.\d s: see to it"):
+        self.assertAlmostEqual(how(keeping, "board")["since"], since, delta=0.6)
+        self.assertAlmostEqual(how(keeping, "scope")["since"], since, delta=0.6)
+        with self.assertRaises(labrun.TimeoutError) as caught:
             await keeping.hold(Wish(("scope",), timeout=0), owner)
+        told = re.search(r"scope is held by board for ([\d.]+) s \(ann, gone for ([\d.]+) s: see to it", str(caught.exception))
+        assert told is not None
+        # (it is gone since the broker began again)
+        self.assertGreater(float(told[1]) - float(told[2]), 1.0)
 
 
 class FullDisk(OnFolder):
@@ -384,7 +390,7 @@ class FullDisk(OnFolder):
 
         self.enterContext(mock.patch("os.pwrite", writes))
         self.enterContext(mock.patch("os.fdatasync", syncs))
-        self.enterContext(mock.patch.multiple(shell, AGAIN=0.005, LATEST=0.02, DISK=0.5))
+        self.enterContext(mock.patch.multiple(shell, AGAIN=0.005, LATEST=0.02, DISK=1.0))
 
     async def on_disk(self, bay: str = BAY, grace: float = 60.0) -> Keeping:
         self.its_folder = self.folder()
@@ -404,7 +410,7 @@ class FullDisk(OnFolder):
                 begun = time.monotonic()
                 with self.assertRaisesRegex(labrun.JournalError, why):
                     await keeping.hold(Wish(("scope",), station="board", ticket=TICKET, timeout=0), self.owner)
-                self.assertGreater(time.monotonic() - begun, 0.4)
+                self.assertGreater(time.monotonic() - begun, 0.9)
                 self.assertEqual((how(keeping, "board")["state"], whats(keeping, "board")), ("idle", ["asked", "failed"]))
                 self.assertIn(why, self.said[-1])
                 self.assertGreater(keeping.write_failures, 1)
@@ -433,14 +439,16 @@ class FullDisk(OnFolder):
         """It waits, for whoever looks, and doesn't hold; the others are told so, and again when it holds."""
         keeping = await self.on_disk()
         self.breaks("full")
-        asks, began = list[Session](), time.time()
+        asks, begun = list[Session](), time.time()
         first = asyncio.create_task(keeping.hold(Wish(("scope",), station="board"), self.owner, asks.append))
         second = asyncio.create_task(keeping.hold(Wish(("scope",), station="radio"), self.owner, asks.append))
         self.addCleanup(second.cancel)
-        await asyncio.sleep(0.5)
+        await eventually(lambda: len(asks) == 2)
+        asked = time.time()
+        await asyncio.sleep(1)
         row = how(keeping, "board")
         self.assertEqual((row["state"], row["instruments"], row["waits_for"], how(keeping, "radio")["state"]), ("waiting", ["scope"], [], "waiting"))
-        self.assertLess(abs(row["since"] - began), 0.3)
+        self.assertTrue(begun - 0.4 < row["since"] < asked + 0.4)
         _, why, told = Standings(keeping).for_whom(asks[1])
         self.assertEqual(why, "scope is board's once that is on the disk (a write failed (No space left on device))")
         self.breaks("")
@@ -455,7 +463,7 @@ class FullDisk(OnFolder):
         keeping, seen = await self.on_disk(), list[Any]()
         self.enterContext(mock.patch.object(records, "AGAIN", 60))
         session = await keeping.hold(Wish(("scope",), station="board"), self.owner)
-        await asyncio.sleep(0.1)
+        await keeping._shell.durable(takes_all=True)
         keeping.says = lambda text: seen.append((text, read_past(self.its_folder)[0].sessions()))
         self.breaks("full")
         with mock.patch("os.write", side_effect=OSError(28, "No space left on device")):
@@ -463,8 +471,7 @@ class FullDisk(OnFolder):
             await asyncio.sleep(0.1)
         self.assertEqual([it.how for it in seen[-1][1]], ["holds"])
         self.breaks("")
-        await asyncio.sleep(0.2)
-        self.assertRegex(seen[-1][0], "bay.journal: all is written$")
+        await eventually(lambda: seen[-1][0].endswith("bay.journal: all is written"))
         self.assertEqual([it.how for it in seen[-1][1]], ["done"])
 
     async def test_how_the_bay_stands(self) -> None:
@@ -476,10 +483,12 @@ class FullDisk(OnFolder):
             self.breaks(how_it_breaks)
             begun = time.time()
             waits = asyncio.create_task(keeping.hold(Wish(("scope",), station="board"), self.owner))
-            await asyncio.sleep(0.5)
+            await eventually(lambda: told()[0])
+            seen = time.time()
+            await asyncio.sleep(1)
             wrong, since = told()
             self.assertEqual(wrong, f"a write failed ({why})")
-            self.assertLess(abs(since - begun), 0.3)
+            self.assertTrue(begun - 0.4 < since < seen + 0.4)
             self.breaks("")
             session = await waits
             await keeping.let_go(session, self.owner)
@@ -492,7 +501,7 @@ class FullDisk(OnFolder):
         waits = asyncio.create_task(keeping.hold(Wish(("scope",), station="radio", timeout=LIMIT), self.owner))
         await asyncio.sleep(0.01)
         self.breaks("full")
-        await asyncio.wait_for(keeping.let_go(session, self.owner), 0.2)
+        await asyncio.wait_for(keeping.let_go(session, self.owner), SOON)
         await asyncio.sleep(0.1)
         self.assertFalse(waits.done())
         self.breaks("")

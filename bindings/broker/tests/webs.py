@@ -7,6 +7,8 @@ import http.client
 import threading
 from typing import Any, Awaitable, Callable, Optional
 
+from .brokers import LIMIT
+
 Serve = Callable[[Any, str], Awaitable[Any]]
 
 
@@ -19,7 +21,7 @@ class Web:
         self._thread.start()
         try:
             self.keeping = self.do(new_keeping)
-            self._served: Any = asyncio.run_coroutine_threadsafe(self._start(serve, address), self._loop).result(10)
+            self._served: Any = asyncio.run_coroutine_threadsafe(self._start(serve, address), self._loop).result(LIMIT)
         except BaseException:
             self._stop()
             raise
@@ -33,19 +35,19 @@ class Web:
         async def called() -> Any:
             return call(*given)
 
-        return asyncio.run_coroutine_threadsafe(called(), self._loop).result(10)
+        return asyncio.run_coroutine_threadsafe(called(), self._loop).result(LIMIT)
 
     def close(self) -> None:
-        asyncio.run_coroutine_threadsafe(self._served.cleanup(), self._loop).result(10)
+        asyncio.run_coroutine_threadsafe(self._served.cleanup(), self._loop).result(LIMIT)
         self._stop()
 
     def _stop(self) -> None:
         self._loop.call_soon_threadsafe(self._loop.stop)
-        self._thread.join(10)
+        self._thread.join(LIMIT)
         self._loop.close()
 
     def get(self, path: str, host: Optional[str] = None, method: str = "GET") -> tuple[int, dict[str, str], str]:
-        talk = http.client.HTTPConnection("127.0.0.1", self.port, timeout=5)
+        talk = http.client.HTTPConnection("127.0.0.1", self.port, timeout=LIMIT)
         try:
             talk.request(method, path, headers={} if host is None else {"Host": host})
             answer = talk.getresponse()

@@ -6,7 +6,9 @@ import re
 import tomllib
 from pathlib import Path
 
-from .needs import A_NAME, Bay, is_name
+from labrun.picks import A_NAME, is_name
+
+from .needs import Bay
 
 
 class BayFault(Exception):

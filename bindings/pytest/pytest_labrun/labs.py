@@ -12,8 +12,8 @@ import time
 from typing import Any, AsyncContextManager, AsyncIterator, Optional, Protocol, Sequence
 
 import labrun
+from labrun.machine import MOST_INSTRUMENTS
 
-MOST_SHARED = 64
 _LAG = 0.5  # seconds, by which what the broker tells may be late
 
 Way = tuple[str, ...]
@@ -58,8 +58,8 @@ class OwnLab:
         self._tests: dict[labrun.Held, str] = {}
 
     def open(self, instruments: Sequence[str]) -> None:
-        if len(instruments) > MOST_SHARED:
-            raise LabFault(f"the tests use {len(instruments)} instruments; workers may share {MOST_SHARED}")
+        if len(instruments) > MOST_INSTRUMENTS:
+            raise LabFault(f"the tests use {len(instruments)} instruments; workers may share {MOST_INSTRUMENTS}")
         self.lab = labrun.Lab(instruments)
 
     @contextlib.asynccontextmanager

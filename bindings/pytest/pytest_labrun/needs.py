@@ -12,11 +12,9 @@ from dataclasses import dataclass, field
 from typing import Any, Callable, Iterable, Mapping, Optional, Sequence, TypeVar, Union
 
 import pytest
-from labrun.picks import NoSuch, counted, is_plain, matching
+from labrun.picks import A_NAME, NoSuch, counted, is_name, is_plain, matching
 
 MARK, MISSPELT = "instruments", "instrument"
-NAME = re.compile(r"[A-Za-z][A-Za-z0-9._-]{0,63}")
-A_NAME = "at most 64 letters, digits, `-`, `_` and `.`, a letter first"
 MOST_WAYS = 1000
 
 _HOLDS = "_labrun_holds"
@@ -32,10 +30,6 @@ Where = Callable[[Optional[str]], str]
 
 class Fault(Exception):
     """A marker is wrong; the text begins with its place."""
-
-
-def is_name(name: object) -> bool:
-    return isinstance(name, str) and NAME.fullmatch(name) is not None
 
 
 @dataclass(frozen=True)

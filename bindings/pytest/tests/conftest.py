@@ -61,7 +61,7 @@ def run(pytester: pytest.Pytester, bay: Bay, monkeypatch: pytest.MonkeyPatch, tm
     pytester.makeconftest(CONFTEST)
 
     def run(*words: Any) -> pytest.RunResult:
-        return pytester.runpytest_subprocess("-p", "no:labrun", "-p", "pytest_labrun.plugin", "-p", "no:randomly", *words, timeout=60)
+        return pytester.runpytest_subprocess("-p", "no:labrun", "-p", "pytest_labrun.plugin", "-p", "no:randomly", *words, timeout=300)
 
     with rooms:
         yield run

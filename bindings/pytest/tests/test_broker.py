@@ -2,7 +2,9 @@
 
 from __future__ import annotations
 
+import contextlib
 import os
+import socket
 import subprocess
 import sys
 import time
@@ -30,17 +32,26 @@ def broker(run: Run, tmp_path_factory: pytest.TempPathFactory, monkeypatch: pyte
     names = ", ".join(f'"{name}"' for name in NAMES)
     (folder / "bay.toml").write_text(f"instruments = [{names}]\n[guests]\ncount = 24\n")
     address = f"unix:{folder}/bay.sock"
-    words = [sys.executable, "-m", "labrun_broker", "serve", "bay.toml", "--listen", address]
+    with serves(folder, "--listen", address):
+        yield address
+
+
+@contextlib.contextmanager
+def serves(folder: Path, *words: str) -> Iterator[None]:
+    """A broker in a folder with its bay."""
+    words = (sys.executable, "-m", "labrun_broker", "serve", "bay.toml", *words)
     with open(folder / "log", "w", encoding="utf-8") as log:
         process = subprocess.Popen(words, cwd=folder, stdout=log, stderr=log)
-    for _ in range(200):
-        if (folder / "bay.sock").exists() or process.poll() is not None:
-            break
-        time.sleep(0.05)
-    assert process.poll() is None, (folder / "log").read_text()
-    yield address
-    process.terminate()
-    process.wait(20)
+    try:
+        for _ in range(1200):
+            if (folder / "bay.sock").exists() or process.poll() is not None:
+                break
+            time.sleep(0.05)
+        assert process.poll() is None, (folder / "log").read_text()
+        yield
+    finally:
+        process.terminate()
+        process.wait(60)
 
 
 def test_alone(pytester: pytest.Pytester, run: Run, broker: str) -> None:
@@ -57,9 +68,9 @@ def test_two_runs_at_once(pytester: pytest.Pytester, run: Run, broker: str) -> N
     runs = [subprocess.Popen([*words, f"--basetemp={room}/t"], cwd=pytester.path, stdout=subprocess.PIPE, text=True) for room in rooms]
     hand = [sys.executable, "-m", "labrun_broker", "hold", "--broker", broker, "scope", "--", "sleep", "0.5"]
     time.sleep(2)
-    assert subprocess.run(hand, timeout=60).returncode == 0
+    assert subprocess.run(hand, timeout=300).returncode == 0
     for one in runs:
-        told = one.communicate(timeout=60)[0]
+        told = one.communicate(timeout=300)[0]
         assert one.returncode == 0 and "33 passed" in told, told
 
 
@@ -82,15 +93,15 @@ def test_a_killed_worker_lets_go(pytester: pytest.Pytester, run: Run, broker: st
 
 def test_others_hold_what_a_test_needs(pytester: pytest.Pytester, run: Run, broker: str) -> None:
     """It says whom it waits for, and the others run meanwhile."""
-    hand = [sys.executable, "-m", "labrun_broker", "hold", "--broker", broker, "scope", "--", "cat"]
-    process = subprocess.Popen(hand, stdin=subprocess.PIPE)
-    time.sleep(1.5)
+    hand = [sys.executable, "-m", "labrun_broker", "hold", "--broker", broker, "scope", "--", "sh", "-c", "echo held; exec cat"]
+    process = subprocess.Popen(hand, stdin=subprocess.PIPE, stdout=subprocess.PIPE, text=True)
+    assert process.stdout is not None and process.stdout.readline() == "held\n"
     pytester.makepyfile(SHARED)
     done = run("-n", "2", "--lab-broker", broker, "--lab-timeout", "1", "-k", "test_any_load or test_without or number")
-    process.communicate(timeout=20)
+    process.communicate(timeout=60)
     outcomes = done.parseoutcomes()
     assert outcomes["passed"] >= 1 and outcomes["errors"] >= 8
-    done.stdout.fnmatch_lines(["waited 1.? s for *scope*: *scope*held by guest-*"])
+    done.stdout.fnmatch_lines(["waited ?.? s for *scope*: *scope*held by guest-*"])
 
 
 def test_unknown_instruments_and_no_broker(pytester: pytest.Pytester, run: Run, broker: str, tmp_path: Path) -> None:
@@ -101,6 +112,24 @@ def test_unknown_instruments_and_no_broker(pytester: pytest.Pytester, run: Run, 
         done = run("--lab-broker", f"unix:{tmp_path}/none.sock", *words)
         assert done.ret == pytest.ExitCode.USAGE_ERROR
         done.stderr.fnmatch_lines([f"ERROR: --lab-broker unix:{tmp_path}/none.sock: *can't be reached*"])
+
+
+def test_a_broker_with_tls(pytester: pytest.Pytester, run: Run, broker: str, monkeypatch: pytest.MonkeyPatch, tmp_path: Path) -> None:
+    """Its certificate and the token are in the files that the environment names."""
+    its = "openssl req -x509 -newkey ec -pkeyopt ec_paramgen_curve:prime256v1 -nodes -days 2 -subj /CN=localhost -addext subjectAltName=DNS:localhost"
+    subprocess.run([*its.split(), "-keyout", tmp_path / "key", "-out", tmp_path / "certificate"], check=True, capture_output=True)
+    (tmp_path / "bay.toml").write_text('instruments = ["scope"]\n[guests]\ncount = 2\n')
+    (tmp_path / "token").write_text("a token of a test's\n")
+    (tmp_path / "token").chmod(0o600)
+    with socket.create_server(("127.0.0.1", 0)) as free:
+        at = f"localhost:{free.getsockname()[1]}"
+    pytester.makepyfile("import pytest\n@pytest.mark.instruments('scope')\ndef test_it():\n    pass\n")
+    words = ("--tls-certificate", "certificate", "--tls-key", "key", "--token-file", "token")
+    with serves(tmp_path, "--listen", f"unix:{tmp_path}/bay.sock", "--listen", at, *words):
+        monkeypatch.setenv("LABRUN_BROKER_TOKEN_FILE", str(tmp_path / "token"))
+        assert run("--lab-broker", at).ret == pytest.ExitCode.USAGE_ERROR
+        monkeypatch.setenv("LABRUN_BROKER_CERTIFICATE_FILE", str(tmp_path / "certificate"))
+        run("--lab-broker", at).assert_outcomes(passed=1)
 
 
 def test_by(pytester: pytest.Pytester, run: Run, broker: str, monkeypatch: pytest.MonkeyPatch) -> None:

@@ -101,7 +101,7 @@ def test_a_misspelt_marker_is_an_error(pytester: pytest.Pytester, run: Run) -> N
         ('"a scope"', "test_it.py:3: 'a scope' can't be an instrument's name: at most 64 letters, digits, `-`, `_` and `.`, a letter first"),
         ('"Scope"', "test_it.py:3: unknown instrument 'Scope': there are scope, supply (did you mean 'scope'?)"),
         ('"3 of s*"', "test_it.py:3: 3 of s[*] are wanted; there are 2: scope, supply"),
-        ('"tag:precise"', "test_it.py:3: precise is no tag: there are none"),
+        ('"tag:precise"', "test_it.py:3: precise is no tag; there are none"),
         ('any_of="2 of s*"', "test_it.py:3: any_of is one of several: write instruments('2 of s[*]')"),
         ("", 'test_it.py:3: instruments() names none: write instruments("scope") or instruments(any_of="load-[*]")'),
         ("3", "test_it.py:3: an instrument is named by a text, not by 3"),

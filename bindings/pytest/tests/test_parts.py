@@ -152,9 +152,9 @@ def test_a_connection_that_ends_lets_go(server: Server) -> None:
     one.hold("test_one", [("scope",)], None)
     waits = threading.Thread(target=lambda: pytest.raises(NotHeld, other.hold, "test_other", [("scope",)], None), daemon=True)
     waits.start()
-    time.sleep(0.1)
+    time.sleep(0.5)
     other._socket.shutdown(2)
-    waits.join(10)
+    waits.join(60)
     one._socket.shutdown(2)
     desks = [desk_of(server, f"gw{at}") for at in range(3)]
     assert desks[0].hold("test_more", [("scope", "supply")], 10)[0] == ("scope", "supply")

@@ -11,10 +11,10 @@ from typing import Any, Optional
 
 from ._faults import Closed, LabrunError, NotHeld, OtherProcess, TakenAway, TimeoutError, WouldBlock
 from ._keepers import Keeper
-from ._quick import LETS_GO, NEW, Asker
+from ._quick import LETS_GO, NEW, Asker, extension
 from ._room import Kind, Room
 from ._shell import Shell
-from ._sleep import at_once, in_loop, sleep_of
+from ._sleep import Line, at_once, in_loop
 from .machine import GRACE, HOLDS, LAPSED, LEFT, LET_GO, LIMIT, MAY_NOT, NEVER, NOT_WRITTEN, REPLACED, TAKEN, WAITS, WAS_STOPPED, Refusal
 
 _TAKEN = (LIMIT, GRACE, TAKEN, REPLACED)
@@ -26,9 +26,9 @@ class Held(Asker):
     """A session: `with lab.hold("scope", "supply") as held:`, or `async with`. Entered, it holds all its `instruments`, and nobody else has
     one of them until it is left. It is entered once.
 
-    `number` is its own in this lab, also after a restart; 0 before it is entered. `token` is larger than that of each session that came to
-    hold before it, with a journal also after a restart: so a server before an instrument can refuse whoever comes with a smaller one than it
-    has seen, and was taken away, and doesn't know it yet; 0 before it holds. `station` is "" for a guest. `state` is new, waiting,
+    `number` is its own in this lab, also after a restart; 0 before it is entered. `token` is larger than that of each session that was told
+    before that it holds, with a journal also after a restart: so a server before an instrument can refuse whoever comes with a smaller one
+    than it has seen, and was taken away, and doesn't know it yet; 0 before it holds. `station` is "" for a guest. `state` is new, waiting,
     held, letting go, finished, given up or taken. `resumed`: it held when the process before this one ended, and holds still. `notes` is
     what it noted by now; of one that was resumed, what the journal has of it."""
 
@@ -39,8 +39,10 @@ class Held(Asker):
     def __init__(
         self, room: Room, kind: Kind, sets: tuple[int, ...], timeout: Optional[float] = None, limit: Optional[float] = None, note: str = ""
     ) -> None:
+        if not isinstance(note, str):
+            raise ValueError(f"a note is a text, and not {note!r}")
         self._room, self._kind, self.kind, self.sets, self._note = room, kind, kind.number, sets, note
-        self._shell, self._quick = room.shell, room.shell.quick
+        self._shell, self._quick, self._entries = room.shell, room.shell.quick, [None]
         self.timeout = NEVER if timeout is None else _milliseconds("timeout", timeout)
         self.limit = NEVER if limit is None else _milliseconds("limit", limit)
 
@@ -79,8 +81,7 @@ class Held(Asker):
 
     def acquire(self) -> None:
         """Sleeps until it holds. It is given up if it doesn't come to that: TimeoutError, Stopped, Closed, JournalError."""
-        if self.what != NEW:
-            raise NotHeld(f"{self.called} is {self.state}: it is entered once")
+        self._enters(NEW)
         try:
             if not self._holds_at_once():
                 at_once(self._acquire, False)
@@ -90,8 +91,7 @@ class Held(Asker):
 
     async def acquire_async(self) -> None:
         """The same for a task; others go on meanwhile."""
-        if self.what != NEW:
-            raise NotHeld(f"{self.called} is {self.state}: it is entered once")
+        self._enters(NEW)
         try:
             if not self._holds_at_once():
                 await self._acquire(True)
@@ -100,8 +100,9 @@ class Held(Asker):
             raise
 
     def release(self) -> None:
-        """It lets go. With a journal it returns once that is on the disk. JournalError: the write failed; nobody else comes to hold what it
-        has before it is written, which is tried again and again. Call it again to wait for that."""
+        """It lets go. With a journal it returns once that is in the file; on the disk it is a tenth of a second later, or before anybody else
+        comes to hold what it had. JournalError: the write failed; nobody else comes to hold it before it is written, which is tried again
+        and again. Call it again to wait for that."""
         at_once(self._release, False)
 
     async def release_async(self) -> None:
@@ -122,7 +123,9 @@ class Held(Asker):
 
     def __enter__(self) -> Held:
         try:
-            if not self.resumed:
+            if self.resumed:
+                self._goes_on()
+            else:
                 self.acquire()
             if self._kind.name:
                 self._kind.within = _me(), self
@@ -133,7 +136,9 @@ class Held(Asker):
 
     async def __aenter__(self) -> Held:
         try:
-            if not self.resumed:
+            if self.resumed:
+                self._goes_on()
+            else:
                 await self.acquire_async()
             if self._kind.name:
                 self._kind.within = _me(), self
@@ -142,13 +147,15 @@ class Held(Asker):
             self._leaves_by(fault)
             raise
 
-    def __exit__(self, kind: Optional[type[BaseException]], fault: Optional[BaseException], at: Optional[TracebackType]) -> None:
+    def _ends(self, kind: Optional[type[BaseException]], fault: Optional[BaseException], at: Optional[TracebackType]) -> None:
         try:
             if not self._quick.lets_go(self) and self._is_to_let_go(kind):
                 at_once(self._release, False)
         except BaseException as why:
             if self._is_to_be_told(why, kind):
                 raise
+
+    __exit__ = _ends
 
     async def __aexit__(self, kind: Optional[type[BaseException]], fault: Optional[BaseException], at: Optional[TracebackType]) -> None:
         try:
@@ -169,23 +176,39 @@ class Held(Asker):
 
     # holding
 
+    def _enters(self, what: int) -> None:
+        """It is entered once. (Of two threads that come at once, one pops.)"""
+        try:
+            if self.what == what:
+                return self._entries.pop()
+        except IndexError:
+            pass
+        raise NotHeld(f"{self.called} is {self.state}: it is entered once")
+
+    def _goes_on(self) -> None:
+        """One that was resumed."""
+        with self._shell.mutex:
+            self._is_held(self._shell)
+        self._enters(HOLDS)
+
     def _holds_at_once(self) -> bool:
         within = self._kind.within
         return not self._note and (within is None or within[1].what != HOLDS) and self._quick.holds(self)
 
     async def _acquire(self, is_task: bool) -> None:
-        shell, within, sleep = self._shell, self._kind.within, None
+        shell, within, job, waits = self._shell, self._kind.within, None, False
         if shell.keeps:
             self._may_sleep(is_task)
         if within is not None and within[1].what == HOLDS and within[0] == _me():
             raise WouldBlock(self, f"{self._kind.called} is in a session of this thread, or task: another would wait for it for ever")
         with shell.mutex:
             shell.asks(self)
-            if self.what == WAITS:
+            if waits := self.what == WAITS:
                 self._may_sleep(is_task)
-                sleep = sleep_of(self, is_task)
-        if sleep is not None:
-            await sleep
+                # (whoever has a time is told in time, also by a disk that hangs: so somebody else writes)
+                job = shell.waits(self, is_task, self.timeout == NEVER)
+        if waits:
+            await shell.sleeps(self, job)
         if self.what != HOLDS:
             self._has_not_come(shell)
         if self._note:
@@ -232,19 +255,21 @@ class Held(Asker):
     # letting go
 
     async def _release(self, is_task: bool) -> None:
-        shell, sleep = self._shell, None
+        shell, line, job = self._shell, None, None
         try:
             with shell.mutex:
                 if self._lets_go(shell, is_task):
-                    sleep = sleep_of(self, is_task)
-                    shell.waits_for_disk(self)
-            if sleep is not None:
-                await sleep
-                self._has_let_go(shell)
+                    line = shell.line(False)
+                    job = shell.waits(line, is_task)
+            if line is not None:
+                await shell.sleeps(line, job)
+                with shell.mutex:
+                    self._has_let_go(shell, line)
         except LabrunError:
-            shell.leave()
+            shell.leave(line)
             raise
         except BaseException:
+            shell.leave(line)
             self._leaves()
             raise
 
@@ -261,16 +286,16 @@ class Held(Asker):
             shell.lets_go(self)
         else:
             shell.may_go_on()
-        self.fault = None
         return self.what == LETS_GO
 
-    def _has_let_go(self, shell: Shell) -> None:
-        self._owes = self.what == LETS_GO and self.fault is not None
+    def _has_let_go(self, shell: Shell, line: Line) -> None:
+        self._owes = self.what == LETS_GO and line.fault is not None
         if self._owes:
-            raise shell.failed(self.fault)
+            raise shell.failed(line.fault)
         if self.what == LETS_GO:
-            with shell.mutex:
+            if line.within:
                 shell.may_go_on()
+            shell.has_let_go(self)
 
     # within a session
 
@@ -279,6 +304,8 @@ class Held(Asker):
 
     def _says(self, text: str, is_task: bool) -> None:
         shell = self._shell
+        if not isinstance(text, str):
+            raise ValueError(f"a note is a text, and not {text!r}")
         self._is_held(shell)
         if shell.keeps:
             self._may_sleep(is_task)
@@ -307,7 +334,16 @@ def _me() -> Any:
 
 
 def _milliseconds(name: str, seconds: float) -> int:
-    if not seconds >= 0:
+    try:
+        is_right = bool(seconds >= 0)
+    except TypeError:
+        is_right = False
+    if not is_right:
         raise ValueError(f"{name}: {seconds!r} is no number of seconds from 0 on")
     # (by one more it isn't over too early, though the clock is read in whole milliseconds)
     return math.ceil(seconds * 1000) + (seconds > 0) if seconds < 1e12 else NEVER
+
+
+# (an interrupt that comes just as the end of `with` begins is seen by no line of Python)
+if (_fast := extension()) is not None:
+    setattr(Held, "__exit__", _fast.ends)

@@ -15,11 +15,10 @@ from ._library import NOT_NOW
 from ._room import AnyOf, Kind, Room, all_of
 from ._shell import Shell
 from ._sleep import at_once, in_loop
-from .machine import ANOTHER, HOLDS, MAY_NOT, NEVER, UNSOUND, WAITS, Machine, Refusal, Terms
+from .machine import ANOTHER, HOLDS, MAY_NOT, MOST_CLASSES, MOST_INSTRUMENTS, NEVER, UNSOUND, WAITS, Machine, Refusal, Terms
 from .store import FileStore
 
 OVERTAKES = 64
-MOST_INSTRUMENTS, MOST_STATIONS = 64, 31
 # for how many sets there is room in line
 LINE = 1 << 20
 # so many milliseconds at least a session that came to hold in time waits for the disk
@@ -54,7 +53,10 @@ class _Asks:
         `timeout` seconds at most; then TimeoutError says who has what it wanted. 0: it takes what is free. After `limit` seconds it is
         taken away as soon as somebody waits for what it has. `note` is noted as it comes to hold, as by `Held.note`."""
         kind = self._kind
-        sets = kind.known.get(instruments) if not any_of else None
+        try:
+            sets = kind.known.get(instruments) if not any_of else None
+        except TypeError:  # (by what is no text: that is told by `kind.sets`)
+            sets = None
         return Held(self._room, kind, kind.sets(instruments, any_of) if sets is None else sets, timeout, limit, note)
 
 
@@ -96,18 +98,19 @@ class Lab(_Asks):
         self.instruments = tuple(dict.fromkeys(_strings("instruments", instruments)))
         kinds = _kinds(self.instruments, stations or {}, self.instruments if guests is None else guests, tags or {})
         most = MOST_INSTRUMENTS if places is None else places
-        if len(self.instruments) > MOST_INSTRUMENTS or len(kinds) > MOST_STATIONS + 1:
+        if len(self.instruments) > MOST_INSTRUMENTS or len(kinds) > MOST_CLASSES:
             found = f"{len(self.instruments)} instruments and {len(kinds) - 1} stations"
-            raise ValueError(f"{found}: there are {MOST_INSTRUMENTS} and {MOST_STATIONS} at most")
+            raise ValueError(f"{found}: there are {MOST_INSTRUMENTS} and {MOST_CLASSES - 1} at most")
         for name, number, least in (("places", most, 1), ("overtakes", overtakes, 0)):
-            if not least <= number < 1 << 32:
+            if not isinstance(number, int) or not least <= number < 1 << 32:
                 raise ValueError(f"{name}: {number!r} is no number from {least} on")
         if sync not in ("data", "none"):
             raise ValueError(f'sync: {sync!r} is neither "data" nor "none"')
         self.stations = tuple(kinds)[:-1]
         self._kind = _one_of(kinds, station)
         classes = [(sum(kind.may.values()), 1 if kind.name else most) for kind in kinds.values()]
-        terms = Terms(_hash(self.instruments, kinds), LINE, NEVER, DISK, overtakes, journal is not None)
+        # (by one more the disk's time isn't over too early: the clock is read in whole milliseconds)
+        terms = Terms(_hash(self.instruments, kinds), LINE, NEVER, DISK + 1, overtakes, journal is not None)
         store = None if journal is None else _opened(journal, sync == "data")
         try:
             machine, text, now = _machine(classes, terms, store)
@@ -152,6 +155,8 @@ class Lab(_Asks):
         return await self._shell.until_written(functools.partial(self._takes_away, session, True), True)
 
     def _takes_away(self, session: Union[int, Held], is_task: bool) -> tuple[str, ...]:
+        if not isinstance(session, (int, Held)):
+            raise ValueError(f"{session!r} is neither a session nor the number of one")
         shell, number = self._shell, session if isinstance(session, int) else session.number
         shell.may_go_on()
         it: Any = shell.askers.get(number)
@@ -188,8 +193,8 @@ class Lab(_Asks):
 
 
 def _strings(what: str, given: Iterable[str]) -> tuple[str, ...]:
-    names = tuple(given)
-    if isinstance(given, str) or not all(isinstance(it, str) and it and "\n" not in it for it in names):
+    names = tuple(given) if isinstance(given, Iterable) else ()
+    if isinstance(given, str) or not isinstance(given, Iterable) or not all(isinstance(it, str) and it and "\n" not in it for it in names):
         raise ValueError(f"{what}: names are wanted, and not {given!r}")
     return names
 
@@ -197,6 +202,9 @@ def _strings(what: str, given: Iterable[str]) -> tuple[str, ...]:
 def _kinds(
     instruments: tuple[str, ...], stations: Mapping[str, Iterable[str]], guests: Iterable[str], tags: Mapping[str, Iterable[str]]
 ) -> dict[str, Kind]:
+    for what, given in (("stations", stations), ("tags", tags)):
+        if not isinstance(given, Mapping):
+            raise ValueError(f"{what}: a mapping from names to instruments is wanted, and not {given!r}")
     if "" in stations:
         raise ValueError("a station has a name")
     bits = {name: 1 << at for at, name in enumerate(instruments)}
@@ -218,7 +226,7 @@ def _some(what: str, name: str, its: Iterable[str], bits: Mapping[str, int]) -> 
 
 
 def _one_of(them: Mapping[str, T], name: str) -> T:
-    if name not in them:
+    if not isinstance(name, str) or name not in them:
         raise ValueError(f"{name!r} is none of the stations")
     return them[name]
 
@@ -246,7 +254,8 @@ def _machine(classes: Sequence[tuple[int, int]], terms: Terms, store: Optional[F
         store.cut(machine.used)
         if not text:
             first, position = machine.journal()
-            store.append(first)
+            store.write(first)
+            store.sync()
             machine.durable(position)
     return machine, text[: machine.used], now
 

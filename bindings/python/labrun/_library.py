@@ -11,8 +11,8 @@ from typing import Any, Callable, Optional
 
 from ._faults import LabrunError, Refused, TooLong
 
-REFUSED, NO_SUCH, WAITS, TOO_LONG, NO_MEMORY, NO_ROOM, NOT_OPEN, NOT_NOW, NO_SESSION, SESSIONS_LEFT, IN_USE = range(1, 12)
-JOURNAL_FULL = 12
+REFUSED, NO_SUCH, WAITS, TOO_LONG, NO_MEMORY, NO_ROOM, NOT_OPEN, NOT_NOW = range(1, 9)
+SESSIONS_LEFT, IN_USE, JOURNAL_FULL = range(10, 13)
 RETIRED = 14
 
 
@@ -81,7 +81,9 @@ _HANDLE, _TOLD, _TURNED = ctypes.POINTER(Handle), ctypes.POINTER(Told), ctypes.P
 # calls that may take long: the interpreter's lock is let go meanwhile
 _LONG: dict[str, list[Any]] = {
     "lab_rounds": [_BYTES, _SIZE, _WORD, _ROOM, _SIZE, _TOLD],
-    **dict.fromkeys(("lab_replay", "lab_check", "lab_upgrade"), [_BYTES, _SIZE, _ROOM, _SIZE, _TOLD]),
+    "lab_replay": [_BYTES, _SIZE, _ROOM, _SIZE, _TOLD],
+    "lab_check": [_BYTES, _SIZE, _ROOM, _SIZE, _TOLD],
+    "lab_upgrade": [_BYTES, _SIZE, _ROOM, _SIZE, _TOLD],
     "lab_bench_open": [_BYTES, _SIZE, _HANDLE, _TOLD],
     "lab_bench_close": [_HANDLE, _ROOM, _SIZE, _TOLD],
 }
@@ -89,7 +91,8 @@ _LONG: dict[str, list[Any]] = {
 # calls that take microseconds and never wait: handing the interpreter's lock round for each would cost more than the call
 _SHORT: dict[str, list[Any]] = {
     "lab_bench_size": [_HANDLE, ctypes.POINTER(Size)],
-    **dict.fromkeys(("lab_job_name", "lab_instrument_name"), [_HANDLE, _WORD, _ROOM, _SIZE, ctypes.POINTER(_SIZE)]),
+    "lab_job_name": [_HANDLE, _WORD, _ROOM, _SIZE, ctypes.POINTER(_SIZE)],
+    "lab_instrument_name": [_HANDLE, _WORD, _ROOM, _SIZE, ctypes.POINTER(_SIZE)],
     "lab_session_of": [_HANDLE, _WORD, _WORD, ctypes.POINTER(SessionOf)],
     "lab_planned": [_HANDLE, _WORD, _WORD, _WORD, ctypes.POINTER(Planned)],
     "lab_state": [_HANDLE, _WORD, ctypes.POINTER(State)],
@@ -181,7 +184,7 @@ def library() -> Library:
             _loaded = Library(path)
         except OSError as fault:
             raise OSError(
-                f"no library of labrun at {path} ({fault}): build it by bench/door/build FOLDER, and then name"
+                f"no library of labrun at {path} ({fault}): build it by checks/door/build FOLDER, and then name"
                 " FOLDER/liblabrun.so by LABRUN_LIBRARY, copy it beside the package, or install it"
             ) from fault
     return _loaded

@@ -18,11 +18,15 @@ class Asker(Waiter):
     """Whoever asks for one of these sets, and waits for so many milliseconds at most: `number` is that of the ask, 0 before. `what` it was
     told last, or NEW, WAITS, or LETS_GO until it is told that it let go; `needs` is what it holds, or held, and `token` its token then."""
 
-    number, what, needs, token = 0, NEW, 0, 0
+    what, needs, token = NEW, 0, 0
     kind: int
     sets: tuple[int, ...]
     timeout: int
     limit: int
+
+    @property
+    def is_told(self) -> bool:
+        return self.what != WAITS
 
 
 class Quick:
@@ -71,11 +75,15 @@ class Quick:
             return True
 
 
-def fastest() -> Callable[..., Quick]:
-    """The same in C (`_fast.c`), if it is built. With LABRUN_FAST=0 in the environment it is Python's."""
+def extension() -> Any:
+    """`_fast.c`, if it is built. With LABRUN_FAST=0 in the environment all is Python's."""
     try:
-        fast = importlib.import_module("._fast", __package__) if os.environ.get("LABRUN_FAST") != "0" else None
+        return importlib.import_module("._fast", __package__) if os.environ.get("LABRUN_FAST") != "0" else None
     except ImportError:
-        fast = None
+        return None
+
+
+def fastest() -> Callable[..., Quick]:
+    fast = extension()
     made: Callable[..., Quick] = Quick if fast is None else fast.Quick
     return made

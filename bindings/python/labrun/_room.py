@@ -8,7 +8,7 @@ from typing import Any, Iterable, Iterator, Mapping, Optional, Sequence, Union
 
 from ._faults import MayNotUse
 from ._keepers import Keeper
-from .picks import NoSuch, is_plain, sets_of
+from .picks import NoSuch, choices_of, is_plain, named, sets_of
 from ._shell import Shell
 from .machine import HOLDS
 
@@ -34,9 +34,7 @@ class Kind:
         return self.name or "a guest"
 
     def sets(self, instruments: tuple[str, ...], any_of: AnyOf) -> tuple[int, ...]:
-        if any_of and isinstance(any_of, str):
-            raise ValueError(f"any_of: a list of instruments, or of sets of them, is wanted, and not the text {any_of!r}")
-        choices = [(it,) if isinstance(it, str) else tuple(it) for it in any_of]
+        instruments, choices = named(instruments), choices_of(any_of)
         if bool(choices) == bool(instruments) or not all(choices):
             raise ValueError("say which instruments, or of which sets of them it is to be one (any_of)")
         sets = tuple(bits for words in choices or (instruments,) for bits in self._sets(words))

@@ -1,5 +1,5 @@
-"""A bay with the threads of a process around it: one mutex, who waits for what is told, one thread that writes, one that looks at the
-clock. It decides nothing: the bay does (machine.py).
+"""A bay with the threads of a process around it: one mutex, who waits for what is told, who writes (_disk.py), one thread that looks at the
+clock, and with a journal one that writes for those who can't. It decides nothing: the bay does (machine.py).
 
 Nobody calls the bay but with the mutex held, and whoever called it hands on what is told. The numbers are given here, before the call, and
 what is told is given back only once it was handed on. So after an exception anywhere, an interrupt too, `leave` makes all good: nothing is
@@ -8,33 +8,31 @@ held by that number, and what wasn't handed on yet is."""
 from __future__ import annotations
 
 import collections
+import contextlib
 import os
 import threading
 import time
 import weakref
-from typing import Any, Callable, Optional, TypeVar
+from typing import Any, Callable, Optional
 
-from ._faults import Closed, Full, JournalError, LabrunError, OtherProcess, Stopped
+from ._disk import Disk
+from ._faults import Closed, Full, LabrunError, OtherProcess, Stopped
 from ._quick import LETS_GO, Asker, Quick, fastest
-from ._sleep import Bolt, Line, Waiter, sleep_of, starts, steps
+from ._sleep import Bolt, Waiter, starts, steps
+from ._writing import BROKEN, CLOSED, CLOSING, ELSEWHERE, OPEN, SOON, STANDS_STILL, Writing
 from .machine import HOLDS, LET_GO, LINE_FULL, NEVER, STOPPED, WAITS, Machine, Refusal, Standing, Told
-from .store import Store
+from .store import FileStore
 
 # the same thread may come again, if it is interrupted to end somebody whose loop is gone
 _new_mutex: Callable[[], Any] = threading.RLock
 _new_quick: Callable[..., Quick] = fastest()
 AGAIN = 0.03  # seconds, after a write that failed
 
-# how far a shell is
-OPEN, STANDS_STILL, CLOSING, CLOSED, ELSEWHERE, BROKEN = range(6)
 
-T = TypeVar("T")
+class Shell(Writing):
+    """`base` is what is added to the clock of this machine, in milliseconds. With a store its text is written there."""
 
-
-class Shell:
-    """`base` is what is added to the clock of this machine, in milliseconds. With a store its text is written, by a thread of its own."""
-
-    def __init__(self, machine: Machine, store: Optional[Store], base: int = 0) -> None:
+    def __init__(self, machine: Machine, store: Optional[FileStore], base: int = 0) -> None:
         self.mutex, self.machine, self._store = _new_mutex(), machine, store
         self.keeps, self.stands = store is not None, OPEN
         self.now: Callable[[], int] = lambda: time.monotonic_ns() // 1000000 + base
@@ -42,15 +40,15 @@ class Shell:
         # those of whom somebody else's call may tell something: who waits, and who holds with a limit
         self._busy: set[int] = set()
         # who left, and isn't taken out yet; the mutex needn't be held to add one
-        self._left: collections.deque[Optional[Asker]] = collections.deque()
+        self._left: collections.deque[Optional[Waiter]] = collections.deque()
         self.quick = _new_quick(machine, self.mutex, self.now, self.askers, self._busy, self._left)
-        self._on_disk: set[Waiter] = set()
-        self._handed = 0
+        self._disk = None if store is None else Disk(machine, store, self.askers)
         self._fault: Optional[BaseException] = None
         self._process = os.getpid()
         self._work, self._tick, self._until = Bolt(), Bolt(), NEVER
         self._writer: Optional[threading.Thread] = None
-        self._has_timer = False
+        # anybody had a time limit, or a limit on holding; and there is a thread for that
+        self._is_timed = self._has_timer = False
         _shells.add(self)
         # a lab that nobody has any more goes: its threads end, and another may have the file
         weakref.finalize(self, _goes, self._work, self._tick, store).atexit = False
@@ -58,7 +56,8 @@ class Shell:
     def begins(self) -> None:
         """From now on it writes."""
         self.quick.is_open = not self.keeps
-        if self.keeps:
+        if self._disk is not None:
+            self._disk.last.wake = self._work.opens
             self._writer = starts(steps, weakref.ref(self), Shell.writes, self._work)
 
     # with the mutex held
@@ -75,9 +74,9 @@ class Shell:
             raise Closed("the lab is closed")
 
     def asks(self, it: Asker) -> None:
-        """What is told at once it hears before this returns."""
+        """What is told at once it hears before this returns. What it says to the disk is written by whoever `waits` then."""
         self.may_go_on()
-        now = self.now()
+        now, self._is_timed = self.now(), self._is_timed or it.timeout != NEVER or it.limit != NEVER
         # (it may have asked just now: `Quick.holds`)
         if not it.number:
             # (the number comes first: an interrupt behind the call finds it)
@@ -89,7 +88,7 @@ class Shell:
                 self.machine.ask(number, (1, number), it.kind, it.sets, min(now + it.timeout, NEVER), it.limit, now)
             except Refusal as fault:
                 raise self._refused(fault) from None
-        self.pump(now)
+        self._has_changed(now)
 
     def _refused(self, fault: Refusal) -> LabrunError:
         if fault.status == STOPPED:
@@ -103,7 +102,7 @@ class Shell:
         return Closed("the lab is closed") if self.stands > STANDS_STILL else Stopped("the lab was stopped: nobody is let in any more")
 
     def lets_go(self, it: Asker) -> None:
-        """One that holds. With a store it is on the disk once that is told."""
+        """One that holds. With a store it does once that is written, by whoever `waits` then."""
         now, number = self.now(), it.number
         if not self.keeps:
             # (the same without a word: nobody has to be told)
@@ -116,17 +115,20 @@ class Shell:
             except Refusal as fault:
                 raise LabrunError(f"lab_bay_let_go: status {fault.status}") from None
             it.what = LETS_GO
-        self.pump(now)
+        self._has_changed(now)
 
-    def waits_for_disk(self, it: Waiter) -> None:
-        """Until it hears more, or a write fails."""
-        self._on_disk.add(it)
-        self._work.opens()
+    def has_let_go(self, it: Asker) -> None:
+        """(That it did so is written. Once it is durable the bay tells it, too, to nobody.)"""
+        if it.what == LETS_GO:
+            it.what = LET_GO
+            self._is_over(it)
 
     def notes(self, number: int, text: bytes) -> None:
         """Refusal: NOT_NOW, MAY_NOT."""
         self.machine.note(number, text)
-        if not self.keeps:
+        if self._disk is not None:
+            self._disk.has_more = True
+        else:
             # (nobody wants it, but the bay has looked at it)
             self.machine.durable(self.machine.journal()[1])
 
@@ -150,22 +152,32 @@ class Shell:
         it.number = standing.number
         self.askers[it.number] = it
         # (whether it has a limit isn't told)
-        it.limit = 0
+        it.limit, self._is_timed = 0, True
         self._busy.add(it.number)
         it.needs, it.token = self.machine.back(it.number, standing.owner, self.now()), standing.token
         it.what = HOLDS
 
     def pump(self, now: int) -> None:
         """Hands on what is told, and has the rest written."""
+        self._has_changed(now)
+        self._calls()
+
+    def _has_changed(self, now: int) -> None:
+        if self._disk is not None:
+            self._disk.has_more = True
         self._hands_on(now)
-        if self.keeps:
-            self._work.opens()
 
     def _hands_on(self, now: int) -> None:
-        if self._busy:
+        if self._busy and self._is_timed:
             self._looks_ahead(self.machine.time(now))
+        self._tells(now)
+
+    def _tells(self, now: int) -> None:
         while (told := self.machine.tell(self.quick.done)) is not None:
             it = self.askers.get(told.number)
+            if self._disk is not None and told.what not in (HOLDS, LET_GO):
+                # (its line comes, and those of others that are let in)
+                self._disk.has_more = True
             # (an interrupt may have come between: then it was told, and more)
             if it is not None and told.serial > self.quick.done:
                 self._is_told(it, told, now)
@@ -186,19 +198,22 @@ class Shell:
     def _is_over(self, it: Asker) -> None:
         """Nothing more is told of it."""
         self._busy.discard(it.number)
-        self._on_disk.discard(it)
         self.askers.pop(it.number, None)
 
     def wakes(self, it: Waiter) -> bool:
         """False: nobody is there any more."""
-        return it.wake is None or it.wake()
+        return it.wakes()
 
     def _takes_out(self) -> None:
         """Those who left."""
         left, is_there = tuple(self._left), self.stands <= CLOSING
         now = self.now()
         for it in left:
-            if is_there and it is not None and it.number:
+            if it is None:
+                continue
+            if self._disk is not None:
+                self._disk.forgets(it)
+            if is_there and isinstance(it, Asker) and it.number:
                 self.machine.leave(it.number, now)
                 self._is_over(it)
         if is_there:
@@ -210,43 +225,11 @@ class Shell:
 
     # without it
 
-    def leave(self, it: Optional[Asker] = None) -> None:
+    def leave(self, it: Optional[Waiter] = None) -> None:
         """Nobody is there for it any more, whatever it is at. None: what wasn't handed on, because an interrupt came, is."""
         self._left.append(it)
         with self.mutex:
             self._takes_out()
-
-    async def until_written(self, act: Callable[[], T], is_task: bool) -> T:
-        """Does this with the mutex held, and comes back once all that it gave is on the disk. JournalError: a write failed."""
-        line, sleep = Line(), None
-        try:
-            with self.mutex:
-                done = act()
-                if self.keeps:
-                    line.within = self._handed + 1
-                    sleep = sleep_of(line, is_task)
-                    self.waits_for_disk(line)
-            if sleep is not None:
-                await sleep
-                if line.within:
-                    raise self.failed(line.fault, "the lab was closed before it was written")
-            return done
-        except BaseException:
-            with self.mutex:
-                self._on_disk.discard(line)
-            self.leave()
-            raise
-
-    def failed(self, fault: Optional[BaseException], why: str = "") -> JournalError:
-        """What is told of a write that failed; of none it is told why."""
-        if fault is not None:
-            why = f"a write failed ({getattr(fault, 'strerror', None) or repr(fault)})"
-        made = JournalError(self._store.path if self._store is not None else "", why)
-        made.__cause__ = fault
-        return made
-
-    def too_late(self) -> JournalError:
-        return self.failed(self._fault, "it wasn't on the disk in time")
 
     def close(self) -> None:
         """What the bay has given is written, and the store is closed. JournalError: it could not be written."""
@@ -263,19 +246,18 @@ class Shell:
         with self.mutex:
             if self.stands in (CLOSED, ELSEWHERE):
                 return
-            is_whole = self.stands == BROKEN or self._fault is None
+            fault = self._disk.fault if self._disk is not None and self.stands != BROKEN else None
             self._comes_to(CLOSED)
             self._rouses_all()
             self.machine.free()
             if self._store is not None:
                 self._store.close()
-            if not is_whole:
-                raise self.failed(self._fault)
+            if fault is not None:
+                raise self.failed(fault)
 
     def _rouses_all(self) -> None:
-        for it in (*self.askers.values(), *self._on_disk):
+        for it in (*self.askers.values(), *(self._disk.lines if self._disk is not None else ())):
             self.wakes(it)
-        self._on_disk.clear()
 
     def breaks(self, fault: BaseException) -> None:
         """A thread of its own can't go on: everybody is told."""
@@ -296,63 +278,48 @@ class Shell:
     # on threads of their own
 
     def writes(self) -> Optional[float]:
-        """All that there is. (As long as there is something, the thread has the shell: it is written, though nobody else may have it.)"""
+        """What nobody else does. (As long as there is something, the thread has the shell: it is written, though nobody else may have it.)"""
         try:
             while again := self.writes_once():
                 pass
-            return None if again is None else -1
+            return None if again is None else self._until_synced()
         except BaseException as fault:
             self.breaks(fault)
             return None
 
     def writes_once(self) -> Optional[bool]:
         """Whether it is worth to look again at once; None: it never is."""
-        assert self._store is not None
-        text, position = b"", 0
-        fault: Optional[Exception] = None
-        with self.mutex:
-            is_last = self.stands > STANDS_STILL
-            if self.stands > CLOSING:
-                return None
-            self._handed += 1
-            handed = self._handed
-            try:
-                text, position = self.machine.journal()
-            except MemoryError as error:
-                fault = error
-        if text:
-            # (without the mutex: those who ask while the disk is busy share the next write)
-            try:
-                self._store.append(text)
-            except OSError as error:
-                fault = error
-        with self.mutex:
-            if self.stands > CLOSING:
-                return None
-            self._is_written(text, position, handed, fault)
-        if fault is not None and not is_last:
+        disk = self._disk
+        assert disk is not None
+        if disk.fault is not None and self.stands <= STANDS_STILL:
             time.sleep(AGAIN)
-        is_work = bool(text) or fault is not None
-        return None if is_last and (fault is not None or not text) else is_work
+        with self.mutex:
+            if self.stands > CLOSING:
+                return None
+            is_last = self.stands == CLOSING
+            job = disk.takes(disk.last, is_last or self._is_due())
+            if job is None and disk.fault is None:
+                return None if is_last and disk.is_idle else False
+        if job is not None:
+            self._does(disk.last, job, False)
+        return None if is_last and disk.fault is not None else True
 
-    def _is_written(self, text: bytes, position: int, handed: int, fault: Optional[BaseException]) -> None:
-        self._fault = fault
-        if text and fault is None:
-            self.machine.durable(position)
-        elif text:
-            self.machine.failed()
-        for it in tuple(self._on_disk):
-            if fault is not None:
-                it.fault = fault
-            elif isinstance(it, Line) and it.within <= handed:
-                it.within = 0
-            else:
-                continue
-            self._on_disk.discard(it)
-            self.wakes(it)
-        if text or fault is not None:
-            # (it looks again itself: if it woke itself, it would never sleep)
-            self._hands_on(self.now())
+    def _is_due(self) -> bool:
+        """What nobody waits for has waited for long enough."""
+        disk, seen = self._disk, self._unsynced
+        return disk is not None and seen is not None and disk.durable < seen[0] and self.now() >= seen[1]
+
+    def _until_synced(self) -> float:
+        """In how many seconds to look again; -1: when it is woken."""
+        with self.mutex:
+            now, disk = self.now(), self._disk
+            if disk is None or not disk.is_unsynced:
+                self._unsynced = None
+                return -1
+            if self._unsynced is None or disk.durable >= self._unsynced[0]:
+                self._unsynced = disk.written, now + SOON
+            # (if it is due, somebody else is just at it)
+            return ((self._unsynced[1] - now) if self._unsynced[1] > now else SOON) / 1000
 
     def _looks_ahead(self, due: int) -> None:
         """The timer is woken only for a moment that comes before the one until which it sleeps."""
@@ -381,10 +348,13 @@ class Shell:
             return None
 
 
-def _goes(work: Bolt, tick: Bolt, store: Optional[Store]) -> None:
+def _goes(work: Bolt, tick: Bolt, store: Optional[FileStore]) -> None:
     work.opens()
     tick.opens()
     if store is not None:
+        with contextlib.suppress(OSError):
+            # (somebody may have let go just now)
+            store.sync()
         store.close()
 
 

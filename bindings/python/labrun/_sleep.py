@@ -29,16 +29,38 @@ def in_loop() -> bool:
 
 class Waiter:
     """Whoever sleeps until something is so. `wake` is set while it does, and says whether somebody is there; `fault` is the write that
-    failed meanwhile."""
+    failed meanwhile. With `does` it is a thread that has all the time that the disk takes, and is woken also to write and, with `syncs`, to
+    sync itself. `number` is 0 of one that isn't an ask."""
 
+    number = 0
     wake: Optional[Callable[[], bool]] = None
+    sleep: Optional[Awaitable[None]] = None
+    does = False
+    syncs = True
     fault: Optional[BaseException] = None
+
+    @property
+    def is_told(self) -> bool:
+        """What it waits for."""
+        return True
+
+    def wakes(self) -> bool:
+        """False: nobody is there any more."""
+        return self.wake is None or self.wake()
 
 
 class Line(Waiter):
-    """Waits until all that the bay gave by now is on the disk: `within` is the hand-out that has it; 0: it is there."""
+    """Waits until all that the bay gave by now is written, and with `syncs` on the disk: `within` is the hand-out that has it; 0: it is
+    there."""
 
     within = -1
+
+    def __init__(self, syncs: bool) -> None:
+        self.syncs = syncs
+
+    @property
+    def is_told(self) -> bool:
+        return not self.within or self.fault is not None
 
 
 class Bolt:

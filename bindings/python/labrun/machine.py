@@ -18,6 +18,8 @@ from ._library import NOT_NOW as NOT_NOW
 # the statuses of the bay's own
 NUMBER, STOPPED, NO_CLASS, EMPTY, MAY_NOT, LINE_FULL, OVER, ANOTHER, UNSOUND, OWNER = range(20, 30)
 NEVER = 2**64 - 1  # no moment, no limit
+# as many as a set has bits; and as a bay has, of which each station is one, and the guests are
+MOST_INSTRUMENTS, MOST_CLASSES = 64, 32
 
 # what an ask is told; the last only of `standings` and `keeper`
 HOLDS, LET_GO, LEFT, LAPSED, NOT_WRITTEN, LIMIT, GRACE, TAKEN, REPLACED, WAS_STOPPED, WAITS = range(11)
@@ -120,7 +122,7 @@ def _bound(path: str) -> dict[str, Callable[..., int]]:
     try:
         short, long = ctypes.PyDLL(path), ctypes.CDLL(path)
     except OSError as fault:
-        how = "build it by bench/door/build FOLDER, and then name FOLDER/liblabrun.so by LABRUN_LIBRARY, copy it beside the package, or"
+        how = "build it by checks/door/build FOLDER, and then name FOLDER/liblabrun.so by LABRUN_LIBRARY, copy it beside the package, or"
         raise OSError(f"no library of labrun at {path} ({fault}): {how} install it") from fault
     calls: dict[str, Callable[..., int]] = {}
     for name, types in _CALLS.items():

@@ -15,8 +15,10 @@ import fnmatch
 import itertools
 import math
 import re
-from typing import Mapping, Sequence
+from typing import Any, Iterable, Mapping, Sequence
 
+NAME = re.compile(r"[A-Za-z][A-Za-z0-9._-]{0,63}")
+A_NAME = "at most 64 letters, digits, `-`, `_` and `.`, a letter first"
 MOST_SETS = 100
 MOST_WAYS = 10000  # with those in which an instrument is named twice
 TAG = "tag:"
@@ -36,6 +38,31 @@ class TooFew(ValueError):
 
 class TooMany(ValueError):
     """There are more ways to choose than can be asked for."""
+
+
+def is_name(name: object) -> bool:
+    """Whether an instrument, a station, a tag or a person of a bay may be called so (`A_NAME`)."""
+    return isinstance(name, str) and NAME.fullmatch(name) is not None
+
+
+def named(words: Iterable[Any]) -> Names:
+    """The words of one choice, as they are given. ValueError: one is no text."""
+    found = tuple(words)
+    for it in found:
+        if not isinstance(it, str):
+            several = ": each is given by itself, as by hold(*names)" if isinstance(it, (list, tuple, set, frozenset)) else ""
+            raise ValueError(f"an instrument is named by a text, and not by {it!r}{several}")
+    return found
+
+
+def choices_of(any_of: Any) -> tuple[Names, ...]:
+    """The choices of `any_of`, as they are given: each is one word, or several. ValueError: it is no list of such."""
+    if not any_of:
+        return ()
+    if isinstance(any_of, str) or not isinstance(any_of, Iterable):
+        what = "the text " if isinstance(any_of, str) else ""
+        raise ValueError(f"any_of: a list of instruments, or of sets of them, is wanted, and not {what}{any_of!r}")
+    return tuple(named((it,) if isinstance(it, str) or not isinstance(it, Iterable) else it) for it in any_of)
 
 
 def is_plain(word: str) -> bool:
@@ -78,8 +105,11 @@ def counted(word: str) -> tuple[int, str]:
 def _parts(count: int, what: str, names: Sequence[str], tags: Mapping[str, Sequence[str]]) -> list[Names]:
     """So many of these: each way once."""
     its = matching(what, names, tags)
-    if not 0 < count <= len(its):
-        raise TooFew(f"{count} of {what} are wanted; there {'is' if len(its) == 1 else 'are'} {len(its)}: {', '.join(its)}")
+    there = f"there {'is' if len(its) == 1 else 'are'} {len(its)}: {', '.join(its)}"
+    if count < 1:
+        raise TooFew(f"{count} of {what}: ask for 1 or more; {there}")
+    if count > len(its):
+        raise TooFew(f"{count} of {what} are wanted; {there}")
     return list(itertools.islice(itertools.combinations(its, count), MOST_WAYS + 1))
 
 
@@ -88,7 +118,7 @@ def matching(word: str, names: Sequence[str], tags: Mapping[str, Sequence[str]])
     if word.startswith(TAG):
         tag = word.removeprefix(TAG)
         if tag not in tags:
-            raise NoSuch(f"{tag} is no tag: there are {', '.join(tags) or 'none'}")
+            raise NoSuch(f"{tag} is no tag; {'the tags are ' + ', '.join(tags) if tags else 'there are none'}{near(tag, tags)}")
         its = tuple(name for name in names if name in tags[tag])
     else:
         its = tuple(name for name in names if fnmatch.fnmatchcase(name, word))
@@ -98,7 +128,11 @@ def matching(word: str, names: Sequence[str], tags: Mapping[str, Sequence[str]])
 
 
 def _unknown(word: str, names: Sequence[str]) -> NoSuch:
-    near = difflib.get_close_matches(word, names, 1)
-    hint = f" (did you mean {near[0]}?)" if near else ""
-    what = f"{word} is none of the instruments" if is_plain(word) else f"no instrument is like {word}"
-    return NoSuch(f"{what}: {', '.join(names) or 'there are none'}{hint}")
+    what = f"{word} is none of the instruments: " if is_plain(word) else f"no instrument is like {word}: {'there are ' if names else ''}"
+    return NoSuch(f"{what}{', '.join(names) or 'there are none'}{near(word, names)}")
+
+
+def near(word: str, known: Iterable[str]) -> str:
+    """For a text that says that a word isn't known: which of these is nearly that, if one is."""
+    found = difflib.get_close_matches(word, list(known), 1)
+    return f" (did you mean {found[0]}?)" if found else ""

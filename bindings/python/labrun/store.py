@@ -24,11 +24,6 @@ class Store(Protocol):
     def cut(self, length: int) -> None:
         """So many bytes of it count, and outlive a crash from now on; the rest is a line that lost its end. OSError: it isn't so."""
 
-    def append(self, text: bytes) -> None:
-        """The text stands behind what there is, and outlives a crash. OSError: it isn't there, and never will be by this call."""
-
-    # the two halves of `append`, for a shell that answers some before the disk has it
-
     def write(self, text: bytes) -> None:
         """The text stands behind what there is, and outlives the process. OSError: nobody knows how much of it does, until `cut`."""
 
@@ -49,7 +44,7 @@ class FileStore:
     not the machine."""
 
     def __init__(self, path: str | os.PathLike[str], syncs: bool = True, mode: int = 0o666) -> None:
-        self.path, self._syncs, self._mode = os.fspath(path), syncs, mode
+        self.path, self.syncs, self._mode = os.fspath(path), syncs, mode
         self._file = os.open(self.path, os.O_RDWR | os.O_CREAT | os.O_CLOEXEC, mode)
         self._is_closed = False
         try:
@@ -62,7 +57,7 @@ class FileStore:
             self.close()
             raise JournalError(self.path, "another process has it open") from None
         self._length = os.fstat(self._file).st_size
-        self._is_torn, self._is_known = False, False
+        self._is_known = False
 
     def text(self) -> bytes:
         parts, at = [], 0
@@ -76,8 +71,8 @@ class FileStore:
 
     def cut(self, length: int) -> None:
         os.ftruncate(self._file, length)
-        self._length, self._is_torn = length, False
-        if self._syncs:
+        self._length = length
+        if self.syncs:
             # what a process wrote just before it was killed may be in memory alone, and its name may be, too
             if not self._is_known:
                 self._writes_again()
@@ -97,26 +92,18 @@ class FileStore:
             if fault.errno != errno.ENOSPC:
                 raise
 
-    def append(self, text: bytes) -> None:
-        if self._is_torn:
-            os.ftruncate(self._file, self._length)
-        self._is_torn, at = True, 0
-        while at < len(text):
-            at += os.pwrite(self._file, text[at:], self._length + at)
-        if self._syncs:
-            # (after a sync that failed nobody knows what is on the disk, and a second one would say that all is well: so the text is
-            # written again)
-            os.fdatasync(self._file)
-        self._length, self._is_torn = self._length + len(text), False
-
     def write(self, text: bytes) -> None:
-        at = 0
-        while at < len(text):
-            at += os.pwrite(self._file, text[at:], self._length + at)
+        self.put(text, self._length)
         self._length += len(text)
 
+    def put(self, text: bytes, place: int) -> None:
+        """The text stands at this place, over what there is. OSError: perhaps a part of it does."""
+        at = 0
+        while at < len(text):
+            at += os.pwrite(self._file, text[at:], place + at)
+
     def sync(self) -> None:
-        if self._syncs:
+        if self.syncs and not self._is_closed:
             os.fdatasync(self._file)
 
     def anew(self, text: bytes) -> None:
@@ -128,16 +115,16 @@ class FileStore:
             at = 0
             while at < len(text):
                 at += os.pwrite(file, text[at:], at)
-            if self._syncs:
+            if self.syncs:
                 os.fsync(file)
             os.replace(new, self.path)
         except BaseException:
             os.close(file)
             raise
         # (it may have been closed meanwhile)
-        before, self._file, self._length, self._is_torn = self._file, file, len(text), False
+        before, self._file, self._length = self._file, file, len(text)
         os.close(file if self._is_closed else before)
-        if self._syncs:
+        if self.syncs:
             self._syncs_folder()
 
     def close(self) -> None:

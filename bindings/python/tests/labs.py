@@ -13,7 +13,7 @@ from unittest import mock
 
 import labrun
 from labrun import _shell
-from tests.test_bench import in_thread, until
+from tests.benches import in_thread, until
 
 NAMES = ["scope", "supply", "load-1", "load-2"]
 STATIONS = {"board": ["scope", "supply"], "radio": ["scope"], "drive": ["supply", "load-1", "load-2"], "host": ["load-1", "load-2"]}
@@ -115,8 +115,9 @@ class OnFile(OnLab):
     @contextlib.contextmanager
     def disk(self, lab: labrun.Lab, append: Callable[[bytes, Callable[[bytes], None]], None]) -> Iterator[None]:
         store: Any = lab._shell._store
-        real = store.append
-        with mock.patch.object(store, "append", lambda text: append(text, real)), mock.patch.object(_shell, "AGAIN", 0.002):
+        real = store.put
+        put = lambda text, place: append(text, lambda it: real(it, place))  # noqa: E731
+        with mock.patch.object(store, "put", put), mock.patch.object(_shell, "AGAIN", 0.002):
             yield
 
 

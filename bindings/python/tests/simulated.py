@@ -1,4 +1,4 @@
-"""The calls of the library by bench/simulate.py, which works the definitions out and shares no code with the program. So what waits and who
+"""The calls of the library by checks/simulate.py, which works the definitions out and shares no code with the program. So what waits and who
 wakes it is tested on what the definitions say, one call at a time, without a built library."""
 
 from __future__ import annotations
@@ -11,7 +11,7 @@ from typing import Any, Callable, Iterable
 
 from tests.test_runs import TOP
 
-sys.path.insert(0, os.path.join(TOP, "bench"))
+sys.path.insert(0, os.path.join(TOP, "checks"))
 import simulate  # type: ignore[import]  # noqa: E402
 
 DINING = (simulate.THINKING, simulate.HUNGRY, simulate.EATING)
@@ -31,7 +31,7 @@ def bits(jobs: Iterable[Any]) -> int:
 class Simulated:
     """In place of `labrun._library.Library`. It counts how often a job is attended to."""
 
-    path = "bench/simulate.py"
+    path = "checks/simulate.py"
 
     def __init__(self) -> None:
         self.runs: list[Any] = [None]

@@ -1,6 +1,5 @@
-"""The structures, statuses and calls of `labrun.machine` are those of include/labrun_bay.h."""
+"""The structures and statuses of `labrun.machine` are those of include/labrun_bay.h. (Its calls are compared by scripts/make_calls.)"""
 
-import ctypes
 import os
 import re
 import unittest
@@ -16,7 +15,6 @@ LETTERS = {"uint64_t": "Q", "uint64_t[2]": "QQ", "uint32_t": "I", "uint8_t[32]":
 TUPLES = {"terms": machine.Terms, "standing": machine.Standing, "outcome": machine.Told}
 # What the header calls otherwise.
 CALLED = {"BAY_NUMBER": "NUMBER", "BAY_STOPPED": "STOPPED", "BAY_OWNER": "OWNER", "STOPPED": "WAS_STOPPED"}
-SIZES = {"uint32_t": ctypes.c_uint32, "uint64_t": ctypes.c_uint64, "size_t": ctypes.c_size_t, "void *": ctypes.c_void_p}
 
 
 def header() -> str:
@@ -48,14 +46,6 @@ class Header(unittest.TestCase):
         self.assertGreater(len(there), 20)
         for name, number in there:
             self.assertEqual(getattr(machine, CALLED.get(name, name.removeprefix("BAY_"))), int(number), name)
-
-    def test_calls(self) -> None:
-        """Each call is there, with arguments of the same widths."""
-        there = dict(re.findall(r"uint32_t lab_bay_(\w+)\(([^)]*)\);", header()))
-        self.assertEqual(set(there), set(machine._CALLS))
-        for name, given in there.items():
-            widths = [ctypes.sizeof(SIZES["void *"] if "*" in it else SIZES[it.split()[0]]) for it in given.split(",")]
-            self.assertEqual([ctypes.sizeof(it) for it in machine._CALLS[name]], widths, name)
 
 
 if __name__ == "__main__":

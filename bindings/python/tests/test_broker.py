@@ -7,7 +7,7 @@ import sys
 import tempfile
 import unittest
 
-from tests.test_bench import LIMIT, child
+from tests.benches import LIMIT, child
 from tests.test_runs import TOP
 
 

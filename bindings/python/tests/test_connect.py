@@ -13,7 +13,7 @@ from unittest import mock
 
 import labrun
 from labrun._connect import is_address
-from tests.test_bench import back, in_thread, until
+from tests.benches import back, in_thread, until
 
 BAY = """
 bay = "north"

@@ -9,7 +9,7 @@ import labrun
 from labrun import _bench, _core, _session
 from tests.gates import Gates, Stuck
 from tests.load import Counting, load_script
-from tests.test_bench import LIMIT, PATIENT, TWO, asked
+from tests.benches import LIMIT, PATIENT, TWO, asked
 from tests.test_simulated import OnDefinitions
 
 # all need x; and a ring of three

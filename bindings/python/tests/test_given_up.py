@@ -7,7 +7,7 @@ from typing import Any, Callable
 from unittest import mock
 
 import labrun
-from tests.test_bench import PATIENT, TWO, asked, back, waiting
+from tests.benches import PATIENT, TWO, asked, back, waiting
 
 # three jobs, one instrument; b's session may be withdrawn, or not
 SCRIPTS = {

@@ -1,4 +1,5 @@
-"""The structures and calls of Python are those of include/labrun.h. (Rust compares its own: bindings/rust/tests/header.rs.)"""
+"""The structures and statuses of Python are those of include/labrun.h. (Rust compares its own: bindings/rust/tests/header.rs. The calls of
+both are compared by scripts/make_calls.)"""
 
 import ctypes
 import os
@@ -31,7 +32,6 @@ STATUSES = {
     "NO_ROOM": "NO_ROOM",
     "NOT_OPEN": "NOT_OPEN",
     "NOT_YET": "NOT_NOW",
-    "NO_SESSION": "NO_SESSION",
     "SESSIONS_LEFT": "SESSIONS_LEFT",
     "IN_USE": "IN_USE",
     "JOURNAL_FULL": "JOURNAL_FULL",
@@ -75,13 +75,6 @@ class Header(unittest.TestCase):
         self.assertEqual(set(STATUSES) | {"DONE", "BUSY", "UPGRADED"}, set(numbers))
         for name, called in STATUSES.items():
             self.assertEqual(getattr(_library, called), numbers[name], name)
-
-    def test_calls(self) -> None:
-        """Each call is in the header, with as many arguments."""
-        header = re.sub(r"/\*.*?\*/", "", text_of("include/labrun.h"), flags=re.DOTALL)
-        there = {name: given.count(",") + 1 for name, given in re.findall(r"(?:uint32_t|void) (lab_\w+)\(([^)]*)\)", header)}
-        for name, arguments in {**_library._LONG, **_library._SHORT}.items():
-            self.assertEqual(there.get(name), len(arguments), name)
 
 
 if __name__ == "__main__":

@@ -15,7 +15,7 @@ from unittest import mock
 import labrun
 from labrun import _lab, _shell
 from tests.labs import NAMES, Counting, OnFile, full, tried
-from tests.test_bench import LIMIT, back, in_thread, until
+from tests.benches import LIMIT, back, in_thread, until
 
 
 class Failing(OnFile):
@@ -66,7 +66,7 @@ class Failing(OnFile):
                 with lab.hold("scope") as held:
                     stack.enter_context(self.disk(lab, self.fails))
         until(lambda: held.state == "finished")
-        with lab.hold("scope", timeout=1):
+        with lab.hold("scope", timeout=LIMIT):
             pass
 
     def test_note(self) -> None:

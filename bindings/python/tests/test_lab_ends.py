@@ -2,18 +2,21 @@
 
 from __future__ import annotations
 
+import _thread
 import os
 import random
 import signal
+import tempfile
 import threading
 import time
 import unittest
 import weakref
-from typing import Any, Callable
+from typing import Any, Callable, Optional
 
 import labrun
+from labrun._quick import extension
 from tests.labs import NAMES, Counting, OnLab, are_gone, threads_since
-from tests.test_bench import LIMIT, back, in_thread, until
+from tests.benches import LIMIT, back, in_thread, until
 
 
 class Ends(OnLab):
@@ -160,17 +163,83 @@ class Ends(OnLab):
         self.is_empty(lab)
 
     def test_interrupted_while_it_waits(self) -> None:
-        lab = self.lab()
+        lab, is_over = self.lab(), threading.Event()
         before = signal.signal(signal.SIGALRM, lambda *_: (_ for _ in ()).throw(KeyboardInterrupt()))
         self.addCleanup(signal.signal, signal.SIGALRM, before)
+
+        def interrupts(held: labrun.Held) -> None:
+            until(lambda: held.state == "waiting")
+            # (one that comes just before the interpreter falls asleep is seen once it wakes: so another may be needed)
+            while not is_over.wait(0.003):
+                signal.pthread_kill(threading.main_thread().ident or 0, signal.SIGALRM)
+                is_over.wait(10)
+
         with lab.hold("scope"):
             for at in range(20):
                 held = lab.hold("scope", timeout=LIMIT if at % 2 else None)
-                signal.setitimer(signal.ITIMER_REAL, 0.003)
+                is_over.clear()
+                thread = in_thread(lambda held=held: interrupts(held))
                 with self.assertRaises(KeyboardInterrupt):
                     held.acquire() if at % 4 < 2 else held.__enter__()
+                is_over.set()
+                back(thread)
                 self.assertEqual((held.state, len(lab.sessions())), ("given up", 1))
         self.is_empty(lab)
+
+    def test_interrupted_as_it_ends(self) -> None:
+        """Just as the end of `with` begins. With the extension it lets go; Python sees nothing of that, and shows that it holds on."""
+
+        class Rings:
+            """What nobody has any more interrupts, and no line of Python is between that and the end of the block."""
+
+            __del__ = _thread.interrupt_main
+
+        # (what a shell runs in the background ignores the signal)
+        self.addCleanup(signal.signal, signal.SIGINT, signal.signal(signal.SIGINT, signal.default_int_handler))
+        with tempfile.TemporaryDirectory() as folder:
+            for journal in (None, f"{folder}/bay.journal"):
+                lab = self.lab(journal=journal, sync="none")
+                rings: Optional[Rings] = Rings()
+                with self.assertRaises(KeyboardInterrupt):
+                    with lab.hold("scope") as held:
+                        rings = None
+                self.assertIsNone(rings)
+                self.assertEqual(([it.number for it in lab.sessions()], held.held), ([1], True) if extension() is None else ([], False))
+                if held.held:
+                    held.release()
+                self.is_empty(lab)
+
+    def test_it_waits_for_ever(self) -> None:
+        """Without a limit, whatever the clock says; and so does whoever holds without one."""
+        lab = self.lab()
+        first, held = self.held(lab, "", "scope"), lab.hold("scope")
+        thread, now = self.waits(held), lab._shell.now
+        for years in (1, 1000):
+            lab._shell.now = lambda years=years: now() + years * 365 * 86400000  # type: ignore[misc]
+            lab._shell.looks_once()
+            self.assertEqual((first.state, held.state), ("held", "waiting"))
+        first.release()
+        back(thread)
+        self.is_empty(lab)
+
+    def test_two_threads_let_go(self) -> None:
+        """Of one session: it lets go once, and the other one is told."""
+        for _ in range(30):
+            lab, told, starts = self.lab(), [], threading.Barrier(2)  # type: ignore[var-annotated]
+            held = self.held(lab, "", "scope")
+
+            def lets_go() -> None:
+                starts.wait()
+                try:
+                    held.release()
+                    told.append("")
+                except labrun.NotHeld as fault:
+                    told.append(str(fault))
+
+            for thread in [in_thread(lets_go), in_thread(lets_go)]:
+                back(thread)
+            self.assertEqual(sorted(told), ["", "session 1 of a guest is finished: it doesn't hold its instruments"])
+            self.is_empty(lab)
 
     def test_stopped_by_a_signal(self) -> None:
         """A handler may come while the same thread is in a call."""

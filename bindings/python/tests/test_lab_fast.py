@@ -11,10 +11,47 @@ import unittest
 
 import labrun
 import make_wheel
-from tests.test_bench import LIMIT, child
+from tests.benches import LIMIT, child
 
 # the tests of a lab whose sessions may be quick
 TESTS = ("tests.test_lab", "tests.test_lab_ends", "tests.test_lab_tasks", "tests.test_lab_journal.ComesBack.test_left_behind")
+TESTS += ("tests.test_lab_gates.Interrupts.test_lost",)
+# the calls that every session makes answer what they never should; `tell` also tells what is so
+STATUSES = """
+import ctypes, labrun
+from labrun import machine
+calls, of, wrong = machine._calls(), {}, {}
+def wraps(name):
+    kind = ctypes.CFUNCTYPE(ctypes.c_uint32, *machine._CALLS[name])
+    def call(*given):
+        status = calls[name](*given) if name == "tell" or name not in wrong else 0
+        return wrong.get(name, status)
+    of[name] = kind(call)
+    return of[name]
+machine._loaded[labrun.library_path()] = {**calls, **{name: wraps(name) for name in ("ask", "tell", "leave")}}
+for name in ("ask", "tell", "leave"):
+    for status in (7, 8, 13, 26, 99):
+        if (name, status) == ("tell", 8):
+            continue
+        lab = labrun.Lab(["x"])
+        held = lab.hold("x")
+        if name == "leave":
+            held.acquire()
+        wrong[name] = status
+        try:
+            held.__exit__(None, None, None) if name == "leave" else held.acquire()
+            print(name, status, "passed over")
+        except labrun.LabrunError as fault:
+            if str(fault) != f"lab_bay_{name}: status {status}":
+                print(name, status, fault)
+        wrong.clear()
+        if name == "leave":
+            held.release()
+        with lab.hold("x", timeout=0):
+            pass
+        lab.close()
+print("all")
+"""
 
 
 class Fast(unittest.TestCase):
@@ -52,6 +89,10 @@ for _ in range(7):  # (of 16 the last isn't quick)
 print(lab._shell.askers)
 """
         self.assertEqual(self.ran("1", "-c", code), "{}")
+
+    def test_statuses(self) -> None:
+        """What a call never should answer to it is told, and then all goes on."""
+        self.assertEqual(self.ran("1", "-c", STATUSES), "all")
 
 
 if __name__ == "__main__":

@@ -2,25 +2,26 @@
 
 from __future__ import annotations
 
+import contextlib
 import functools
 import gc
 import random
 import tempfile
 import unittest
 from types import FrameType
-from typing import Any, Callable, Optional
+from typing import Any, Callable, Iterator, Optional
 from unittest import mock
 
 import labrun
-from labrun import _held, _quick, _shell, _sleep
+from labrun import _disk, _held, _quick, _shell, _sleep
 from tests import gates
 from tests.gates import Gates, Stuck
 from tests.labs import Counting
-from tests.test_bench import LIMIT
+from tests.benches import LIMIT
 
 RING = {"a": ["x", "y"], "b": ["y", "z"], "c": ["z", "x"]}
 EITHER = {name: ["x", "y"] for name in "abc"}
-FILES = tuple(it.__file__ for it in (_shell, _held, _quick, _sleep))
+FILES = tuple(it.__file__ for it in (_shell, _disk, _held, _quick, _sleep))
 
 Pick = Callable[[int, int, list[int]], int]
 Once = Callable[[labrun.Lab, str, Counting], None]
@@ -60,37 +61,41 @@ class ShellGates(Gates):
 
 
 class Gated(unittest.TestCase):
+    @contextlib.contextmanager
+    def patched(self, at: Gates) -> Iterator[None]:
+        """The package has these gates, no thread of its own, and a clock that goes by looks."""
+        patches = [mock.patch.object(gates, "FILES", FILES), mock.patch.object(_shell, "starts", lambda *given: None)]
+        patches.append(mock.patch.object(_shell, "time", Clock()))
+        patches.append(mock.patch.object(_shell, "_new_quick", _quick.Quick))
+        patches += [mock.patch.object(_sleep, "_new_lock", at.lock), mock.patch.object(_shell, "_new_mutex", at.lock)]
+        # (the end of an earlier lab isn't to come within this one)
+        gc.collect()
+        gc.disable()
+        try:
+            with contextlib.ExitStack() as stack:
+                for patch in patches:
+                    stack.enter_context(patch)
+                yield
+        finally:
+            gc.enable()
+
     def gated(
         self, at: Gates, jobs: dict[str, list[str]], overtakes: int, once: Once, more: Optional[More] = None, **given: Any
     ) -> None:
         """Each station does `once` twice, on a thread; no two hold an instrument at once, all come to their ends, and nothing is left
         behind."""
         counting = Counting()
-
-        patches = [mock.patch.object(gates, "FILES", FILES), mock.patch.object(_shell, "starts", lambda *given: None)]
-        patches.append(mock.patch.object(_shell, "time", Clock()))
-        patches.append(mock.patch.object(_shell, "_new_quick", _quick.Quick))
-        patches += [mock.patch.object(_sleep, "_new_lock", at.lock), mock.patch.object(_shell, "_new_mutex", at.lock)]
-        for patch in patches:
-            patch.start()
-        # (the end of an earlier lab isn't to come within this one)
-        gc.collect()
-        gc.disable()
-        try:
+        with self.patched(at):
             lab = labrun.Lab(["x", "y", "z"], stations=jobs, overtakes=overtakes, **given)
             works: list[Callable[[], None]] = [functools.partial(self.works, lab, name, counting, once) for name in jobs]
             at.run(works + ([lambda: more(lab)] if more else []), LIMIT)
             self.assertEqual(counting.clashes, 0, at.where)
             shell = lab._shell
-            left = shell.askers, shell._busy, list(shell._left), shell._on_disk
+            left = shell.askers, shell._busy, list(shell._left), set() if shell._disk is None else shell._disk.lines
             self.assertEqual(left, ({}, set(), [], set()), at.where)
             shell.mutex = _shell.threading.RLock()
             self.assertEqual(lab.sessions(), (), at.where)
             lab.close()
-        finally:
-            gc.enable()
-            for patch in patches:
-                patch.stop()
 
     def works(self, lab: labrun.Lab, name: str, counting: Counting, once: Once) -> None:
         done = 0
@@ -201,19 +206,55 @@ class WakeUps(Gated):
 
             def writes(lab: labrun.Lab) -> None:
                 store: Any = lab._shell._store
-                real = store.append
+                real = store.put
 
-                def append(text: bytes) -> None:
+                def put(text: bytes, place: int) -> None:
                     if chance.random() < 0.3:
                         raise OSError(28, "No space left on device")
-                    real(text)
+                    real(text, place)
 
-                store.append = append
+                store.put = put
                 while done[0] < 6:
                     lab._shell.writes_once()
 
             with self.subTest(seed), tempfile.TemporaryDirectory() as folder, mock.patch.object(_shell, "AGAIN", 0):
                 self.gated(ShellGates(sometimes(seed, 0.2)), RING, (0, 2, 64)[seed % 3], once, writes, journal=f"{folder}/j", sync="none")
+
+    def test_two_at_one_session(self) -> None:
+        """Of two threads that enter the same one, whichever gate the other comes through, one holds, or waits and holds, and the other is told."""
+        for held_before in (False, True):
+            at = most = 0
+            while at <= most:
+                gate = ShellGates(once_at(at))
+                most = max(most, self.enter_both(gate, held_before, at))
+                at += 1
+            self.assertGreater(most, 10)
+
+    def enter_both(self, gate: ShellGates, held_before: bool, at: int) -> int:
+        came, told = [], []
+
+        def enters(held: labrun.Held) -> None:
+            try:
+                held.acquire()
+                came.append(held.number)
+            except labrun.NotHeld as fault:
+                told.append(str(fault))
+
+        with self.subTest(held_before=held_before, at=at), self.patched(gate):
+            lab = labrun.Lab(["x"])
+            first, held = lab.hold("x"), lab.hold("x")
+            if held_before:
+                first.acquire()
+            works = [lambda: enters(held), lambda: enters(held)]
+            # (whoever waits is woken once nobody else can go on)
+            gate.run(works + [lambda: first.release() if held_before else None], LIMIT)
+            self.assertEqual((came, len(told)), ([held.number], 1))
+            self.assertIn("it is entered once", told[0])
+            held.release()
+            lab._shell.mutex = _shell.threading.RLock()
+            self.assertEqual(lab.sessions(), ())
+            lab.close()
+        return gate.gates
 
     def test_sees_one_that_is_lost(self) -> None:
         """With the wake-ups left out the test doesn't pass."""
@@ -237,7 +278,7 @@ class Interrupts(Gated):
             self.assertGreater(at, 50)
 
     def test_lost(self) -> None:
-        """What is held is lost to it at one place alone, the first line of `__exit__`."""
+        """What is held is lost to it at one place alone, the first line of `__exit__`; with the extension nowhere."""
         lost = set()
         at = 0
         while True:
@@ -258,7 +299,7 @@ class Interrupts(Gated):
             if gate.interrupt >= 0:
                 break
             at += 1
-        self.assertLessEqual(lost, {"__exit__"})
+        self.assertEqual(lost, {"_ends"} if _quick.extension() is None else set())
 
 
 if __name__ == "__main__":

@@ -17,29 +17,28 @@ from unittest import mock
 import labrun
 from labrun.store import FileStore
 from tests.labs import NAMES, STATIONS, OnFile, are_gone, full, threads_since
-from tests.test_bench import LIMIT, back, child, in_thread, until
+from tests.benches import LIMIT, back, child, in_thread, until
 
 # holds, notes and lets go, and says so once it was told; of another process its calls for the file are counted, and at one it is killed
 KILLED = """
-import os, signal, sys, threading
+import itertools, os, signal, sys, threading
 import labrun
-from labrun.store import FileStore
-from labrun import store
 
-count, at, path = [0], int(sys.argv[2]), sys.argv[1]
+# (two threads may call at once, and each number is one's own)
+count, at, path = itertools.count(1), int(sys.argv[2]), sys.argv[1]
 
 def dies(name, is_before):
     real = getattr(os, name)
     def call(*given):
-        count[0] += 1
-        if count[0] == at and is_before:
+        is_it = next(count) == at
+        if is_it and is_before:
             os.kill(os.getpid(), signal.SIGKILL)
-        if count[0] == at and name == "pwrite":
+        if is_it and name == "pwrite":
             # half of it gets there
             real(given[0], given[1][: len(given[1]) // 2], given[2])
             os.kill(os.getpid(), signal.SIGKILL)
         told = real(*given)
-        if count[0] == at:
+        if is_it:
             os.kill(os.getpid(), signal.SIGKILL)
         return told
     setattr(os, name, call)
@@ -238,6 +237,24 @@ class ComesBack(OnFile):
         thread = self.waits(lab.hold("scope"))
         self.assertEqual(lab.take_away(lab.resumed[0]), ("scope",))
         back(thread)
+
+    def test_resumed_is_entered_once(self) -> None:
+        """Whoever comes again, from another thread or once it has let go, is told, and so is whoever comes to one that was taken away."""
+        lab = self.opened()
+        numbers = [self.held(lab, "", name).number for name in ("scope", "supply")]
+        lab.close()
+        lab = self.opened()
+        first, second = lab.resumed
+        with first:
+            with self.assertRaisesRegex(labrun.NotHeld, "session 1 of a guest is held: it is entered once"), first:
+                self.fail("it was entered")
+            self.assertTrue(first.held)
+        with self.assertRaisesRegex(labrun.NotHeld, "session 1 of a guest is finished"), first:
+            self.fail("it was entered")
+        lab.take_away(numbers[1])
+        with self.assertRaises(labrun.TakenAway), second:
+            self.fail("it was entered")
+        self.is_empty(lab)
 
     def test_since(self) -> None:
         """How long it holds goes on over a restart, also if somebody sets the clock back meanwhile."""

@@ -11,7 +11,7 @@ from unittest import mock
 
 import labrun
 from labrun import _quick, _shell, machine
-from tests.test_bench import LIMIT, back, in_thread, until
+from tests.benches import LIMIT, back, in_thread, until
 
 # 7 not open, 8 not now, 13 another call is under way, 26 over, 99 none that there is
 STATUSES = (7, 8, 13, 26, 99)
@@ -173,7 +173,7 @@ class Statuses(unittest.TestCase):
         for name, has_journal in (("journal", True), ("durable", True), ("time", False)):
             with self.subTest(name):
                 lab, faults = self.lab(has_journal), []  # type: ignore[var-annotated]
-                first, waits = lab.hold("x"), lab.hold("x", timeout=0.2)
+                first, waits = lab.hold("x"), lab.hold("x", timeout=1.5)
                 first.acquire()
 
                 def wait(held: Any = waits) -> None:

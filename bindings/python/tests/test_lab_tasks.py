@@ -12,7 +12,7 @@ from unittest import mock
 
 import labrun
 from tests.labs import Counting, OnLab
-from tests.test_bench import LIMIT, back, in_thread
+from tests.benches import LIMIT, back, in_thread
 
 
 class Tasks(OnLab):
@@ -209,8 +209,8 @@ class Tasks(OnLab):
             held = lab.hold("scope")
             await held.acquire_async()
             store = lab._shell._store
-            real = store.append
-            with mock.patch.object(store, "append", lambda text: goes_on.wait(LIMIT) and real(text)):
+            real = store.put
+            with mock.patch.object(store, "put", lambda text, place: goes_on.wait(LIMIT) and real(text, place)):
                 task = asyncio.ensure_future(lab.take_away_async(held))
                 await asyncio.sleep(0.01)
                 self.assertFalse(task.done())

@@ -6,7 +6,7 @@ from unittest import mock
 
 import labrun
 from labrun import _library
-from tests import test_bench, test_given_up
+from tests import test_bench, test_bench_runs, test_given_up
 from tests.load import Counting, load_script
 from tests.simulated import Simulated
 
@@ -65,13 +65,13 @@ class GivenUp(OnDefinitions, test_given_up.GivenUp):
     """Sessions that are given up."""
 
 
-class Running(OnDefinitions, test_bench.Running):
+class Running(OnDefinitions, test_bench_runs.Running):
     """`run`, by threads and by tasks."""
 
     test_many = test_32_threads = None  # type: ignore[assignment]  # (these are long)
 
 
-class Ends(OnDefinitions, test_bench.Ends):
+class Ends(OnDefinitions, test_bench_runs.Ends):
     """Stations that end while they hold, forks, loops of asyncio, and generators that are closed late."""
 
     test_a_child_that_ends_frees_nothing = None  # type: ignore[assignment]  # (this starts a program on the built library)

@@ -10,7 +10,7 @@ from unittest import mock
 import labrun
 from labrun import _library
 from tests.simulated import Simulated
-from tests.test_bench import PATIENT, SOON, TWO, asked, back, waiting
+from tests.benches import PATIENT, SOON, TWO, asked, back, waiting
 
 # 7 not open, 12 the journal is full, 13 another call is under way; and "not now", where that can't be
 ANYWHERE, NOT_NOW = (7, 12, 13), 8

@@ -8,7 +8,7 @@ import unittest
 import zipfile
 
 import make_wheel
-from tests.test_bench import child
+from tests.benches import child
 
 
 class Wheel(unittest.TestCase):

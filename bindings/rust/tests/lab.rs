@@ -4,6 +4,7 @@ mod common;
 use common::{keepers, names, until, waiting, LONG, SHORT};
 use labrun::{Error, Held, Lab, LabOptions};
 use std::panic::{catch_unwind, AssertUnwindSafe};
+use std::sync::atomic::{AtomicBool, AtomicUsize, Ordering::SeqCst};
 use std::sync::mpsc::channel;
 use std::thread;
 use std::time::{Duration, Instant};
@@ -372,6 +373,57 @@ fn close() {
     let outlives = board.hold(&["scope"]).begin().unwrap();
     drop(board);
     assert!(!outlives.is_held());
+}
+
+extern "C" {
+    fn signal(number: i32, does: extern "C" fn(i32)) -> usize;
+    fn siginterrupt(number: i32, does: i32) -> i32;
+    fn pthread_self() -> usize;
+    fn pthread_kill(thread: usize, number: i32) -> i32;
+}
+const SIGUSR1: i32 = 10;
+static SIGNALS: AtomicUsize = AtomicUsize::new(0);
+extern "C" fn counts_it(_: i32) {
+    SIGNALS.fetch_add(1, SeqCst);
+}
+
+/// Signals wake whoever waits, and it waits on: no sooner than its time it is told, and it holds once it can.
+#[test]
+fn signals_to_one_that_waits() {
+    // SAFETY: it does nothing but count.
+    unsafe { (signal(SIGUSR1, counts_it), siginterrupt(SIGUSR1, 1)) };
+    let lab = lab();
+    let mut first = held(&lab, &["scope"]);
+    let (tell, told) = channel();
+    let (came, is_over) = (AtomicBool::new(false), AtomicBool::new(false));
+    thread::scope(|threads| {
+        let (lab, came, is_over, also) = (&lab, &came, &is_over, tell.clone());
+        threads.spawn(move || {
+            tell.send(unsafe { pthread_self() }).unwrap();
+            let _held = lab.hold(&["scope"]).begin().unwrap();
+            came.store(true, SeqCst);
+            until(|| is_over.load(SeqCst));
+        });
+        threads.spawn(move || {
+            also.send(unsafe { pthread_self() }).unwrap();
+            let begun = Instant::now();
+            assert!(matches!(lab.hold(&["scope"]).timeout(10 * SHORT).begin().err(), Some(Error::TimedOut(_))));
+            assert!(begun.elapsed() >= 10 * SHORT);
+            until(|| is_over.load(SeqCst));
+        });
+        let those: Vec<usize> = told.iter().take(2).collect();
+        until(|| lab.sessions().unwrap().len() == 3);
+        for _ in 0..100 {
+            // SAFETY: both threads are there until it is over.
+            those.iter().for_each(|it| assert_eq!(unsafe { pthread_kill(*it, SIGUSR1) }, 0));
+            thread::sleep(SHORT / 40);
+        }
+        until(|| lab.sessions().unwrap().len() == 2);
+        assert!(SIGNALS.load(SeqCst) > 0 && !came.load(SeqCst));
+        first.finish().unwrap();
+        until(|| came.load(SeqCst));
+        is_over.store(true, SeqCst);
+    });
 }
 
 #[test]

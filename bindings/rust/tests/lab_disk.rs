@@ -6,8 +6,8 @@ mod common;
 mod disk;
 
 use alone::alone;
-use common::{fails, held, holding, opened, options, Folder, LONG, SHORT};
-use disk::{DURABLE, HANGS, MADE, SYNCED, WRITTEN};
+use common::{fails, held, holding, opened, options, until, Folder, LONG, SHORT};
+use disk::{DURABLE, HANGS, MADE, SLOW, SYNCED, SYNCS, WRITTEN};
 use labrun::{LabOptions, SyncTo};
 use std::path::Path;
 use std::sync::atomic::Ordering::SeqCst;
@@ -125,5 +125,42 @@ fn each_write_that_fails() {
             // (three times a write and a sync)
             assert!((1..).take_while(|bad| !is_through(bad)).count() >= 6);
         }
+    });
+}
+
+/// A session that is dropped is one sync: that it let go goes with the next one, and is on the disk soon if there is none. (Now and then one
+/// more is due, on a busy machine.)
+#[test]
+fn one_sync_a_session() {
+    alone("one_sync_a_session", || {
+        let folder = Folder::new("one");
+        let lab = synced(&folder).open().unwrap();
+        SYNCS.store(0, SeqCst);
+        for _ in 0..40 {
+            drop(held(&lab, &["scope"]));
+        }
+        assert!((40..60).contains(&SYNCS.load(SeqCst)));
+        until(|| DURABLE.lock().unwrap().contains(" end 0000000000000028 let_go "));
+    });
+}
+
+/// Several threads share a sync, though each waits for its own line; and none waits for ever.
+#[test]
+fn threads_share_a_sync() {
+    alone("threads_share_a_sync", || {
+        let folder = Folder::new("share");
+        let names = ["a", "b", "c", "d", "e", "f", "g", "h"];
+        let lab = LabOptions::new(names).journal(folder.file(), SyncTo::Disk).open().unwrap();
+        SLOW.store(2, SeqCst);
+        SYNCS.store(0, SeqCst);
+        thread::scope(|threads| {
+            for name in names {
+                let lab = &lab;
+                threads.spawn(move || (0..10).for_each(|_| drop(held(lab, &[name]))));
+            }
+        });
+        assert!(SYNCS.load(SeqCst) < 60);
+        SLOW.store(0, SeqCst);
+        lab.close().unwrap();
     });
 }

@@ -173,6 +173,48 @@ fn withdrawn() {
     assert_eq!((report.finished, report.log("scale").len()), (true, 2));
 }
 
+/// The holder lets go just before another withdraws the session that waits: it holds by then, or was withdrawn before; never both.
+#[test]
+fn withdrawn_as_it_comes() {
+    let each = |session: &str| format!("{session}\nscale add 1\nend\n").repeat(100);
+    let script = format!("lab 2\njob a\n{}job b\n{}", each("session"), each("session patience 999999"));
+    let (bench, mut a, mut b) = two(script.as_bytes());
+    let mut withdrawn = 0;
+    for times in 0..100 {
+        let held = a.begin().unwrap();
+        thread::scope(|threads| {
+            let waits = threads.spawn(|| b.begin().map(|it| it.is_some()));
+            thread::sleep(Duration::from_micros(times * 20));
+            let before = times % 2 == 1 && bench.withdraw("b").unwrap();
+            drop(held);
+            let is_withdrawn = before || bench.withdraw("b").unwrap();
+            assert_eq!(waits.join().unwrap(), if is_withdrawn { Err(Error::Withdrawn) } else { Ok(true) });
+            withdrawn += usize::from(is_withdrawn);
+        });
+    }
+    let report = bench.close().unwrap();
+    assert_eq!((report.finished, report.log("scale").len()), (true, 200 - withdrawn));
+}
+
+/// Without a patience no count of turns ends the waiting: others have a thousand sessions meanwhile.
+#[test]
+fn others_take_turns() {
+    let others = "session\nlamp read\nend\n".repeat(1000);
+    let script = format!("lab 2\njob a\nsession\nscale add 1\nend\njob b\nsession\nscale read\nend\njob c\n{others}");
+    let (bench, mut desks) = Bench::from_text(script.as_bytes()).unwrap();
+    let (mut c, mut b, mut a) = (desks.pop().unwrap(), desks.pop().unwrap(), desks.pop().unwrap());
+    let held = a.begin().unwrap();
+    thread::scope(|threads| {
+        let waits = threads.spawn(|| b.begin().map(|it| it.map(|it| it.number())));
+        thread::sleep(SHORT);
+        while c.begin().unwrap().is_some() {}
+        assert!(!waits.is_finished());
+        drop(held);
+        assert_eq!(waits.join().unwrap(), Ok(Some(1)));
+    });
+    assert!(bench.close().unwrap().finished);
+}
+
 extern "C" {
     fn fork() -> i32;
     fn waitpid(process: i32, status: *mut i32, options: i32) -> i32;

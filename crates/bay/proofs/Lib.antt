@@ -11,6 +11,7 @@ pub mod Alike
 pub mod Stops
 pub mod HoldsOn
 pub mod Calls
+pub mod EveryCall
 pub mod Logged
 pub mod LoggedCalls
 pub mod Kept

@@ -1,17 +1,18 @@
 -- Why no bay comes back.
-use Rattle.std.proofs.Common.{◌≡◌, ℕ, ◌+◌, ◌<◌, Bool, true, false, ◌&&◌, nat_eq, if◌then◌else◌, List, [], ◌∷◌, ◌++◌, length, length-append, get_or, Some, Result, Ok, Err, IfErr, refl, sym, ap, ◌∙◌, subst, inl, inr, arith}
-use Rattle.std.specs.Prelude.{AllPairs}
+use Rattle.std.proofs.Common.{◌≡◌, ◌⊎◌, ℕ, ◌+◌, ◌<◌, Bool, true, false, ◌&&◌, ◌||◌, nat_le, nat_eq, if◌then◌else◌, List, [], ◌∷◌, ◌++◌, length, length-append, get_or, Some, Result, Ok, Err, IfErr, refl, sym, ap, ◌∙◌, subst, inl, inr, arith}
+use Rattle.std.specs.Prelude.{All, AllPairs}
 use Rattle.std.specs.Result.{IsErrAnd}
 use Rattle.std.specs.List.{count_by}
-use Rattle.std.proofs.lemmas.Bool.{false≢true, cases_Bool}
+use Rattle.std.proofs.lemmas.Bool.{false≢true, cases_Bool, leb-true}
 use Rattle.std.proofs.lemmas.List.Sums.{sum_by-cons}
 use Rattle.std.proofs.lemmas.List.Kept.{AllPairs-cons}
 use Rattle.std.proofs.lemmas.List.Quantifiers.{all_pairs_push}
 use Rattle.bay_book.specs.declared.ask.Ask.{Ask}
-use Rattle.bay_book.specs.Asks.{ask_at, no_ask, is_holding, holds_class}
+use Rattle.bay_book.specs.Asks.{ask_at, no_ask, is_holding, is_waiting, holds_class}
 use Rattle.bay_book.specs.Finding.{IsInUse}
 use Rattle.bay_book.specs.Moments.{common}
 use Rattle.bay_book.specs.Books.{BookView, IsSound}
+use Rattle.bay_book.specs.Restoring.{is_against, MayNotBeRestored}
 use Rattle.bay_log.specs.declared.alive.Holder.{Holder}
 use Rattle.bay_log.specs.declared.line.Line as line
 use Rattle.bay_log.specs.declared.reading.Found.{Found}
@@ -29,7 +30,7 @@ use Rattle.bay.specs.Cores.{IsFreeClass}
 use Rattle.bay.specs.Pages.{entry_of}
 use Rattle.bay.specs.Restoring.{holder_at, AreLow, IsNextTo, AreRestored, IsOf}
 use Rattle.bay.specs.Safe.{HasPlace}
-use Rattle.bay.specs.Refusals.{IsUsed, IsOldToken, IsWhyNotOne, AnotherHolds, TooManyHold, HasNoTokenOfItsOwn, HoldsAndMayNot, IsWhyNotRestored, IsWhyNotBack}
+use Rattle.bay.specs.Refusals.{IsUsed, IsOldToken, MayNotHold, IsWhyNotOne, AnotherHolds, TooManyHold, HasNoTokenOfItsOwn, HoldsAndMayNot, IsWhyNotRestored, IsWhyNotBack}
 use Rattle.bay.proofs.Members.{has_at, append_cases, append_second, cases_lt}
 use Rattle.bay.proofs.SafeLines.{first_below, rises_tail}
 use Rattle.bay.proofs.Restored.{holder_entry, test_is}
@@ -37,8 +38,28 @@ use Rattle.bay.proofs.Restored.{holder_entry, test_is}
 pub used_by : (asks : List Ask) (used needs : ℕ) → IsInUse asks used → common needs used ≡ true → IsUsed asks needs
 used_by asks used needs u h = let j = u.why needs h in (ask_at asks j.0, has_at asks j.0 no_ask j.1.inside, j.1.holds, j.1.has)
 
-pub old_at : (asks : List Ask) (place token : ℕ) → place < length asks → (ask_at asks place).token ≡ token → IsOldToken asks token
-old_at asks place token inside is = inr (ask_at asks place, has_at asks place no_ask inside, is)
+either_true : (a b : Bool) → (a || b) ≡ true → (a ≡ true) ⊎ (b ≡ true)
+either_true true b h = inl refl
+either_true false b h = inr h
+
+-- whoever speaks against one whose number is larger, and doesn't wait, has its token
+has_its_token : (number token : ℕ) (a : Ask) → a.number < number → is_waiting a ≡ false → is_against number token a ≡ true → a.token ≡ token
+has_its_token number token a low not h = elim (either_true (nat_le number a.number || is_waiting a) (nat_eq a.token token) h) [
+  | inl first ↦ elim (either_true (nat_le number a.number) (is_waiting a) first) [
+    | inl no_less ↦ (let le = leb-true number a.number no_less in absurd (omega (arith, le, low)))
+    | inr waits ↦ absurd (false≢true (sym not ∙ waits))
+  ]
+  | inr same ↦ test_is a.token token same
+]
+
+-- where nobody waits, and all have smaller numbers, one that may not be restored has the last of all numbers, or no token of its own
+pub may_not_hold : (classes : List Class) (asks : List Ask) (h : Holder) → AreLow h.ask asks → All (λ (a : Ask). is_waiting a ≡ false) asks
+    → MayNotBeRestored asks h.ask h.entry.token → (h.ask ≡ 18446744073709551615) ⊎ MayNotHold classes asks h
+may_not_hold classes asks h low none (inl last) = inl last
+may_not_hold classes asks h low none (inr (inl no_token)) = inr (inr (inr (inr (inr (inl no_token)))))
+may_not_hold classes asks h low none (inr (inr (j, inside, against))) =
+    let a = ask_at asks j in let has = has_at asks j no_ask inside in
+    inr (inr (inr (inr (inr (inr (a, has, has_its_token h.ask h.entry.token a (low a has) (none j no_ask inside) against))))))
 
 -- ---- the numbers of those that hold places of a class
 

@@ -8,10 +8,10 @@ use Rattle.bay_book.specs.declared.ask.Ask.{Ask}
 use Rattle.bay_book.specs.declared.ask.Mark.TheVariants.{At}
 use Rattle.bay_book.specs.declared.ask.Stage.{Stage}
 use Rattle.bay_book.specs.declared.ask.Stage.TheVariants.{Waits, Holds, Over}
-use Rattle.bay_book.specs.Asks.{no_ask, ask_at, is_holding, is_over, is_waiting, restored, holds_class}
+use Rattle.bay_book.specs.Asks.{no_ask, is_holding, is_over, is_waiting, restored, holds_class}
 use Rattle.bay_book.specs.Moments.{common}
 use Rattle.bay_book.specs.Finding.{IsInUse}
-use Rattle.bay_book.specs.Books.{BookView, restore, skip}
+use Rattle.bay_book.specs.Books.{BookView, restore}
 use Rattle.bay_log.specs.declared.alive.Holder.{Holder}
 use Rattle.bay_log.specs.declared.line.Entry.{Entry}
 use Rattle.bay_log.specs.declared.line.Line.{Line}
@@ -21,7 +21,7 @@ use Rattle.bay.specs.declared.classes.Class.{Class}
 use Rattle.bay.specs.Members.{Has}
 use Rattle.bay.specs.Classes.{class_at, is_within}
 use Rattle.bay.specs.Cores.{IsFreeClass}
-use Rattle.bay.specs.Restoring.{holder_at, IsUnused, IsNewToken, AreLow, MayHold, IsNextTo, AreAlone, Restores, IsRestored, AreRestored, IsThere, AreDone}
+use Rattle.bay.specs.Restoring.{holder_at, IsUnused, AreLow, MayHold, IsNextTo, AreAlone, Restores, IsRestored, AreRestored, IsThere, AreDone}
 use Rattle.bay.proofs.Members.{has_at, place_of, append_cases, append_first, append_second}
 use Rattle.bay.proofs.Sets.{common_comm}
 
@@ -193,19 +193,3 @@ nobody_waits classes book alone k d inside =
     let a = get_or book.asks k d in
     let t = alone (nobody 0 0) refl in
     stage_waits a.stage (λ waits. (t.in_line a (has_at book.asks k d inside) waits).1)
-
-pub all_low : (n : ℕ) (asks : List Ask) → AreLow n asks → All (λ (a : Ask). a.number < n) asks
-all_low n asks low k d inside = low (get_or asks k d) (has_at asks k d inside)
-
-pub all_new : (token : ℕ) (asks : List Ask) → IsNewToken asks token → All (λ (a : Ask). a.token ≢ token) asks
-all_new token asks is k d inside = is.new (get_or asks k d) (has_at asks k d inside)
-
-pub new_by : (token : ℕ) (asks : List Ask) → 1 ≤ token → ((k : ℕ) → k < length asks → (ask_at asks k).token ≢ token) → IsNewToken asks token
-new_by token asks some new = record {
-  some = some;
-  new = λ b h. let p = place_of asks b no_ask h in subst (λ (c : Ask). c.token ≢ token) p.2 (new p.0 p.1);
-}
-
-pub skipped_alone : (classes : List Class) (book : BookView) (next granted : ℕ) → AreAlone classes book → AreAlone classes (skip book next granted)
-skipped_alone classes book next granted alone line none =
-    let t = alone line none in record { in_line = t.in_line; by_book = t.by_book; apart = t.apart; few = t.few; within = t.within }

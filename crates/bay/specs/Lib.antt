@@ -13,6 +13,7 @@ pub mod Pages
 pub mod BayViews
 pub mod Turning
 pub mod Bays
+pub mod EveryCall
 pub mod TurnLaws
 pub mod Restoring
 pub mod LineLaws

@@ -1,5 +1,5 @@
 -- For readers: those that held by the log hold again.
-use Rattle.std.specs.Prelude.{◌≡◌, ◌≢◌, ℕ, ◌+◌, ◌<◌, ◌≤◌, max, min, true, false, List, [], ◌∷◌, All, slice_index_or, length, Option, Some, None}
+use Rattle.std.specs.Prelude.{◌≡◌, ℕ, ◌+◌, ◌<◌, ◌≤◌, max, min, true, false, List, [], ◌∷◌, All, slice_index_or, length, Option, Some, None}
 use Rattle.bay_line.specs.Lines.{LineView, nobody}
 use Rattle.bay_book.specs.declared.ask.Ask.{Ask}
 use Rattle.bay_book.specs.declared.ask.Heard.TheVariants.{Holds as HeardHolds}
@@ -31,17 +31,11 @@ holder_at holders k = slice_index_or holders k no_holder
 abbrev pub IsUnused : List Ask → ℕ → Type 0
 IsUnused asks needs = (b : Ask) → Has asks b → is_holding b.stage ≡ true → common needs b.needs ≡ false
 
--- it is a token, and nobody has it
-pub record IsNewToken (asks : List Ask) (token : ℕ) : Type 0 where
-  pub some : 1 ≤ token
-  pub new : (b : Ask) → Has asks b → b.token ≢ token
-
--- this one may hold, too: nobody holds one of its instruments, its class may use them, and has a place left; and nobody has its token
+-- This one may hold, too: nobody holds one of its instruments, its class may use them, and has a place left. (The book looks at its number and its token)
 pub record MayHold (classes : List Class) (asks : List Ask) (h : Holder) : Type 0 where
   pub within : is_within (class_at classes h.entry.class).uses h.entry.needs ≡ true
   pub unused : IsUnused asks h.entry.needs
   pub place : IsFreeClass classes asks h.entry.class
-  pub token : IsNewToken asks h.entry.token
 
 -- of the first n, the one with the least number that isn't below this
 abbrev pub IsNextTo : ℕ → List Holder → ℕ → Option ℕ → Type 0

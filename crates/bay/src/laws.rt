@@ -1,5 +1,6 @@
 //! What holds of every bay. Each law is the contract of a function that does nothing.
 ghost use Rattle.bay.specs.Bays.{ToldIsKept, ToldComesBack, LetGoIsKept, PastStaysPast, TokensOutlive, StaysWhole, ComesBack};
+ghost use Rattle.bay.specs.EveryCall.{EveryCallHoldsOn};
 ghost use Rattle.bay.specs.Keepers.{NobodyWaitsForNobody};
 ghost use Rattle.bay.specs.LineLaws.{CallsAreWaited, NobodyWaitsForNothing, NumbersRise, TokensRise};
 ghost use Rattle.bay.specs.HeardLaws.{TellsOnce};
@@ -17,9 +18,11 @@ pub fn is_well_held(bay: &Bay)
     bay.look();
 }
 
-/// Whoever holds goes on to hold, whatever others do and whatever time it is, until its own time is over.
+/// Whoever holds goes on to hold, whatever others do and whatever time it is, until its own time is over. So it is over every call of the bay, but those that
+/// end what it holds.
 pub fn who_holds_holds_on()
-    ensures { WhoHoldsHoldsOn }
+    ensures others { WhoHoldsHoldsOn }
+    ensures calls { EveryCallHoldsOn }
 {}
 
 /// Whoever waits goes on to wait, or lapses, or comes to hold.

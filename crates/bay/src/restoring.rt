@@ -3,13 +3,13 @@ ghost use Rattle.std.specs.Prelude.{◌≡◌, ◌<◌, ◌≤◌, ◌↔◌, �
 ghost use Rattle.bay_log.specs.Alive.{alive};
 ghost use Rattle.bay_log.specs.Holders.{AreHolders};
 ghost use Rattle.bay.specs.Cores.{IsFreeClass};
-ghost use Rattle.bay.specs.Restoring.{holder_at, IsUnused, IsNewToken, MayHold, IsNextTo, IsNextHolder, AreAlone, AreLow};
+ghost use Rattle.bay.specs.Restoring.{holder_at, IsUnused, MayHold, IsNextTo, IsNextHolder, AreAlone, AreLow};
 ghost use Rattle.bay.specs.Restoring.{Restores, AreRestored, AreDone, after_line, token_of, IsOf};
-ghost use Rattle.bay.specs.Refusals.{IsUsed, IsOldToken, MayNotHold, IsWhyNotOne, IsWhyNotRestored};
+ghost use Rattle.bay.specs.Refusals.{IsUsed, MayNotHold, IsWhyNotOne, IsWhyNotRestored};
 
 use crate::classes::{Class, is_within};
 use crate::free::is_free;
-use bay_book::Book;
+use bay_book::{Book, NotRestored};
 use bay_log::{Holder, Line, holders};
 use std::alloc::Global;
 
@@ -39,23 +39,7 @@ fn is_unused(book: &Book, needs: u64) -> bool
     needs & book.in_use() == 0
 }
 
-/// Whether it is a token, and nobody has it.
-fn is_new_token(book: &Book, token: u64) -> bool
-    ensures new { IsTrue result → IsNewToken book.now.asks token }
-    ensures old { result ≡ false → IsOldToken book.now.asks token }
-{
-    if token == 0 {
-        return false;
-    }
-    for place in 0..book.len() {
-        if book.ask_at(place).token == token {
-            return false;
-        }
-    }
-    true
-}
-
-/// Whether this one may hold, too.
+/// Whether this one may hold, too, but for its number and its token: `Book::restore` looks at those.
 fn may_hold(classes: &[Class], book: &Book, holder: Holder) -> bool
     requires { length classes.now ≤ 32 }
     ensures may { IsTrue result → MayHold classes.now book.now.asks holder }
@@ -69,9 +53,6 @@ fn may_hold(classes: &[Class], book: &Book, holder: Holder) -> bool
         return false;
     }
     if !is_unused(book, holder.entry.needs) {
-        return false;
-    }
-    if !is_new_token(book, holder.entry.token) {
         return false;
     }
     is_free(classes, book, class)
@@ -123,7 +104,7 @@ fn restore_one(
     ensures alone { OnOk result (AreAlone classes.now book.new) }
     ensures why { IfErr result (λ why. IsWhyNotOne classes.now book.old.asks holder why) }
 {
-    if holder.ask == u64::MAX || !may_hold(classes, book, holder) {
+    if !may_hold(classes, book, holder) {
         return Err(NotBack::MayNot(holder.ask));
     }
     let entry = holder.entry;
@@ -139,7 +120,8 @@ fn restore_one(
         entry.token,
     ) {
         Ok(()) => Ok(()),
-        Err(_) => Err(NotBack::NoMemory),
+        Err(NotRestored::MayNot) => Err(NotBack::MayNot(holder.ask)),
+        Err(NotRestored::NoMemory) => Err(NotBack::NoMemory),
     }
 }
 
@@ -158,6 +140,7 @@ pub(crate) fn restore_all(
     ensures alone { OnOk result (AreAlone classes.now book.new) }
     ensures each { OnOk result (AreRestored lines.now moment book.old.durable book.new) }
     ensures all { OnOk result (AreDone lines.now book.new) }
+    ensures more { OnOk result ((book.old.next ≤ book.new.next) × (book.old.granted ≤ book.new.granted)) }
     ensures why { IfErr result (λ why. IsWhyNotRestored classes.now lines.now why) }
 {
     let _ = lines.len();
@@ -245,9 +228,8 @@ pub(crate) fn restored_book(
     let Ok(found) = holders(alloc, lines) else {
         return Err(NotBack::NoMemory);
     };
-    let mut book = Book::nobody(alloc);
+    let mut book = Book::behind(alloc, after_lines(lines), largest_token(lines));
     book.reach(position);
     restore_all(classes, &mut book, lines, &found, now)?;
-    book.skip(after_lines(lines), largest_token(lines));
     Ok(book)
 }

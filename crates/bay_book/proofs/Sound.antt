@@ -1,7 +1,7 @@
 -- Each call leaves a book as sound as it was.
-use Rattle.std.proofs.Common.{◌≡◌, ◌≢◌, ℕ, ◌+◌, ◌<◌, ◌≤◌, max, Bool, true, false, not, List, length, set, get_or, Option, None, Some, refl, sym, ap, ◌∙◌, subst, inl, inr, arith, length-set}
+use Rattle.std.proofs.Common.{◌≡◌, ◌≢◌, ℕ, ◌+◌, ◌<◌, ◌≤◌, max, Bool, true, false, ◌||◌, not, nat_le, nat_eq, List, length, set, get_or, Option, None, Some, refl, sym, ap, ◌∙◌, subst, inl, inr, arith, length-set}
 use Rattle.std.specs.Prelude.{All, AllPairs}
-use Rattle.std.proofs.lemmas.Bool.{cases_eq, false≢true, leb-true, le-leb}
+use Rattle.std.proofs.lemmas.Bool.{cases_eq, eq-eqb, false≢true, leb-false, leb-true, le-leb}
 use Rattle.std.proofs.lemmas.List.{get_or-set_same, get_or-set_other, get_or_default, get_or-map, length-map}
 use Rattle.std.proofs.lemmas.List.Elements.{All-set, All-push, All-map, All-filter}
 use Rattle.std.proofs.lemmas.List.Quantifiers.{all_pairs_push}
@@ -18,7 +18,8 @@ use Rattle.bay_book.specs.declared.ask.Stage.{Stage}
 use Rattle.bay_book.specs.declared.ask.Stage.TheVariants.{Waits, Holds, Over}
 use Rattle.bay_book.specs.Asks.{no_ask, ask_at, is_owed, is_written, kept_mark, end_mark, given_mark, turned_mark, asker, holding, over, gone_since, back_again, given, turned, heard_of, hearing, is_done, IsSoundAt, IsSoundAsk, is_waiting, restored}
 use Rattle.bay_book.specs.Telling.{to_tell, to_tell_at, if_may}
-use Rattle.bay_book.specs.Books.{BookView, IsSound, with_ask, add, give, turn, reach, purge, restore, skip, hold}
+use Rattle.bay_book.specs.Restoring.{is_against, MayBeRestored}
+use Rattle.bay_book.specs.Books.{BookView, IsSound, with_ask, add, give, turn, reach, purge, restore, hold}
 use Rattle.bay_book.proofs.Counts.{number_of, count_set, count_push, count_kept, one_less, waiting_give, waiting_turn, nobody_waits}
 
 -- ---- one ask
@@ -241,34 +242,45 @@ sound_add x number class owner deadline limit now new h =
       room = let one = count_push is_waiting x.asks a in omega (arith, one, h.room, new);
     }
 
-pub sound_restore : (x : BookView) (number class owner : ℕ) (limit : Option ℕ) (needs asked since gone token : ℕ)
-    → All (λ (a : Ask). a.number < number) x.asks → All (λ (a : Ask). is_waiting a ≡ false) x.asks → 1 ≤ token
-    → All (λ (a : Ask). a.token ≢ token) x.asks → IsSound x → IsSound (restore x number class owner limit needs asked since gone token)
-sound_restore x number class owner limit needs asked since gone token rises none some new h =
+-- an ask that doesn't speak against one with this number and this token
+record NotAgainst (number token : ℕ) (a : Ask) : Type 0 where
+  lower : a.number < number
+  waits_not : is_waiting a ≡ false
+  differs : a.token ≢ token
+
+neither : (a b : Bool) → (a || b) ≡ false → (a ≡ false) × (b ≡ false)
+neither false b h = (refl, h)
+neither true b h = absurd (false≢true (sym h))
+
+not_against : (number token : ℕ) (a : Ask) → is_against number token a ≡ false → NotAgainst number token a
+not_against number token a h =
+    let first = neither (nat_le number a.number || is_waiting a) (nat_eq a.token token) h in
+    let second = neither (nat_le number a.number) (is_waiting a) first.0 in
+    record {
+      lower = leb-false number a.number second.0;
+      waits_not = second.1;
+      differs = λ same. false≢true (sym first.1 ∙ eq-eqb a.token token same);
+    }
+
+pub sound_restore : (x : BookView) (number class owner : ℕ) (limit : Option ℕ) (needs asked since gone token : ℕ) → MayBeRestored x.asks number token
+    → IsSound x → IsSound (restore x number class owner limit needs asked since gone token)
+sound_restore x number class owner limit needs asked since gone token may h =
+    let others : (k : ℕ) (d : Ask) → k < length x.asks → NotAgainst number token (get_or x.asks k d) = λ k d inside.
+    subst (NotAgainst number token) (get_or_default x.asks k no_ask d inside) (not_against number token (ask_at x.asks k) (may.nobody k inside)) in
     let a : Ask = restored number class owner limit needs asked since gone token x.durable in
     let next = max (max x.next (number + 1)) token in
     record {
-      rises = all_pairs_push (λ (p q : Ask). p.number < q.number) x.asks a h.rises rises;
+      rises = all_pairs_push (λ (p q : Ask). p.number < q.number) x.asks a h.rises (λ k d inside. (others k d inside).lower);
       below = All-push (λ (b : Ask). b.number < next) x.asks a (λ k d inside. let b = h.below k d inside in omega (arith, b)) (omega arith);
       each = All-push (IsSoundAsk x.durable) x.asks a h.each
-          (λ e. not_end e, λ e. le-leb x.durable x.durable (omega arith), refl, some);
-      tokens = all_pairs_push (λ (p q : Ask). p.token ≡ q.token → p.token ≡ 0) x.asks a h.tokens (λ k d inside. λ e. absurd (new k d inside e));
+          (λ e. not_end e, λ e. le-leb x.durable x.durable (omega arith), refl, may.some);
+      tokens = all_pairs_push (λ (p q : Ask). p.token ≡ q.token → p.token ≡ 0) x.asks a h.tokens (λ k d inside. λ e. absurd ((others k d inside).differs e));
       within = All-push (λ (b : Ask). b.token ≤ max x.granted token) x.asks a (λ k d inside. let b = h.within k d inside in omega (arith, b)) (omega arith);
-      room = let one = count_push is_waiting x.asks a in let zero_ = nobody_waits x.asks none in omega (arith, one, zero_, h.room);
+      room = let one = count_push is_waiting x.asks a in let zero_ = nobody_waits x.asks (λ k d inside. (others k d inside).waits_not) in omega (arith, one, zero_, h.room);
     }
   where
     not_end : HeardHolds ≡ HeardEnd → ⊥
     not_end e = cc
-
-pub sound_skip : (x : BookView) (next granted : ℕ) → All (λ (a : Ask). is_waiting a ≡ false) x.asks → IsSound x → IsSound (skip x next granted)
-sound_skip x next granted none h = record {
-  rises = h.rises;
-  below = λ k d inside. let b = h.below k d inside in omega (arith, b);
-  each = h.each;
-  tokens = h.tokens;
-  within = λ k d inside. let b = h.within k d inside in omega (arith, b);
-  room = let zero_ = nobody_waits x.asks none in omega (arith, zero_, h.room);
-}
 
 pub sound_give : (x : BookView) (at : ℕ) → IsSound x → IsSound (give x at)
 sound_give x at h = record {

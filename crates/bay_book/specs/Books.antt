@@ -27,6 +27,11 @@ pub record IsSound (x : BookView) : Type 0 where
 abbrev pub nobody : BookView
 nobody = record { asks = []; next = 0; granted = 0; durable = 0 }
 
+-- Nobody is in it. All numbers below this one were given, and all tokens up to that one. (There are no more tokens than numbers, so as many numbers were
+-- given, too.)
+abbrev pub behind : ℕ → ℕ → BookView
+behind next granted = record { asks = []; next = max next granted; granted = granted; durable = 0 }
+
 -- these are the asks now
 abbrev pub with_asks : BookView → List Ask → BookView
 with_asks x asks = record { asks = asks; next = x.next; granted = x.granted; durable = x.durable }
@@ -52,10 +57,6 @@ restore x number class owner limit needs asked since gone token = record {
   granted = max x.granted token;
   durable = x.durable;
 }
-
--- All numbers below this one were given, and all tokens up to that one. (There are no more tokens than numbers, so as many numbers were given, too.)
-abbrev pub skip : BookView → ℕ → ℕ → BookView
-skip x next granted = record { asks = x.asks; next = max (max x.next next) granted; granted = max x.granted granted; durable = x.durable }
 
 -- one holds these instruments, from this moment on, with the next token
 abbrev pub hold : BookView → ℕ → ℕ → ℕ → Bool → BookView

@@ -3,5 +3,6 @@ pub mod Moments
 pub mod Finding
 pub mod Telling
 pub mod Books
+pub mod Restoring
 pub mod Runs
 pub mod Holding

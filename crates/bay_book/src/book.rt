@@ -1,11 +1,12 @@
 //! The book.
-ghost use Rattle.std.specs.Prelude.{◌≡◌, ◌≢◌, ◌<◌, ◌≤◌, length, OnOk, OnErr, Some, false, All};
+ghost use Rattle.std.specs.Prelude.{◌≡◌, ◌<◌, ◌≤◌, length, OnOk, OnErr, IfErr, Some, false};
 ghost use Rattle.std.specs.List.{count_by};
-ghost use Rattle.bay_book.specs.Asks.{ask_at, is_over, is_waiting, holds_class};
+ghost use Rattle.bay_book.specs.Asks.{ask_at, is_over, holds_class};
 ghost use Rattle.bay_book.specs.Moments.{is_gone_too_long, is_over_limit, due_at, limit_due_at};
 ghost use Rattle.bay_book.specs.Finding.{IsPlaceOf, IsFirst, IsFirstLate, IsLeast, IsInUse};
 ghost use Rattle.bay_book.specs.Telling.{to_tell, IsNextToTell};
-ghost use Rattle.bay_book.specs.Books.{IsSound, nobody, add, restore, skip, hold, end, set_gone, is_back, give, give_one, turn, reach, heard, purge};
+ghost use Rattle.bay_book.specs.Books.{IsSound, nobody, behind, add, restore, hold, end, set_gone, is_back, give, give_one, turn, reach, heard, purge};
+ghost use Rattle.bay_book.specs.Restoring.{MayBeRestored, IsWhyNotRestored};
 
 use crate::ask::{Ask, End, Outcome, Stage};
 use crate::finding::{
@@ -15,6 +16,7 @@ use crate::making::{
     asker, back_again, give_all, given, gone_since, hearing, holding, is_done, over, restored,
     turn_all,
 };
+use crate::restoring::{NotRestored, may_be_restored};
 use crate::telling::next_to_tell;
 use std::alloc::{AllocError, Global};
 use std::marker::Model;
@@ -47,6 +49,18 @@ impl Book {
             asks: Vec::new(alloc),
             next: 0,
             granted: 0,
+            durable: 0,
+        }
+    }
+
+    /// A book in which nobody is. All numbers below this one were given, and all tokens up to that one; so as many numbers, since there are no more tokens.
+    pub fn behind(alloc: Global, next: u64, granted: u64) -> Book
+        ensures { result ≡ behind next granted }
+    {
+        Book {
+            asks: Vec::new(alloc),
+            next: next.max(granted),
+            granted,
             durable: 0,
         }
     }
@@ -122,8 +136,8 @@ impl Book {
         Ok(())
     }
 
-    /// An ask holds again, as the journal says, and as it was told; its client isn't there since this moment. Its number is larger, and nobody
-    /// waits. It takes memory.
+    /// An ask holds again, as the journal says, and as it was told; its client isn't there since this moment. It may not if somebody waits, if an ask in the
+    /// book has no smaller number, or if its token is no new one. It takes memory.
     pub fn restore(
         &mut self,
         number: u64,
@@ -135,16 +149,16 @@ impl Book {
         since: u64,
         gone: u64,
         token: u64,
-    ) -> Result<(), AllocError>
-        requires rises { All (λ a. a.number < number) self.old.asks }
-        requires room { number < 18446744073709551615 }
-        requires nobody_waits { All (λ a. is_waiting a ≡ false) self.old.asks }
-        requires some { 1 ≤ token }
-        requires new { All (λ a. a.token ≢ token) self.old.asks }
+    ) -> Result<(), NotRestored>
         ensures restores { OnOk result (self.new ≡ restore self.old number class owner limit needs asked since gone token) }
+        ensures may { OnOk result (MayBeRestored self.old.asks number token) }
         ensures refused { OnErr result (self.new ≡ self.old) }
+        ensures why { IfErr result (λ why. IsWhyNotRestored self.old.asks number token why) }
     {
-        self.asks.push(restored(
+        if !may_be_restored(&self.asks, number, token) {
+            return Err(NotRestored::MayNot);
+        }
+        let ask = restored(
             number,
             class,
             owner,
@@ -155,19 +169,13 @@ impl Book {
             gone,
             token,
             self.durable,
-        ))?;
+        );
+        let Ok(()) = self.asks.push(ask) else {
+            return Err(NotRestored::NoMemory);
+        };
         self.next = self.next.max(number + 1).max(token);
         self.granted = self.granted.max(token);
         Ok(())
-    }
-
-    /// All numbers below this one were given, and all tokens up to that one. Nobody waits.
-    pub fn skip(&mut self, next: u64, granted: u64)
-        requires { All (λ a. is_waiting a ≡ false) self.old.asks }
-        ensures { self.new ≡ skip self.old next granted }
-    {
-        self.next = self.next.max(next).max(granted);
-        self.granted = self.granted.max(granted);
     }
 
     /// It holds these instruments from this moment on, with the next token: there always is one, since there are no more than numbers. A line is owed, if the

@@ -1,6 +1,6 @@
 //! The book.
 use crate::rows::check;
-use bay_book::{Book, End, Outcome, Stage};
+use bay_book::{Book, End, NotRestored, Outcome, Stage};
 use std::alloc::Global;
 use std::process::Abort;
 use std::rt::HostRuntime;
@@ -101,10 +101,20 @@ fn let_go(rt: &impl Abort, book: &mut Book) {
     check(rt, "it is the other", book.place_of(5), Some(0));
 }
 
+/// This one doesn't hold again.
+fn refuse(rt: &impl Abort, book: &mut Book, row: &str, number: u64, token: u64) {
+    let many = book.len();
+    let came = book.restore(number, 0, 3, None, 16, 1, 2, 4, token);
+    check(rt, row, came, Err(NotRestored::MayNot));
+    check(rt, row, book.len(), many);
+}
+
 /// One holds again, as a journal says, with token 18. Numbers below 12 were given, and 20 tokens, so as many numbers. Whoever is let in next has token 21.
+/// While it waits nobody holds again.
 fn restore(rt: &impl Abort, alloc: Global) {
-    let mut book = Book::nobody(alloc);
-    book.skip(12, 20);
+    let mut book = Book::behind(alloc, 12, 20);
+    refuse(rt, &mut book, "no token", 12, 0);
+    refuse(rt, &mut book, "the last of all numbers", u64::MAX, 18);
     check(
         rt,
         "it is back",
@@ -114,9 +124,12 @@ fn restore(rt: &impl Abort, alloc: Global) {
     check(rt, "it holds", book.in_use(), 8);
     check(rt, "next", book.next(), 20);
     check(rt, "tokens", book.granted(), 20);
+    refuse(rt, &mut book, "its number", 12, 19);
+    refuse(rt, &mut book, "its token", 13, 18);
     tell(rt, &mut book, None);
     assert!(rt; book.next() <= 20);
     check(rt, "asks", book.add(20, 0, 5, None, None, 6), Ok(()));
+    refuse(rt, &mut book, "somebody waits", 21, 19);
     hold(rt, &mut book, 1, 1, 6);
     token(rt, &book, 0, 18);
     token(rt, &book, 1, 21);

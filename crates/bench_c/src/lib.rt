@@ -8,7 +8,7 @@ ghost use Rattle.bench_calls.specs.Closing.{Closes, Frees};
 ghost use Rattle.bench_calls.specs.Coming.{Comes, TellsMore};
 ghost use Rattle.bench_calls.specs.Openings.{IsFresh};
 ghost use Rattle.bench_calls.specs.Calls.{Opens, InLab, InRoom, TellsScript};
-ghost use Rattle.bench_calls.specs.Calls.{Turns, Serves, ServesRest, SettlesAll, GoesToHold, DoesNext, LetsGo, GivesUp, GoesToEnd, SetsOvertakes};
+ghost use Rattle.bench_calls.specs.Calls.{SettlesAll, DoesNext, LetsGo, GivesUp, GoesToEnd, SetsOvertakes};
 ghost use Rattle.bench_calls.specs.Calls.{TellsSize, TellsSession, TellsPlanned, TellsState, TellsKeepers, TellsOutside, TellsJobName, TellsInstrumentName};
 
 mod bytes;
@@ -203,59 +203,6 @@ pub extern "C" fn lab_settle(
     ensures { InLab (InRoom (SettlesAll waiting)) bench.old.slot.held bench.new.slot.held came.old came.new result }
 {
     bench_calls::settle(alloc, bench, waiting, came)
-}
-
-/// One turn of a job.
-#[unsafe(no_mangle)]
-pub extern "C" fn lab_turn(
-    alloc: Global,
-    bench: &mut Handle,
-    job: u32,
-    turned: &mut LabTurned,
-) -> u32
-    ensures { InLab (InRoom (Turns job)) bench.old.slot.held bench.new.slot.held turned.old turned.new result }
-{
-    bench_calls::turn(alloc, bench, job, turned)
-}
-
-/// Gives and asks for a job, and ends or starts a meal that it owes: nothing of its sessions.
-#[unsafe(no_mangle)]
-pub extern "C" fn lab_serve(
-    alloc: Global,
-    bench: &mut Handle,
-    job: u32,
-    turned: &mut LabTurned,
-) -> u32
-    ensures { InLab (InRoom (Serves job)) bench.old.slot.held bench.new.slot.held turned.old turned.new result }
-{
-    bench_calls::serve(alloc, bench, job, turned)
-}
-
-/// Serves each job but this one.
-#[unsafe(no_mangle)]
-pub extern "C" fn lab_serve_others(
-    alloc: Global,
-    bench: &mut Handle,
-    job: u32,
-    turned: &mut LabTurned,
-) -> u32
-    ensures { InLab (InRoom (ServesRest job)) bench.old.slot.held bench.new.slot.held turned.old turned.new result }
-{
-    bench_calls::serve_others(alloc, bench, job, turned)
-}
-
-/// Settles for one job alone, at most this many times, until it holds.
-#[unsafe(no_mangle)]
-pub extern "C" fn lab_begin(
-    alloc: Global,
-    bench: &mut Handle,
-    job: u32,
-    turns: u32,
-    turned: &mut LabTurned,
-) -> u32
-    ensures { InLab (InRoom (GoesToHold turns job)) bench.old.slot.held bench.new.slot.held turned.old turned.new result }
-{
-    bench_calls::begin(alloc, bench, job, turns, turned)
 }
 
 /// Does the next command of the session that a job holds, and tells its entry.

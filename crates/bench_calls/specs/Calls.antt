@@ -1,5 +1,5 @@
 -- For readers: what each call on the lab of one handle leaves in the handle and in the caller's memory, and its status.
-use Rattle.std.specs.Prelude.{◌≡◌, ◌⊎◌, ℕ, ◌-◌, ◌≤◌, ◌<◌, ◌==◌, min, if◌then◌else◌, Bool, true, false, List, length, Option, Some, None, Err}
+use Rattle.std.specs.Prelude.{◌≡◌, ◌⊎◌, ℕ, ◌≤◌, ◌<◌, Bool, true, false, List, length, Option, Some, None, Err}
 use Rattle.lab_plan.specs.LabPlan.{job_at}
 use Rattle.lab_program.specs.declared.faults.RunFault.{RunFault}
 use Rattle.lab_program.specs.Faults.{status_of}
@@ -7,8 +7,8 @@ use Rattle.live_lab.specs.declared.settle.Came.{Came}
 use Rattle.late_thirst.specs.Lines.{with_most}
 use Rattle.live_lab.specs.Labs.{LabView, with_line}
 use Rattle.live_lab.specs.Admitting.{IsOutsideAt}
-use Rattle.live_lab.specs.Calls.{AtJob, TakesTurn, Serves as ServesJob, ServesOthers, Withdraws, Commands}
-use Rattle.live_lab.specs.Stages.{Begins, GoesToRetire}
+use Rattle.live_lab.specs.Calls.{AtJob, Withdraws, Commands}
+use Rattle.live_lab.specs.Stages.{GoesToRetire}
 use Rattle.live_lab.specs.Ends.{EndsSession}
 use Rattle.live_lab.specs.Settles.{Settles}
 use Rattle.live_lab.specs.Readers.{IsSession, IsPlanned, IsStandingAt, IsInstrumentName}
@@ -29,8 +29,8 @@ use Rattle.bench_calls.specs.declared.told.LabEntry.{LabEntry}
 use Rattle.bench_calls.specs.declared.told.LabPlanned.{LabPlanned}
 use Rattle.bench_calls.specs.declared.told.LabKeepers.{LabKeepers}
 use Rattle.bench_calls.specs.declared.told.LabOutside.{LabOutside}
-use Rattle.bench_calls.specs.Telling.{turned_of, came_of, session_of, state_of, planned_of, keepers_of, outside_of}
-use Rattle.bench_calls.specs.Telling.{IfTold, TellsAs, TellsDid, TellsBegun, TellsRetired, TellsRelease, TellsEntry}
+use Rattle.bench_calls.specs.Telling.{came_of, session_of, state_of, planned_of, keepers_of, outside_of}
+use Rattle.bench_calls.specs.Telling.{IfTold, TellsAs, TellsDid, TellsRetired, TellsRelease, TellsEntry}
 
 -- ---- opening
 
@@ -78,30 +78,10 @@ InRoom Did a b told told' status = IfSo (has_room a.world.kept) Did a b told tol
 abbrev pub ByJob : {R T : Type 0} → (ℕ → LabView → R → LabView → Type 0) → (R → T → T → ℕ → Type 0) → ℕ → LabView → LabView → T → T → ℕ → Type 0
 ByJob {R} Did Tells job a b told told' status = (r : Option R) × AtJob Did job a r b × IfTold Tells r told told' status
 
--- one turn of the job (0)
-abbrev pub Turns : ℕ → LabView → LabView → LabTurned → LabTurned → ℕ → Type 0
-Turns job = ByJob TakesTurn (TellsAs turned_of) job
-
--- the job was served (0)
-abbrev pub Serves : ℕ → LabView → LabView → LabTurned → LabTurned → ℕ → Type 0
-Serves job = ByJob ServesJob (TellsAs turned_of) job
-
--- each job but this one was served (0)
-abbrev pub ServesRest : ℕ → LabView → LabView → LabTurned → LabTurned → ℕ → Type 0
-ServesRest job = ByJob ServesOthers (TellsAs turned_of) job
-
 -- A settle, and what came of it is told (0). By `Settles` nothing is left to do after it, and from each job that is thirsty then a chain of jobs leads to
 -- one that holds, each of which keeps a bottle that the one before it lacks
 abbrev pub SettlesAll : ℕ → LabView → LabView → LabCame → LabCame → ℕ → Type 0
 SettlesAll waiting a b told told' status = (status ≡ 0) × (came : Came) × Settles waiting a came b × (told' ≡ came_of came)
-
--- at most one settle, if the lab has room for steps that it keeps
-abbrev pub settles_of : LabView → ℕ → ℕ
-settles_of a most = if a.world.kept.room - length a.world.kept.events == 0 then most else min most 1
-
--- settles for the job alone, and how far it is then: it holds (0), not yet (8), or no session is left (9)
-abbrev pub GoesToHold : ℕ → ℕ → LabView → LabView → LabTurned → LabTurned → ℕ → Type 0
-GoesToHold most job a = ByJob (Begins (settles_of a most)) TellsBegun job a
 
 -- the job's next command was done, and its entry is told (0); or it doesn't hold or no command is left (8)
 abbrev pub DoesNext : ℕ → LabView → LabView → LabEntry → LabEntry → ℕ → Type 0

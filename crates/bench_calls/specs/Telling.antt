@@ -9,8 +9,6 @@ use Rattle.legal_steps.specs.declared.phase.Drinking.{Drinking}
 use Rattle.legal_steps.specs.declared.phase.Drinking.TheVariants as drinks
 use Rattle.session_layer.specs.declared.turning.Turned.{Turned}
 use Rattle.session_layer.specs.declared.turning.Turned.TheVariants.{Acted, Moved, Idle}
-use Rattle.live_lab.specs.declared.stage.Aim.{Aim}
-use Rattle.live_lab.specs.declared.stage.Aim.TheVariants.{Hold, Retire}
 use Rattle.live_lab.specs.declared.stage.Stage.{Stage}
 use Rattle.live_lab.specs.declared.stage.Stage.TheVariants.{There, OnTheWay, Barred}
 use Rattle.live_lab.specs.declared.end.Release.{Release}
@@ -34,12 +32,11 @@ turned_of (Acted n) = record { what = 2; count = n }
 turned_of Moved = record { what = 1; count = 0 }
 turned_of Idle = record { what = 0; count = 0 }
 
--- a job that was to hold and has no session left is told apart (9), and one that can't retire, because it has sessions left (10)
-abbrev pub stage_status : Aim → Stage → ℕ
-stage_status aim There = 0
-stage_status aim OnTheWay = 8
-stage_status Hold Barred = 9
-stage_status Retire Barred = 10
+-- it is retired (0), or not yet (8), or it can't retire, because it has sessions left (10)
+abbrev pub stage_status : Stage → ℕ
+stage_status There = 0
+stage_status OnTheWay = 8
+stage_status Barred = 10
 
 -- it let go (0); or it never held, and nothing is told (8)
 abbrev pub TellsRelease : Release → LabTurned → LabTurned → ℕ → Type 0
@@ -129,9 +126,6 @@ TellsAs how r told told' status = (status ≡ 0) × (told' ≡ how r)
 abbrev pub TellsDid : Bool → Unit {0} → Unit {0} → ℕ → Type 0
 TellsDid did told told' status = status ≡ (if did then 0 else 8)
 
--- what was done, and how far the job is on its way to hold, or to be retired
-abbrev pub TellsBegun : Stage × Turned → LabTurned → LabTurned → ℕ → Type 0
-TellsBegun a told told' status = (status ≡ stage_status Hold a.0) × (told' ≡ turned_of a.1)
-
+-- what was done, and how far the job is on its way to be retired
 abbrev pub TellsRetired : Stage × Turned → LabTurned → LabTurned → ℕ → Type 0
-TellsRetired a told told' status = (status ≡ stage_status Retire a.0) × (told' ≡ turned_of a.1)
+TellsRetired a told told' status = (status ≡ stage_status a.0) × (told' ≡ turned_of a.1)

@@ -1,58 +1,17 @@
 //! Calls that do something in the lab of a handle.
-ghost use Rattle.std.specs.Prelude.{◌≡◌};
-ghost use Rattle.bench_calls.specs.Calls.{InLab, InRoom, settles_of, Turns, Serves, ServesRest, SettlesAll, GoesToHold};
-ghost use Rattle.bench_calls.specs.Calls.{DoesNext, LetsGo, GivesUp, GoesToEnd, SetsOvertakes};
+ghost use Rattle.bench_calls.specs.Calls.{InLab, InRoom, SettlesAll, DoesNext, LetsGo, GivesUp, GoesToEnd, SetsOvertakes};
 
 use crate::handle::{Handle, NOT_OPEN, put, take};
 use crate::inside::Inside;
 use crate::statuses::{
-    JOURNAL_FULL, tell_begun, tell_came, tell_command, tell_release, tell_retired, tell_turned,
-    tell_withdrew,
+    JOURNAL_FULL, tell_came, tell_command, tell_release, tell_retired, tell_withdrew,
 };
 use crate::told::{LabCame, LabEntry, LabTurned};
 use lab_journal::has_room;
 use live_lab::Lab;
 use std::alloc::Global;
 
-/// How many settles a call may do: one, if the lab keeps its steps, so that there is room for them.
-fn settles_of(lab: &Lab, most: u32) -> u32
-    ensures { result ≡ settles_of lab.now most }
-{
-    if lab.world().kept_room() == 0 {
-        most
-    } else {
-        most.min(1)
-    }
-}
-
 // What is done in the lab, if it has room for the steps.
-
-fn turn_in(lab: &mut Lab, job: u32, turned: &mut LabTurned) -> u32
-    ensures { InRoom (Turns job) lab.old lab.new turned.old turned.new result }
-{
-    if !has_room(lab) {
-        return JOURNAL_FULL;
-    }
-    tell_turned(lab.turn(job as usize), turned)
-}
-
-fn serve_in(lab: &mut Lab, job: u32, turned: &mut LabTurned) -> u32
-    ensures { InRoom (Serves job) lab.old lab.new turned.old turned.new result }
-{
-    if !has_room(lab) {
-        return JOURNAL_FULL;
-    }
-    tell_turned(lab.serve(job as usize), turned)
-}
-
-fn serve_others_in(lab: &mut Lab, job: u32, turned: &mut LabTurned) -> u32
-    ensures { InRoom (ServesRest job) lab.old lab.new turned.old turned.new result }
-{
-    if !has_room(lab) {
-        return JOURNAL_FULL;
-    }
-    tell_turned(lab.serve_others(job as usize), turned)
-}
 
 fn settle_in(lab: &mut Lab, waiting: u32, came: &mut LabCame) -> u32
     ensures { InRoom (SettlesAll waiting) lab.old lab.new came.old came.new result }
@@ -61,16 +20,6 @@ fn settle_in(lab: &mut Lab, waiting: u32, came: &mut LabCame) -> u32
         return JOURNAL_FULL;
     }
     tell_came(lab.settle(waiting), came)
-}
-
-fn begin_in(lab: &mut Lab, job: u32, most: u32, turned: &mut LabTurned) -> u32
-    ensures { InRoom (GoesToHold most job) lab.old lab.new turned.old turned.new result }
-{
-    if !has_room(lab) {
-        return JOURNAL_FULL;
-    }
-    let few = settles_of(lab, most);
-    tell_begun(lab.begin(job as usize, few), turned)
 }
 
 fn command_in(lab: &mut Lab, job: u32, entry: &mut LabEntry) -> u32
@@ -109,54 +58,6 @@ fn retire_in(lab: &mut Lab, job: u32, most: u32, turned: &mut LabTurned) -> u32
     tell_retired(lab.retire(job as usize, most), turned)
 }
 
-/// One turn of a job.
-pub fn turn(alloc: Global, bench: &mut Handle, job: u32, turned: &mut LabTurned) -> u32
-    ensures { InLab (InRoom (Turns job)) bench.old.slot.held bench.new.slot.held turned.old turned.new result }
-{
-    let mut inside = match take(&mut bench.slot, &mut bench.live, alloc) {
-        Ok(inside) => inside,
-        Err(status) => return status,
-    };
-    let status = match &mut *inside {
-        Inside::Open(lab) => turn_in(lab, job, turned),
-        _ => NOT_OPEN,
-    };
-    put(&mut bench.slot, &mut bench.live, inside);
-    status
-}
-
-/// Gives and asks for a job, and ends or starts a meal that it owes: nothing of its sessions.
-pub fn serve(alloc: Global, bench: &mut Handle, job: u32, turned: &mut LabTurned) -> u32
-    ensures { InLab (InRoom (Serves job)) bench.old.slot.held bench.new.slot.held turned.old turned.new result }
-{
-    let mut inside = match take(&mut bench.slot, &mut bench.live, alloc) {
-        Ok(inside) => inside,
-        Err(status) => return status,
-    };
-    let status = match &mut *inside {
-        Inside::Open(lab) => serve_in(lab, job, turned),
-        _ => NOT_OPEN,
-    };
-    put(&mut bench.slot, &mut bench.live, inside);
-    status
-}
-
-/// Serves each job but this one.
-pub fn serve_others(alloc: Global, bench: &mut Handle, job: u32, turned: &mut LabTurned) -> u32
-    ensures { InLab (InRoom (ServesRest job)) bench.old.slot.held bench.new.slot.held turned.old turned.new result }
-{
-    let mut inside = match take(&mut bench.slot, &mut bench.live, alloc) {
-        Ok(inside) => inside,
-        Err(status) => return status,
-    };
-    let status = match &mut *inside {
-        Inside::Open(lab) => serve_others_in(lab, job, turned),
-        _ => NOT_OPEN,
-    };
-    put(&mut bench.slot, &mut bench.live, inside);
-    status
-}
-
 /// Lets in the jobs of `waiting` that are due, each to its next session, and does all that can be done without a word from an owner.
 pub fn settle(alloc: Global, bench: &mut Handle, waiting: u32, came: &mut LabCame) -> u32
     ensures { InLab (InRoom (SettlesAll waiting)) bench.old.slot.held bench.new.slot.held came.old came.new result }
@@ -167,22 +68,6 @@ pub fn settle(alloc: Global, bench: &mut Handle, waiting: u32, came: &mut LabCam
     };
     let status = match &mut *inside {
         Inside::Open(lab) => settle_in(lab, waiting, came),
-        _ => NOT_OPEN,
-    };
-    put(&mut bench.slot, &mut bench.live, inside);
-    status
-}
-
-/// Settles for one job alone, at most this many times, until it holds.
-pub fn begin(alloc: Global, bench: &mut Handle, job: u32, most: u32, turned: &mut LabTurned) -> u32
-    ensures { InLab (InRoom (GoesToHold most job)) bench.old.slot.held bench.new.slot.held turned.old turned.new result }
-{
-    let mut inside = match take(&mut bench.slot, &mut bench.live, alloc) {
-        Ok(inside) => inside,
-        Err(status) => return status,
-    };
-    let status = match &mut *inside {
-        Inside::Open(lab) => begin_in(lab, job, most, turned),
         _ => NOT_OPEN,
     };
     put(&mut bench.slot, &mut bench.live, inside);

@@ -17,9 +17,7 @@ mod statuses;
 mod told;
 
 pub use additions::{add, more};
-pub use deeds::{
-    begin, command, end, overtakes, retire, serve, serve_others, settle, turn, withdraw,
-};
+pub use deeds::{command, end, overtakes, retire, settle, withdraw};
 pub use ending::{close, free};
 pub use handle::{BUSY, Handle, IN_USE, NOT_OPEN, claim, put, release, take};
 pub use inside::Inside;

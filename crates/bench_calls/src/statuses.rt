@@ -1,7 +1,7 @@
 //! The statuses, and what is told with them of what a lab answered.
 ghost use Rattle.std.specs.Prelude.{◌≡◌, if◌then◌else◌, length};
 ghost use Rattle.c_tells.specs.Telling.{Gives};
-ghost use Rattle.bench_calls.specs.Telling.{stage_status, TellsEntry, TellsDid, TellsBegun, TellsRetired, TellsRelease, TellsAs, IfTold};
+ghost use Rattle.bench_calls.specs.Telling.{stage_status, TellsEntry, TellsDid, TellsRetired, TellsRelease, TellsAs, IfTold};
 ghost use Rattle.bench_calls.specs.Telling.{turned_of, came_of, session_of, state_of, planned_of, keepers_of, outside_of};
 
 use crate::told::{
@@ -10,7 +10,7 @@ use crate::told::{
 };
 use c_tells::put;
 use instrument_log::Entry;
-use live_lab::{Aim, Came, Keepers, Planned, Release, SessionFacts, Stage, Standing};
+use live_lab::{Came, Keepers, Planned, Release, SessionFacts, Stage, Standing};
 use session_layer::Turned;
 
 /// The status if there is no such job, session or instrument.
@@ -20,8 +20,6 @@ pub(crate) const NO_MEMORY: u32 = 5;
 
 /// The status if what was asked for isn't so.
 pub const NOT_NOW: u32 = 8;
-
-const NO_SESSION: u32 = 9;
 
 const SESSIONS_LEFT: u32 = 10;
 
@@ -38,17 +36,14 @@ pub fn withdrew(did: bool) -> u32
     if did { 0 } else { NOT_NOW }
 }
 
-/// The status that says how far a job is on its way.
-pub fn stage_status(aim: Aim, stage: Stage) -> u32
-    ensures { result ≡ stage_status aim stage }
+/// The status that says how far a job is on its way to be retired.
+pub fn stage_status(stage: Stage) -> u32
+    ensures { result ≡ stage_status stage }
 {
     match stage {
         Stage::There => 0,
         Stage::OnTheWay => NOT_NOW,
-        Stage::Barred => match aim {
-            Aim::Hold => NO_SESSION,
-            Aim::Retire => SESSIONS_LEFT,
-        },
+        Stage::Barred => SESSIONS_LEFT,
     }
 }
 
@@ -66,14 +61,6 @@ pub fn tell_entry(entry: Option<Entry>, told: &mut LabEntry) -> u32
 }
 
 // Each of these tells what a lab answered, or that there is no such job.
-
-pub(crate) fn tell_turned(answer: Option<Turned>, told: &mut LabTurned) -> u32
-    ensures { IfTold (TellsAs turned_of) answer told.old told.new result }
-{
-    let Some(turned) = answer else { return NO_JOB };
-    *told = turned_of(turned);
-    0
-}
 
 pub(crate) fn tell_command(answer: Option<Option<Entry>>, told: &mut LabEntry) -> u32
     ensures { IfTold TellsEntry answer told.old told.new result }
@@ -93,16 +80,6 @@ pub(crate) fn tell_withdrew(answer: Option<bool>) -> u32
     }
 }
 
-pub(crate) fn tell_begun(answer: Option<(Stage, Turned)>, told: &mut LabTurned) -> u32
-    ensures { IfTold TellsBegun answer told.old told.new result }
-{
-    let Some((stage, turned)) = answer else {
-        return NO_JOB
-    };
-    *told = turned_of(turned);
-    stage_status(Aim::Hold, stage)
-}
-
 pub(crate) fn tell_retired(answer: Option<(Stage, Turned)>, told: &mut LabTurned) -> u32
     ensures { IfTold TellsRetired answer told.old told.new result }
 {
@@ -110,7 +87,7 @@ pub(crate) fn tell_retired(answer: Option<(Stage, Turned)>, told: &mut LabTurned
         return NO_JOB
     };
     *told = turned_of(turned);
-    stage_status(Aim::Retire, stage)
+    stage_status(stage)
 }
 
 pub(crate) fn tell_release(answer: Option<Release>, told: &mut LabTurned) -> u32

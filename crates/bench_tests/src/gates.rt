@@ -46,6 +46,9 @@ pub(crate) const ALL_MEET: [Wait; 8] = [
     (2, 3, 1, 3),
 ];
 
+/// Nobody waits. The gate may hold workers up all the same, for all that is known of it.
+pub(crate) const NOBODY_WAITS: [Wait; 0] = [];
+
 /// Before their first turns job 0 and job 1 wait for each other.
 pub(crate) const TWO_MEET: [Wait; 2] = [(0, 1, 1, 1), (1, 1, 0, 1)];
 

@@ -33,6 +33,10 @@ pub(crate) const ALONE: &str = "lab 1\njob a\nsession\nscale set 5\nscale read\n
 /// Job a has no session.
 pub(crate) const IDLER: &str = "lab 1\njob a\njob b\nsession\nscale add 1\nend\n";
 
+/// Jobs a and b, which add 1 in one session each, on instruments of their own.
+pub(crate) const APART: &str =
+    "lab 1\njob a\nsession\nscale add 1\nend\njob b\nsession\nlamp add 1\nend\n";
+
 /// No job at all.
 pub(crate) const NOBODY: &str = "lab 1\n";
 

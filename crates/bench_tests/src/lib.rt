@@ -15,6 +15,8 @@ mod desks;
 #[cfg(test)]
 mod gates;
 #[cfg(test)]
+mod hurried_teams;
+#[cfg(test)]
 mod labs;
 #[cfg(test)]
 mod laws;

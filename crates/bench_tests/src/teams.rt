@@ -3,7 +3,7 @@ ghost use Rattle.std.specs.Prelude.{◌<◌, length};
 ghost use Rattle.turns.specs.Lists.{Each};
 ghost use Rattle.edge_rule.specs.DeskView.{Owns};
 
-use crate::gates::{ALL_MEET, FORTIETH, Meeting, THREE_FIRST, TWO_MEET};
+use crate::gates::{ALL_MEET, FORTIETH, Meeting, NOBODY_WAITS, THREE_FIRST, TWO_MEET};
 use crate::labs::{FOUR, TWO, closed, opened, plan_of, star_script};
 use crate::rows::check;
 use crate::words::{CLEAN_B_ASKED_BOTTLE_B_ASKED, DRINKS_HUNGRY, THIRSTY_HUNGRY};
@@ -155,7 +155,7 @@ fn two_workers_meet(rt: HostRuntime) {
 }
 
 /// A team at work on turns that pass no gate.
-fn begin<R: Wait, A: Allocator>(
+pub(crate) fn begin<R: Wait, A: Allocator>(
     rt: &R,
     bench: &Bench<A>,
     muster: &Muster,
@@ -170,7 +170,12 @@ fn begin<R: Wait, A: Allocator>(
 }
 
 /// The turns that are left of this many.
-fn take_rest<A: Allocator>(bench: &Bench<A>, taken: u32, turns: u32, desks: &mut [Desk<A>])
+pub(crate) fn take_rest<A: Allocator>(
+    bench: &Bench<A>,
+    taken: u32,
+    turns: u32,
+    desks: &mut [Desk<A>],
+)
     requires { Each (Owns bench.now) desks.old }
     ensures { Each (Owns bench.now) desks.new }
 {
@@ -265,14 +270,15 @@ fn driven_at_last<R: Threads + Wait + Abort + Sync, A: Allocator + Copy + Send +
     requires { Each (Owns bench.now) desks.items }
     ensures { Each (Owns bench.now) result.items }
 {
-    let (desks, ended) = driven(rt, alloc, bench, desks, 2, 3, &NoGate);
+    let gate = Meeting::new(&NOBODY_WAITS);
+    let (desks, ended) = driven(rt, alloc, bench, desks, 2, 3, &gate);
     if ended == Ended::Limit {
         turns_are(rt, desks.as_slice(), 3);
         return desks;
     }
     check(rt, 1, ended, Ended::NoMemory);
     turns_are(rt, desks.as_slice(), 0);
-    let (desks, again) = driven(rt, alloc, bench, desks, 2, 3, &NoGate);
+    let (desks, again) = driven(rt, alloc, bench, desks, 2, 3, &gate);
     check(rt, 2, again, Ended::Limit);
     turns_are(rt, desks.as_slice(), 3);
     desks

@@ -88,7 +88,8 @@ fn by_workers<X: Threads + Wait + Sync, A: Allocator + Copy + Send + Sync, W: Si
 /// most this many turns of each job. Then it writes the report, a line at a time; a flush follows it.
 ///
 /// The input is at most 16777216 bytes. Nothing goes out before the run is over. A worker passes the gate before each turn, and
-/// ends early once it has seen that all jobs are retired. If a thread can't be made, its turns are taken on another.
+/// ends early once it has seen that all jobs are retired. If a thread can't be made, or isn't worth starting (`workers::threads`), its turns
+/// are taken on another.
 /// Finished says that every job is retired then; otherwise each job took as many turns as were asked for.
 pub fn run_threads<
     X: Threads + Wait + Sync,

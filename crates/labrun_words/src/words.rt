@@ -67,7 +67,7 @@ fn with_threads<'a>(alloc: Global, command: Command<'a>) -> Result<Command<'a>, 
     ensures { IfOk result (λ c. app_of c ≡ with_subcommand (app_of command.entry) (word_of_numbers (codes "threads") 1 32 0 1000000000).top) }
 {
     let threads = Command::new(alloc, "threads").about(
-        "run a script by W worker threads, at most N turns of each job, print the report",
+        "run a script by up to W worker threads, at most N turns of each job, print the report",
     );
     let threads = threads.arg(number(alloc, "W", 1, 32, "the workers"))?;
     let threads = threads.arg(number(alloc, "N", 0, 1_000_000_000, "the most turns of each job"))?;

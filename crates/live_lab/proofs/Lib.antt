@@ -21,3 +21,4 @@ mod Waited
 mod Counted
 mod Lacking
 pub mod LongerLabs
+mod Owing

@@ -18,3 +18,4 @@ pub mod Keepers
 pub mod Prints
 pub mod Adding
 pub mod Staying
+pub mod Retiring

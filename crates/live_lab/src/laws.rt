@@ -3,6 +3,7 @@ ghost use Rattle.live_lab.specs.Waited.{LettingsInAreWaited, SettlesAreWaited};
 ghost use Rattle.live_lab.specs.Staying.{HoldersStay};
 ghost use Rattle.live_lab.specs.Before.{FewAreLetInBefore};
 ghost use Rattle.live_lab.specs.Keepers.{EachLackHasAKeeper};
+ghost use Rattle.live_lab.specs.Retiring.{WhoOwesAMealRetiresLater};
 
 /// All that a settle does to a job that it leaves outside are letting-ins, so it is passed by as `late_thirst::laws::is_passed_at_most` says: between its
 /// asking and its being let in, by at most as many sessions as the line's number says.
@@ -25,4 +26,9 @@ pub fn holders_stay()
 /// Where a settle leaves the lab, each instrument that a job in line lacks has at least one keeper: a job that keeps a bottle of it that the job lacks.
 pub fn each_lack_has_a_keeper()
     ensures { EachLackHasAKeeper }
+{}
+
+/// A job that is to retire, and may not yet though a try is allowed, owes a meal, and nothing of its sessions has changed; one that owes none retires.
+pub fn who_owes_a_meal_retires_later()
+    ensures { WhoOwesAMealRetiresLater }
 {}

@@ -1,5 +1,5 @@
 //! Tests of what no run of a built program and no call for C shows: readers and writers that fail, memory that is refused, threads that meet,
-//! answers that no output has. What runs and calls show stands in `bench/cases` and `bench/door`.
+//! answers that no output has. What runs and calls show stands in `checks/cases` and `checks/door`.
 #![tactic(auto)]
 
 #[cfg(test)]

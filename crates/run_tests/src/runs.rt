@@ -1,5 +1,5 @@
 //! What no run of the built program shows: readers and writers that fail, memory that runs out, threads that meet. The runs that can be
-//! had are cases of `bench/cases`.
+//! had are cases of `checks/cases`.
 ghost use Rattle.std.specs.Prelude.{◌≡◌, true};
 ghost use Rattle.labrun_words.specs.Words.{MayRun};
 

@@ -73,7 +73,7 @@ pub fn by_rounds<'p, A: Allocator + Copy>(
 /// many turns of each, and passes the gate before each turn. It ends early once it has seen all jobs retired.
 ///
 /// Memory is taken before the first turn and after the last; if an allocation fails, nothing is left of the run. If a
-/// thread can't be made, its turns are taken on another. A worker that waits for others sleeps.
+/// thread can't be made, its turns are taken on another. A worker that waits for others sleeps, or stops (`workers::threads`).
 pub fn by_threads<'p, R: Threads + Wait + Sync, A: Allocator + Copy + Send + Sync, G: Gate>(
     rt: &R,
     alloc: A,

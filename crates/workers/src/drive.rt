@@ -9,16 +9,17 @@ use crate::gate::{Gate, Through};
 use crate::last_rounds::finish;
 use crate::muster::{Muster, PATIENCE};
 use crate::teams::{Orders, in_teams};
+use crate::worth::{worker_of, worth_starting};
 use edge_rule::{Bench, Desk, meet_all};
 use rounds::{Ended, all_retired, are_at_rest};
 use std::alloc::Allocator;
 use std::sync::Wait;
 use std::thread::Threads;
 
-/// Which worker drives the desk, and its place among that worker's desks. Without workers it would be the first.
-fn worker_of<A: Allocator>(desk: &Desk<A>, workers: u32) -> (u32, u8) {
-    let job = desk.job().0;
-    (u32::from(job).checked_rem(workers).unwrap_or(0), job)
+/// Which worker drives the desk, and its place among that worker's desks.
+fn place_of<A: Allocator>(desk: &Desk<A>, workers: u32) -> (u32, u8) {
+    let job = desk.job();
+    (worker_of(job, workers), job.0)
 }
 
 /// Drives the desks of the slice. Their order may change, unless no memory is left.
@@ -37,13 +38,18 @@ fn drive<R: Threads + Wait + Sync, S: Allocator, A: Allocator + Send + Sync, G: 
     requires all { HasAll bench.now.plan desks.old }
     ensures { Threaded bench.now turns desks.old result desks.new }
 {
-    let sorted = desks.sort_by_key(alloc, |desk| worker_of(desk, workers));
+    let workers = worth_starting(gate, bench.plan(), workers);
+    let sorted = desks.sort_by_key(alloc, |desk| place_of(desk, workers));
     if sorted.is_err() {
         return Ended::NoMemory;
     }
     // A worker without desks isn't a team.
     let teams = workers.min(u32::try_from(desks.len()).unwrap_or(u32::MAX));
-    let muster = Muster::new(teams, PATIENCE);
+    let muster = if gate.holds_up() {
+        Muster::new(teams, PATIENCE)
+    } else {
+        Muster::hurried(teams)
+    };
     let through = Through { gate };
     let orders = Orders {
         rt,
@@ -69,7 +75,10 @@ fn drive<R: Threads + Wait + Sync, S: Allocator, A: Allocator + Send + Sync, G: 
 ///
 /// A worker that was idle in many rounds sleeps, until another does something, or for some milliseconds. If a thread can't be made, its
 /// worker's rounds run on the calling thread after that one's own. Workers that are idle for about a second, while others don't begin,
-/// then stop early, and the calling thread takes the turns that are left, one of each desk a round in ascending order.
+/// then stop early, and the calling thread takes the turns that are left, one of each desk a round in ascending order. If the gate holds nobody
+/// up (`Gate::holds_up`), a turn takes less than handing over to another thread. Then, if the edges that join jobs of different workers are
+/// more than a quarter of the jobs, one worker drives all desks. Otherwise no worker sleeps: all stop as soon as one had many more rounds that
+/// were idle than not.
 pub fn threads<R: Threads + Wait + Sync, S: Allocator, A: Allocator + Send + Sync, G: Gate>(
     rt: &R,
     alloc: S,

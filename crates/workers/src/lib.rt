@@ -1,7 +1,8 @@
 //! Threads drive the desks of one bench: each worker has desks of its own, and takes one turn of each in a round.
 //!
 //! What is promised doesn't depend on threads. If one can't be made, its worker's rounds run on the calling thread after that one's own;
-//! workers then stop early, and the calling thread takes the turns that are left. Workers with nothing to do sleep, and are woken.
+//! workers then stop early, and the calling thread takes the turns that are left. Workers with nothing to do sleep, and are woken; or, if
+//! no gate holds anybody up, they stop, as they would only lose time.
 #![tactic(auto)]
 
 mod drive;
@@ -13,6 +14,7 @@ mod muster;
 mod round;
 mod team;
 mod teams;
+mod worth;
 
 pub use drive::threads;
 pub use gate::{Gate, NoGate, Passage, Through};

@@ -12,6 +12,7 @@ use crate::muster::Muster;
 use crate::round::team_round;
 use bell::{Bell, Listener};
 use edge_rule::{Bench, Desk};
+use rounds::all_retired;
 use session_layer::all_retired as sees_all_retired;
 use std::alloc::Allocator;
 use std::sync::Wait;
@@ -26,8 +27,8 @@ fn saw_all_retired<A: Allocator>(bench: &Bench<A>, desk: &mut Desk<A>) -> bool
 }
 
 /// A worker: one turn of each desk a round, and the gate is passed before each turn. It ends after its turns, or after a round in which its
-/// first desk saw all jobs retired, or after an idle round if other teams have no thread. After many idle rounds it sleeps between
-/// them, until another team does something.
+/// first desk saw all jobs retired, or after an idle round if the muster says so. After many idle rounds it sleeps between them, until
+/// another team does something, unless teams hurry.
 pub fn work<R: Wait, A: Allocator, P: Passage>(
     rt: &R,
     bench: &Bench<A>,
@@ -42,6 +43,7 @@ pub fn work<R: Wait, A: Allocator, P: Passage>(
     ensures looks { AtFirst (LooksOut turns result) desks.old desks.new }
 {
     let mut listener = Listener::new(muster.bell());
+    let mut vain = 0;
     muster.begin();
     for number in 0..turns {
         let idle = team_round(bench, gate, &mut listener, desks, u64::from(number) + 1);
@@ -50,7 +52,8 @@ pub fn work<R: Wait, A: Allocator, P: Passage>(
             listener.leave();
             return Halt::AllRetired;
         }
-        if idle && !muster.goes_on(rt, &mut listener) {
+        vain = Muster::vain_after(vain, idle);
+        if idle && !muster.goes_on(rt, &mut listener, vain, all_retired(desks)) {
             return Halt::After(number + 1);
         }
     }

@@ -34,10 +34,10 @@ class lab_core final : public shell, public std::enable_shared_from_this<lab_cor
         if ((wait && wait != LAB_NEVER) || how.limit_ != LAB_NEVER) begins_timer();
         // (its owner is its number, so that it can be taken back after a restart)
         const lab_asked asked{number, {1, number}, wait < LAB_NEVER - moment ? moment + wait : LAB_NEVER, how.limit_, kind, 0};
-        if (const std::uint32_t why = pump(lab_bay_ask(&bay_, &asked, sets.data(), sets.size(), moment),
+        if (const std::uint32_t why = changes(lab_bay_ask(&bay_, &asked, sets.data(), sets.size(), moment),
                                            {LAB_BAY_STOPPED, LAB_BAY_EMPTY, LAB_BAY_MAY_NOT, LAB_BAY_LINE_FULL}))
             throw_why(why, *mine);
-        mine->told.wait(guard, [&] { return mine->what != NOTHING_YET || is_over(); });
+        works(guard, mine.get(), wait == LAB_NEVER, true, [&] { return mine->what != NOTHING_YET; });
         if (mine->what != LAB_HOLDS) throw_why(mine->what, *mine);
         guard.unlock();
         if (!how.note_.empty()) note(*mine, how.note_);
@@ -55,7 +55,7 @@ class lab_core final : public shell, public std::enable_shared_from_this<lab_cor
         if (mine.lets_go) throw not_held(mine.number);
         if (mine.what != LAB_HOLDS) throw taken_away();
         std::uint64_t position = 0;
-        if (pump(lab_bay_note(&bay_, mine.number, bytes(text), text.size(), &position), {LAB_BAY_MAY_NOT}))
+        if (changes(lab_bay_note(&bay_, mine.number, bytes(text), text.size(), &position), {LAB_BAY_MAY_NOT}))
             throw invalid("a note has at most 500 bytes, and no line feed or carriage return");
         mine.note = text;
         if (file_) return is_written(guard);
@@ -72,7 +72,7 @@ class lab_core final : public shell, public std::enable_shared_from_this<lab_cor
         lock guard(mutex_);
         quietly([&] {
             if (is_over() || mine.has_let_go) return;
-            if (mine.what == LAB_HOLDS) lets_it_go(std::move(guard), mine);
+            if (mine.what == LAB_HOLDS) lets_it_go(std::move(guard), mine, false);
             else pump(lab_bay_leave(&bay_, mine.number, now()));
         });
         sessions_.erase(mine.number);
@@ -110,7 +110,7 @@ class lab_core final : public shell, public std::enable_shared_from_this<lab_cor
 
     bool take_away(std::uint64_t number) {
         lock guard = open();
-        if (pump(lab_bay_take_away(&bay_, number, now()), {LAB_NOT_YET, LAB_BAY_OVER})) return false;
+        if (changes(lab_bay_take_away(&bay_, number, now()), {LAB_NOT_YET, LAB_BAY_OVER})) return false;
         is_written(guard);
         return true;
     }
@@ -157,7 +157,10 @@ class lab_core final : public shell, public std::enable_shared_from_this<lab_cor
     void comes_back(const lab_options &options, const lab_terms &terms) {
         began_ = milliseconds(std::chrono::system_clock::now().time_since_epoch());
         file_.emplace(options.journal, options.sync == labrun::sync::data);
-        const std::size_t used = opens(terms, file_->text());
+        const std::string text = file_->text();
+        const std::size_t used = opens(terms, text);
+        // (by the first line of a file: docs/BAY.md)
+        if (used) base_ = std::stoull(text.substr(86, 16), nullptr, 16);
         gone_ = standings(&bay_);
         for (const lab_standing &it : gone_) began_ = std::max(began_, it.since);
         lab_standing none{};
@@ -193,15 +196,15 @@ class lab_core final : public shell, public std::enable_shared_from_this<lab_cor
         }
     }
 
-    void lets_it_go(lock &&guard, session_state &mine) {
+    void lets_it_go(lock &&guard, session_state &mine, bool syncs = true) {
         if (mine.has_let_go) throw not_held(mine.number);
         if (!mine.lets_go) {
             if (mine.what != LAB_HOLDS) throw taken_away();
-            pump(lab_bay_let_go(&bay_, mine.number, now()));
+            changes(lab_bay_let_go(&bay_, mine.number, now()));
             mine.lets_go = true;
         }
         // (it doesn't hold if that was written by now)
-        if (mine.what == LAB_HOLDS) is_written(guard);
+        if (mine.what == LAB_HOLDS) is_written(guard, syncs);
         mine.has_let_go = true;
     }
 

@@ -1,7 +1,7 @@
 // What follows from a call of the bay: who is told, what is written, and when it is to be called again.
 #pragma once
-#include "file.hpp"
 #include "in_the_way.hpp"
+#include "writing.hpp"
 #include <csignal>
 #include <thread>
 #include <unordered_map>
@@ -17,12 +17,13 @@ struct session_state {
     std::uint64_t wants = 0, needs = 0;         // the instruments of all sets that it asked for; and those that it came to hold
     std::uint64_t token = 0;                    // from when it came to hold on
     bool lets_go = false, has_let_go = false;
+    bool sleeps = false; // its thread does, and may be woken to write
     std::string note{};
     std::optional<timed_out> late{}; // of one whose time limit passed
     std::condition_variable told{};  // its thread sleeps there
 };
 
-// All that stands here is used with the mutex held, but for the file, which the writer has.
+// All that stands here is used with the mutex held, but for the file.
 class shell : public shared {
   public:
     const lab_names names;
@@ -39,35 +40,63 @@ class shell : public shared {
 
     // What a call of the bay answered; what follows from it is told, and whoever has to do something is woken.
     std::uint32_t pump(std::uint32_t status = LAB_DONE, std::initializer_list<std::uint32_t> those = {}) {
+        changes(status, those);
+        calls_on();
+        return status;
+    }
+    // The same for one who waits then.
+    std::uint32_t changes(std::uint32_t status, std::initializer_list<std::uint32_t> those = {}) {
         std::uint64_t next = LAB_NEVER;
-        lab_outcome it{};
         answered(status, those);
+        disk_.has_more = disk_.is_urgent = true;
         if (timer_.joinable()) answered(lab_bay_time(&bay_, now(), &next));
         if (next < timer_wakes_) {
             timer_wakes_ = next;
             timer_looks_.notify_one();
         }
-        // (the serial number is given back with the next one, when the session has what it was told: so nothing is lost between the two)
-        for (; !answered(lab_bay_tell(&bay_, last_serial_, &it), {LAB_NOT_YET}); last_serial_ = it.serial)
-            if (const auto at = sessions_.find(it.number); at != sessions_.end()) tell(at->second, it);
-        if (file_) writer_looks_.notify_one();
+        tells();
         return status;
     }
 
-    // Waits until all that the bay has to say by now is written.
-    void is_written(lock &guard) {
+    // Waits until all that the bay has to say by now is written; with `syncs` on the disk.
+    void is_written(lock &guard, bool syncs = true) {
         if (!file_) return;
-        const std::uint64_t mine = ++wanted_, before = failures_;
-        written_.wait(guard, [&] { return reached_ >= mine || failures_ != before || is_over(); });
-        if (reached_ < mine) throw_unwritten();
+        const std::uint64_t within = disk_.within(), before = failures_;
+        const auto is_there = [&] { return (syncs ? disk_.durable : disk_.written) >= within; };
+        if (syncs) disk_.waited_for.push_back(within);
+        works(guard, nullptr, true, syncs, [&] { return is_there() || failures_ != before; });
+        if (!is_there()) throw_unwritten();
+    }
+
+    // Returns once it is so, or all is over. Meanwhile it does what nobody does, or sleeps. A session with a time limit, which `may` not,
+    // only sleeps, so that it is told in time by a disk that hangs, too; and no letting go waits for a sync.
+    template <class So> void works(lock &guard, session_state *mine, bool may, bool syncs, So is_so) {
+        for (;;) {
+            bool is_through = is_so() || is_over();
+            std::optional<job> it;
+            if (file_ && may && !is_through) it = takes(mine ? mine->number : 0, syncs, false);
+            if (!it) is_through = is_so() || is_over(); // (there may have been nothing to write)
+            calls_on();                                 // (what it leaves somebody else does)
+            if (is_through) return;
+            if (it) does(guard, *it);
+            else if (mine) {
+                mine->sleeps = may;
+                mine->told.wait(guard);
+                mine->sleeps = false;
+            } else {
+                lines_++;
+                written_.wait(guard);
+                lines_--;
+            }
+        }
     }
     [[noreturn]] void throw_unwritten() const {
         if (is_over()) throw_over();
         throw why_ ? file_->not_written(why_) : journal_error(file_->path(), "the disk took too long");
     }
 
-    // A thread writes, from the open on if there is a journal, and another one looks at the clock, once anybody has a time limit: so times
-    // pass, and are told, while the disk hangs.
+    // A thread writes for whoever has a time limit, and what nobody waits for, from the open on if there is a journal; and another one looks
+    // at the clock, once anybody has a time limit: so times pass, and are told, while the disk hangs.
     void begins_writer() { begins(writer_, &shell::writes); }
     void begins_timer() { begins(timer_, &shell::waits); }
 
@@ -79,6 +108,8 @@ class shell : public shared {
         guard.unlock();
         for (std::thread *it : {&writer_, &timer_})
             if (it->joinable()) it->join();
+        guard.lock();
+        written_.wait(guard, [&] { return !disk_.is_writing && !disk_.is_syncing; });
     }
 
     // What is to be written; the journal is so long behind it.
@@ -92,6 +123,8 @@ class shell : public shared {
     std::unordered_map<std::uint64_t, session_state> sessions_;
     std::uint64_t began_ = 0;
     std::optional<file> file_; // of the journal, if there is one
+    std::uint64_t base_ = 0;   // how long those before it were
+    writing disk_;
 
   private:
     void tell(session_state &of, const lab_outcome &it) {
@@ -123,29 +156,111 @@ class shell : public shared {
         });
     }
 
-    // Writes what there is, without the mutex: others call meanwhile, and those that ask while the disk is busy share the next write.
-    void writes(lock &guard) try {
-        const std::uint64_t asked = wanted_;
-        std::uint64_t position = 0;
-        const std::string_view text = takes(position);
-        if (text.empty()) {
-            wrote(asked, 0);
-            return writer_looks_.wait(guard);
-        }
-        guard.unlock();
-        const int why = file_->add(text) ? 0 : errno;
-        guard.lock();
-        pump(why ? lab_bay_failed(&bay_) : lab_bay_durable(&bay_, position));
-        wrote(asked, why);
-        if (why) pauses(guard);
-    } catch (const std::bad_alloc &) {
-        pauses(guard); // (nothing was handed out, and it is asked for again)
+    void tells() {
+        lab_outcome it{};
+        // (the serial number is given back with the next one, when the session has what it was told: so nothing is lost between the two)
+        for (; !answered(lab_bay_tell(&bay_, last_serial_, &it), {LAB_NOT_YET}); last_serial_ = it.serial)
+            if (const auto at = sessions_.find(it.number); at != sessions_.end()) tell(at->second, it);
     }
-    void wrote(std::uint64_t asked, int why) {
-        why_ = why;
-        if (why) failures_++;
-        else reached_ = asked;
+
+    // What nobody does yet. The writer, which is no session and `is_last`, also does what is due, and what failed before.
+    std::optional<job> takes(std::uint64_t number, bool syncs, bool is_last) {
+        const bool anyway = is_last && disk_.is_due();
+        if ((disk_.is_torn || disk_.is_bad) && (!is_last || (disk_.is_torn && !mends()))) return std::nullopt;
+        std::optional<job> it;
+        // (what it wants itself comes first)
+        if (const auto at = disk_.comes.find(number); at != disk_.comes.end() && at->second <= disk_.written) it = disk_.syncs(anyway);
+        if (!it && disk_.has_more && !disk_.is_writing && (!is_last || anyway || disk_.is_urgent)) it = text();
+        if (!it && syncs) it = disk_.syncs(anyway);
+        return it;
+    }
+
+    bool mends() {
+        if (disk_.is_writing || disk_.is_syncing) return false;
+        answered(lab_bay_failed(&bay_));
+        disk_.is_torn = false;
+        disk_.has_more = disk_.is_urgent = true;
+        disk_.written = disk_.durable;
+        return true;
+    }
+
+    std::optional<job> text() try {
+        std::uint64_t position = 0;
+        std::string text(takes(position));
+        disk_.has_more = disk_.is_urgent = false;
+        disk_.handed++;
+        if (!text.empty()) {
+            disk_.notes_who_comes(text);
+            disk_.is_writing = true;
+            return job{std::move(text), position, disk_.handed};
+        }
+        // (then it was all written before)
+        if (disk_.durable == disk_.written) disk_.durable = disk_.handed, disk_.is_bad = false;
+        disk_.written = disk_.handed;
         written_.notify_all();
+        return std::nullopt;
+    } catch (const std::bad_alloc &) {
+        disk_.is_torn = disk_.is_bad = true; // (it is asked for again)
+        return std::nullopt;
+    }
+
+    // Does it, without the mutex: those that ask while the disk is busy share the next sync.
+    void does(lock &guard, const job &it) {
+        guard.unlock();
+        const bool is_good = it.text.empty() ? file_->sync() : file_->put(it.text, it.position - it.text.size() - base_);
+        const int why = is_good ? 0 : errno;
+        guard.lock();
+        (it.text.empty() ? disk_.is_syncing : disk_.is_writing) = false;
+        if (is_over()) return written_.notify_all();
+        if (why) {
+            failures_++;
+            why_ = why;
+            disk_.is_torn = disk_.is_bad = true;
+            return wake_all();
+        }
+        if (!it.text.empty()) disk_.written = it.handed, disk_.position = it.position;
+        if (it.text.empty() || !file_->syncs()) {
+            answered(lab_bay_durable(&bay_, it.position));
+            disk_.reaches(it);
+            if (!disk_.is_torn) disk_.is_bad = false, why_ = 0;
+            tells();
+        }
+        if (lines_) written_.notify_all();
+    }
+
+    // Whoever may do what there is to do is woken.
+    void calls_on() {
+        if (!file_) return;
+        if (disk_.is_torn || disk_.is_bad) return writer_looks_.notify_one();
+        if (disk_.has_more && !disk_.is_writing) {
+            const session_state *one = nullptr;
+            for (const auto &it : sessions_)
+                if (!lines_ && it.second.sleeps && (!one || it.first < one->number)) one = &it.second;
+            wakes(one);
+        }
+        if (disk_.written > disk_.durable && !disk_.is_syncing) {
+            if (!disk_.wants_sync()) {
+                if (!disk_.due) writer_looks_.notify_one();
+                return;
+            }
+            for (const auto &it : disk_.comes)
+                if (const auto at = sessions_.find(it.first); it.second <= disk_.written && at != sessions_.end() && at->second.sleeps)
+                    return wakes(&at->second);
+            wakes(nullptr);
+        }
+    }
+    void wakes(const session_state *one) {
+        if (one) const_cast<session_state *>(one)->told.notify_one();
+        else (lines_ ? written_ : writer_looks_).notify_one();
+    }
+
+    void writes(lock &guard) {
+        if (disk_.is_bad) pauses(guard);
+        if (is_over()) return;
+        if (const std::optional<job> it = takes(0, true, true)) return does(guard, *it);
+        if (disk_.is_bad) return;
+        if (const auto span = disk_.rests()) writer_looks_.wait_for(guard, *span);
+        else writer_looks_.wait(guard);
     }
     void pauses(lock &guard) {
         writer_looks_.wait_for(guard, std::chrono::milliseconds(20), [&] { return is_over(); });
@@ -169,8 +284,8 @@ class shell : public shared {
     std::thread writer_, timer_;
     std::condition_variable writer_looks_, timer_looks_, written_;
     int why_ = 0; // the number of the fault, if the last write failed
-    // how often somebody waited for all to be written, how many of those have it, and how many writes failed
-    std::uint64_t wanted_ = 0, reached_ = 0, failures_ = 0;
+    std::uint64_t failures_ = 0; // how many writes failed
+    unsigned lines_ = 0;         // how many sleep until something is written
     std::vector<std::uint8_t> room_ = std::vector<std::uint8_t>(4096);
 };
 

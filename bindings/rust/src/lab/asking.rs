@@ -78,7 +78,7 @@ impl Hold {
     fn ask(&self, shell: &mut Shell, number: u64, sets: &[u64]) -> Result<(), Error> {
         let asked = Asked { number, owner: [1, number], limit: self.limit, kind: self.kind, ..Asked::default() };
         let asked = |now: u64| Asked { deadline: now.saturating_add(self.timeout), ..asked };
-        match shell.calls(|bay, now| bay::ask(bay, &asked(now), sets, now))? {
+        match shell.changes(|bay, now| bay::ask(bay, &asked(now), sets, now), true)? {
             DONE => Ok(()),
             NO_MEMORY => Err(Error::NoMemory),
             STOPPED => Err(Error::Stopped),
@@ -88,15 +88,13 @@ impl Hold {
         }
     }
 
-    /// Sleeps until it holds; what it holds, and its token, or why it doesn't.
-    fn wait(&self, mut shell: Shell<'_>, number: u64) -> Result<(u64, u64), Error> {
-        loop {
-            match shell.told(number) {
-                Told::Holds(needs, token) => return Ok((needs, token)),
-                Told::Over(how) => return Err(self.why(&mut shell, number, how)),
-                _ => shell = shell.sleeps_until_told(number)?,
-            }
-        }
+    /// Returns once it holds: what it holds, and its token, or why it doesn't.
+    fn wait(&self, shell: Shell<'_>, number: u64) -> Result<(u64, u64), Error> {
+        shell.works(number, self.timeout == NEVER, |shell| match shell.told(number) {
+            Told::Holds(needs, token) => Some(Ok((needs, token))),
+            Told::Over(how) => Some(Err(self.why(shell, number, how))),
+            _ => None,
+        })
     }
 
     fn why(&self, shell: &mut Shell, number: u64, how: u32) -> Error {

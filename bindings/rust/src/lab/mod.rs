@@ -1,5 +1,6 @@
 //! A lab: instruments that threads share, over the bay of the C library. It has a mutex, a writer and a timer, and no rule of its own.
 mod asking;
+mod disk;
 mod opening;
 mod options;
 mod session;
@@ -14,10 +15,11 @@ use crate::ffi::{Handle, Owned, DONE, NO_MEMORY, NO_ROOM};
 use crate::kept::Kept;
 use crate::{Error, Keeper, SyncTo};
 pub use asking::Hold;
+use disk::Disk;
 use options::milliseconds;
 pub use options::LabOptions;
 pub use session::Held;
-use shell::{Inner, Shell, State, Told};
+use shell::{Ask, Inner, Shell, State, Told};
 use std::sync::Arc;
 use std::time::Duration;
 pub use who::Who;
@@ -128,7 +130,7 @@ impl Lab {
     /// ```
     pub fn take_away(&self, number: u64) -> Result<bool, Error> {
         let mut shell = self.inner.open()?;
-        let is_done = shell.calls(|bay, now| lab_bay_take_away(bay, number, now))? == DONE;
+        let is_done = shell.changes(|bay, now| lab_bay_take_away(bay, number, now), true)? == DONE;
         shell.waits_for_the_disk().map(|()| is_done)
     }
 
@@ -152,7 +154,7 @@ impl Lab {
         }
     }
 
-    /// The threads end, and with the writer the file is closed.
+    /// The threads end, and the file is closed.
     fn ends(&self) {
         let mut shell = self.inner.lock();
         shell.state.bay.ends(Error::Closed);
@@ -160,6 +162,7 @@ impl Lab {
         let threads = std::mem::take(&mut shell.state.threads);
         drop(shell);
         threads.into_iter().for_each(|it| drop(it.join()));
+        self.inner.lock().state.disk.file = None;
     }
 }
 

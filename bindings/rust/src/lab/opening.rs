@@ -15,16 +15,18 @@ impl LabOptions {
             Some((path, to)) => {
                 let (mut file, text) = Kept::open(path, *to).map_err(|why| self.fault(why, 0))?;
                 let (bay, used) = self.resumed(&text, base)?;
+                file.base = base_of(&text);
                 file.begin(path, used).map_err(|why| self.fault(why, 0))?;
                 (bay, Some(file))
             }
         };
         let (asks, why, threads) = (BTreeMap::new(), String::new(), Vec::new());
-        let state = State { bay, next: 1, serial: 0, asks, wakes: None, wanted: 0, done: 0, failures: 0, why, threads };
+        let disk = Disk::new(file);
+        let state = State { bay, next: 1, serial: 0, asks, wakes: None, disk, failures: 0, why, threads };
         let (state, writer, timer, is_written) = (Mutex::new(state), Condvar::new(), Condvar::new(), Condvar::new());
         let (options, home) = (self.clone(), Home::here());
         let lab = Lab { inner: Arc::new(Inner { state, writer, timer, is_written, base, begun, options, home }) };
-        lab.begins(file)?;
+        lab.begins()?;
         Ok(lab)
     }
 
@@ -71,16 +73,23 @@ impl LabOptions {
 
 impl Lab {
     /// Who held is there still; and with a journal the writer begins, and its first line is there.
-    fn begins(&self, file: Option<Kept>) -> Result<(), Error> {
+    fn begins(&self) -> Result<(), Error> {
         let mut shell = self.inner.lock();
-        if let Some(Err(fault)) = file.map(|file| shell.starts("labrun writer", |inner| threads::writes(inner, file))) {
-            shell.state.bay.ends(fault); // (so that nobody waits for a writer that isn't there)
+        if shell.state.disk.file.is_some() {
+            if let Err(fault) = shell.starts("labrun writer", threads::writes) {
+                shell.state.bay.ends(fault); // (so that nobody waits for a writer that isn't there)
+            }
         }
         if !shell.standing()?.is_empty() {
             shell.starts_timer()?; // (one of them may have a limit)
         }
         shell.waits_for_the_disk()
     }
+}
+
+/// How many bytes the files before a journal had, by its first line (`docs/BAY.md`).
+fn base_of(text: &[u8]) -> u64 {
+    text.get(86..102).and_then(|it| std::str::from_utf8(it).ok()).and_then(|it| u64::from_str_radix(it, 16).ok()).unwrap_or(0)
 }
 
 /// Why there is no bay.

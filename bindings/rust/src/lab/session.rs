@@ -23,8 +23,8 @@ impl Held {
         self.number
     }
 
-    /// Its token: larger than that of each session that came to hold before it; with a journal also after a restart. So a server before an
-    /// instrument can refuse whoever comes with a smaller one than it has seen: a session that was taken away, and doesn't know it yet.
+    /// Its token: larger than that of each session that was told before that it holds; with a journal also after a restart. So a server before
+    /// an instrument can refuse whoever comes with a smaller one than it has seen: a session that was taken away, and doesn't know it yet.
     ///
     /// ```
     /// let lab = labrun::Lab::new(["scope"])?;
@@ -56,7 +56,7 @@ impl Held {
             Told::LetsGo | Told::Over(LET_GO) => return Err(Error::NotNow(format!("session {} lets go", self.number))),
             _ => return Err(Error::TakenAway),
         }
-        match shell.calls(|bay, _| bay::note(bay, self.number, text))? {
+        match shell.changes(|bay, _| bay::note(bay, self.number, text), true)? {
             NO_MEMORY => return Err(Error::NoMemory),
             MAY_NOT => return Err(Error::Invalid("a note is one line of at most 500 bytes".into())),
             _ => {}
@@ -67,34 +67,49 @@ impl Held {
     /// Lets go, and waits until that is on the disk, if there is a journal. After [`Error::Journal`] the session still holds for all
     /// others, and can be finished again: nobody gets its instruments before the disk has it that it let go. [`Error::TakenAway`] if it was
     /// taken away.
+    ///
+    /// One thread at a time: the compiler refuses a second one.
+    ///
+    /// ```compile_fail,E0499
+    /// let lab = labrun::Lab::new(["scope"])?;
+    /// let mut held = lab.hold(&["scope"]).begin()?;
+    /// std::thread::scope(|threads| {
+    ///     threads.spawn(|| held.finish());
+    ///     threads.spawn(|| held.finish());
+    /// });
+    /// # Ok::<(), labrun::Error>(())
+    /// ```
     pub fn finish(&mut self) -> Result<(), Error> {
         let mut shell = self.inner.open()?;
         // (else it lets go already, and a write failed meanwhile, or is done by now)
         if matches!(shell.told(self.number), Told::Holds(..)) {
             shell.is_told(self.number, Told::LetsGo);
             // (somebody may have taken it away just now: that is told)
-            shell.calls(|bay, now| lab_bay_let_go(bay, self.number, now))?;
+            shell.changes(|bay, now| lab_bay_let_go(bay, self.number, now), true)?;
         }
-        let failures = shell.state.failures;
-        loop {
-            match shell.told(self.number) {
-                Told::LetsGo => shell.has_failed(failures)?,
-                Told::Over(LET_GO) => break,
-                _ => return Err(Error::TakenAway),
+        let (failures, within) = (shell.state.failures, shell.state.disk.within());
+        shell.state.disk.waited_for.push(within);
+        shell.works(0, true, |shell| match shell.told(self.number) {
+            Told::LetsGo => shell.has_failed(failures).err().map(Err),
+            Told::Over(LET_GO) => {
+                shell.state.asks.remove(&self.number);
+                Some(Ok(()))
             }
-            shell = shell.sleeps_until_told(self.number)?;
-        }
-        shell.state.asks.remove(&self.number);
-        Ok(())
+            _ => Some(Err(Error::TakenAway)),
+        })
     }
 
     /// Nobody is there for it any more, whatever it is at.
     fn leaves(&self) -> Result<(), Error> {
         let mut shell = self.inner.open()?;
-        let Some((told, _)) = shell.state.asks.remove(&self.number) else { return Ok(()) };
+        let Some(Ask { told, .. }) = shell.state.asks.remove(&self.number) else { return Ok(()) };
         // (one that holds lets go, which is the journal's word for it; one that still waits, or comes to hold, leaves)
         let call = if matches!(told, Told::Holds(..)) && !std::thread::panicking() { lab_bay_let_go } else { lab_bay_leave };
-        shell.calls(|bay, now| call(bay, self.number, now)).map(drop)
+        // (nobody waits for that: so it goes with the next text, unless somebody else may hold by it)
+        let is_urgent = shell.state.asks.values().any(|it| matches!(it.told, Told::Nothing));
+        shell.changes(|bay, now| call(bay, self.number, now), is_urgent)?;
+        shell.calls_on();
+        Ok(())
     }
 }
 

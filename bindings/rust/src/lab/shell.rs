@@ -50,6 +50,14 @@ pub(super) enum Told {
     Over(u32),
 }
 
+/// What is known of a session.
+pub(super) struct Ask {
+    pub told: Told,
+    /// Its thread sleeps there, if it waits; and whether it does so, and may be woken to write.
+    pub woken: Arc<Condvar>,
+    pub sleeps: bool,
+}
+
 /// What the mutex guards.
 pub(super) struct State {
     pub bay: Owned,
@@ -57,12 +65,10 @@ pub(super) struct State {
     pub next: u64,
     pub serial: u64,
     /// The sessions of this process that aren't over, or whose owners don't know yet; and whom to wake.
-    pub asks: BTreeMap<u64, (Told, Arc<Condvar>)>,
+    pub asks: BTreeMap<u64, Ask>,
     /// Until when the timer sleeps, if there is one.
     pub wakes: Option<u64>,
-    /// How often somebody wanted all that was given to the journal to be written, and how many of these came before a write that was done.
-    pub wanted: u64,
-    pub done: u64,
+    pub disk: Disk,
     /// How many writes failed, and why the last one did.
     pub failures: u64,
     pub why: String,
@@ -89,8 +95,17 @@ impl<'l> Shell<'l> {
     /// A call that changes something, at this moment, and then what follows from it: what there is to tell is told, and whoever has to do
     /// something is woken.
     pub fn calls<T>(&mut self, call: impl FnOnce(&mut Handle, u64) -> Result<T, Error>) -> Result<T, Error> {
+        let answered = self.changes(call, true)?;
+        self.calls_on();
+        Ok(answered)
+    }
+
+    /// The same for one who waits then, by `works`, or whose change isn't urgent.
+    pub fn changes<T>(&mut self, call: impl FnOnce(&mut Handle, u64) -> Result<T, Error>, is_urgent: bool) -> Result<T, Error> {
         let now = self.inner.now();
         let answered = self.reads(|bay| call(bay, now))?;
+        self.state.disk.has_more = true;
+        self.state.disk.is_urgent |= is_urgent;
         self.tells()?;
         if let Some(wakes) = self.state.wakes {
             let mut next = 0;
@@ -102,18 +117,17 @@ impl<'l> Shell<'l> {
             }
             self.tells()?;
         }
-        self.inner.writer.notify_one(); // (it sees for itself whether there is text)
         Ok(answered)
     }
 
     /// Hands on what there is to tell. The serial number is given back with the next tell, when whoever was told has it: so nothing is lost
     /// between the two.
-    fn tells(&mut self) -> Result<(), Error> {
+    pub fn tells(&mut self) -> Result<(), Error> {
         let mut it = Outcome { serial: self.state.serial, ..Outcome::default() };
         while self.reads(|bay| lab_bay_tell(bay, it.serial, &mut it))? == DONE {
-            if let Some((told, woken)) = self.state.asks.get_mut(&it.number) {
-                *told = if it.what == HOLDS { Told::Holds(it.needs, it.token) } else { Told::Over(it.what) };
-                woken.notify_one();
+            if let Some(one) = self.state.asks.get_mut(&it.number) {
+                one.told = if it.what == HOLDS { Told::Holds(it.needs, it.token) } else { Told::Over(it.what) };
+                one.woken.notify_one();
             }
             self.state.serial = it.serial;
         }
@@ -122,11 +136,11 @@ impl<'l> Shell<'l> {
 
     /// What a session was told last. One that nobody asks about any more has let go.
     pub fn told(&self, number: u64) -> Told {
-        self.state.asks.get(&number).map_or(Told::Over(LET_GO), |it| it.0)
+        self.state.asks.get(&number).map_or(Told::Over(LET_GO), |it| it.told)
     }
 
     pub fn is_told(&mut self, number: u64, told: Told) {
-        self.state.asks.entry(number).or_insert_with(|| (told, Arc::default())).0 = told;
+        self.state.asks.entry(number).or_insert_with(|| Ask { told, woken: Arc::default(), sleeps: false }).told = told;
     }
 
     /// All in the bay's book, in the order in which they asked; and the next number is beyond theirs.
@@ -141,14 +155,28 @@ impl<'l> Shell<'l> {
 
     /// All that wait look for themselves.
     pub fn wakes_everybody(&self) {
-        self.state.asks.values().for_each(|it| it.1.notify_one());
+        self.state.asks.values().for_each(|it| it.woken.notify_one());
         [&self.inner.writer, &self.inner.timer, &self.inner.is_written].iter().for_each(|it| it.notify_all());
     }
 
-    /// Sleeps until a session is told something, or there is another reason to look.
-    pub fn sleeps_until_told(self, number: u64) -> Result<Shell<'l>, Error> {
-        let Some(woken) = self.state.asks.get(&number).map(|it| Arc::clone(&it.1)) else { return Ok(self) };
-        self.sleeps(&woken)
+    /// Sleeps until a session is told something, or there is another reason to look: with `may` also that there is something to do. Number 0
+    /// is none, and waits for the disk.
+    pub fn sleeps_until_told(mut self, number: u64, may: bool) -> Result<Shell<'l>, Error> {
+        if number == 0 {
+            self.state.disk.lines += 1;
+            let inner = self.inner;
+            let mut shell = self.sleeps(&inner.is_written)?;
+            shell.state.disk.lines -= 1;
+            return Ok(shell);
+        }
+        let Some(it) = self.state.asks.get_mut(&number) else { return Ok(self) };
+        it.sleeps = may;
+        let woken = Arc::clone(&it.woken);
+        let mut shell = self.sleeps(&woken)?;
+        if let Some(it) = shell.state.asks.get_mut(&number) {
+            it.sleeps = false;
+        }
+        Ok(shell)
     }
 
     /// Sleeps until woken, as long as the lab is open and sound.

@@ -1,33 +1,32 @@
-//! The writer, a thread that writes the journal, so that those who ask while the disk is busy share the next write; and the timer, which
-//! calls at the moments at which something is due. There is none before something has a deadline or a limit.
+//! The writer, a thread that writes the journal for whoever has a time limit, and what nobody waits for; it alone tries again what failed.
+//! And the timer, which calls at the moments at which something is due. There is none before something has a deadline or a limit.
 use super::*;
+use std::cmp;
 use std::sync::PoisonError;
 use std::thread::{sleep, Builder};
 use std::time::Duration;
-use std::{cmp, io};
 
 /// After a write that failed, so that a full disk isn't asked all the time.
 const PAUSE: Duration = Duration::from_millis(30);
 const DAY: u64 = 86_400_000;
 
-pub(super) fn writes(inner: &Arc<Inner>, mut file: Kept) -> Result<(), Error> {
-    let (mut text, mut shell) = (vec![0; 4096], inner.lock());
+pub(super) fn writes(inner: &Arc<Inner>) -> Result<(), Error> {
+    let mut shell = inner.lock();
     loop {
-        let wanted = shell.state.wanted;
-        match shell.reads(|bay| bay::journal(bay, &mut text))? {
-            (NO_ROOM, length, _) => text.resize(2 * length, 0),
-            // (nothing was handed out, and it is asked for again)
-            (NO_MEMORY, ..) => shell = pauses(shell),
-            (_, 0, _) => {
-                shell.state.done = wanted;
-                inner.is_written.notify_all();
-                shell = shell.sleeps(&inner.writer)?;
-            }
-            (_, length, position) => {
-                drop(shell);
-                let done = file.add(&text[..length]);
-                shell = written(inner.lock(), done, wanted, position)?;
-            }
+        if shell.state.disk.is_bad {
+            shell = pauses(shell);
+        }
+        shell.state.bay.is_sound()?;
+        if let Some(job) = shell.takes(0, true)? {
+            shell = shell.does(job)?;
+        } else if !shell.state.disk.is_bad {
+            shell = match shell.state.disk.rests() {
+                None => shell.sleeps(&inner.writer)?,
+                Some(span) => {
+                    let woken = inner.writer.wait_timeout(shell.state, span);
+                    Shell { state: woken.unwrap_or_else(PoisonError::into_inner).0, ..shell }
+                }
+            };
         }
     }
 }
@@ -37,20 +36,6 @@ fn pauses(shell: Shell<'_>) -> Shell<'_> {
     drop(shell);
     sleep(PAUSE);
     inner.lock()
-}
-
-/// A write is over. If it failed nothing is undone: what isn't durable is handed out again, and whoever waits for it is told before the pause.
-fn written(mut shell: Shell<'_>, done: io::Result<()>, wanted: u64, position: u64) -> Result<Shell<'_>, Error> {
-    let Err(why) = done else {
-        shell.state.done = wanted;
-        shell.inner.is_written.notify_all();
-        return shell.calls(|bay, _| lab_bay_durable(bay, position)).map(|_| shell);
-    };
-    shell.state.failures += 1;
-    shell.state.why = why.to_string();
-    shell.calls(|bay, _| lab_bay_failed(bay))?;
-    shell.wakes_everybody();
-    Ok(pauses(shell))
 }
 
 pub(super) fn times(inner: &Arc<Inner>) -> Result<(), Error> {
@@ -89,19 +74,17 @@ impl Shell<'_> {
         Err(self.inner.options.fault(format!("a write failed: {}", self.state.why), 0))
     }
 
-    /// Sleeps until all that was given to the journal by now is written. An error: a write failed meanwhile, and it is tried again by
+    /// Returns once all that was given to the journal by now is on the disk. An error: a write failed meanwhile, and it is tried again by
     /// itself.
     pub fn waits_for_the_disk(mut self) -> Result<(), Error> {
         if self.inner.options.journal.is_none() {
             return Ok(());
         }
-        self.state.wanted += 1;
-        let (inner, mine, failures) = (self.inner, self.state.wanted, self.state.failures);
-        inner.writer.notify_one();
-        while self.state.done < mine {
-            self.has_failed(failures)?;
-            self = self.sleeps(&inner.is_written)?;
-        }
-        Ok(())
+        let (failures, within) = (self.state.failures, self.state.disk.within());
+        self.state.disk.waited_for.push(within);
+        self.works(0, true, |shell| match shell.state.disk.durable >= within {
+            true => Some(Ok(())),
+            false => shell.has_failed(failures).err().map(Err),
+        })
     }
 }

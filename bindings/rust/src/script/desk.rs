@@ -35,6 +35,17 @@ impl Desk {
 
     /// Begins the next session, and blocks until it holds all its instruments. None if no session is left. [`Error::Withdrawn`] if it was
     /// given up, because its patience ran out or by [`Bench::withdraw`](super::Bench::withdraw).
+    ///
+    /// One thread at a time: the compiler refuses a second one.
+    ///
+    /// ```compile_fail,E0499
+    /// let (_bench, mut desks) = labrun::script::Bench::from_text(b"lab 1\njob a\n")?;
+    /// std::thread::scope(|threads| {
+    ///     threads.spawn(|| desks[0].begin().map(drop));
+    ///     threads.spawn(|| desks[0].begin().map(drop));
+    /// });
+    /// # Ok::<(), labrun::Error>(())
+    /// ```
     pub fn begin(&mut self) -> Result<Option<Session<'_>>, Error> {
         let (job, mut state, mut what, mut core) = (self.job as u32, State::default(), SessionOf::default(), self.inner.open()?);
         core.waiting |= 1 << job;

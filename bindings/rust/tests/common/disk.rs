@@ -11,6 +11,9 @@ static FIRST: AtomicU32 = AtomicU32::new(0);
 static LAST: AtomicU32 = AtomicU32::new(0);
 /// A sync hangs as long as this is so.
 pub static HANGS: AtomicBool = AtomicBool::new(false);
+/// How many syncs of a file were made, and for how many milliseconds each takes.
+pub static SYNCS: AtomicU32 = AtomicU32::new(0);
+pub static SLOW: AtomicU32 = AtomicU32::new(0);
 /// How many bytes were written.
 pub static WRITTEN: AtomicUsize = AtomicUsize::new(0);
 /// What was synced by `fsync`; and what the file had that was synced last by `fdatasync`.
@@ -68,6 +71,8 @@ unsafe extern "C" fn ftruncate64(file: c_int, length: i64) -> c_int {
 extern "C" fn fdatasync(file: c_int) -> c_int {
     unless_bad(|| {
         super::common::until(|| !HANGS.load(SeqCst));
+        SYNCS.fetch_add(1, SeqCst);
+        std::thread::sleep(std::time::Duration::from_millis(SLOW.load(SeqCst).into()));
         *DURABLE.lock().unwrap() = std::fs::read_to_string(path(file)).unwrap_or_default();
         0
     })

@@ -1,5 +1,5 @@
 //! Events that no step of a text gives: what they see isn't there, or the plan hasn't what they name. Where steps are legal is in
-//! `bench/cases` (`of_labview/guards.py`).
+//! `checks/cases` (`of_labview/guards.py`).
 use super::{OPENED_EDGE, after};
 use crate::benches::{A, AB, B, Do, TWICE, TWO, event_seen, step_of};
 use crate::rows::check;

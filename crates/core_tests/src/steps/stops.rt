@@ -1,4 +1,4 @@
-//! A replay of events stops at the first that isn't legal, and the world stands before it. Replays of steps are in `bench/cases`
+//! A replay of events stops at the first that isn't legal, and the world stands before it. Replays of steps are in `checks/cases`
 //! (`of_labrun/replays.py`).
 use super::{OPENED, OPENED_EDGE, Shown, Way, after, replayed};
 use crate::benches::{A, B, Do, STALE_MARK, TWICE, TWO, event_seen, stage, step_of};

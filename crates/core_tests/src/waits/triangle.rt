@@ -1,5 +1,5 @@
 //! Three jobs, each two of which share an edge: who precedes whom, before and after a meal of the first. How the forks are during the meal
-//! is in `bench/cases` (`of_labview/states.py`).
+//! is in `checks/cases` (`of_labview/states.py`).
 use super::{FORKS_HIGHER, Question, ask, go_on};
 use crate::benches::{A, B, BEFORE_THE_MEAL, C, Do, MEAL_OF_THREE, THREE};
 use interleaving::World;

@@ -1,5 +1,5 @@
 //! Texts and statuses of the faults that no run of the program can be made to have at will, or whose status `examples/check` doesn't see. All
-//! others are cases of `bench/cases` (`of_labrun/faults.py`).
+//! others are cases of `checks/cases` (`of_labrun/faults.py`).
 use crate::rows::check;
 use lab_program::{RunFault, status_of};
 use script_reader::{ScriptCause, ScriptFault};

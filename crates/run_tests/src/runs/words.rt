@@ -1,5 +1,5 @@
 //! Command lines of which no run of the program shows what they ask for: other names of it, and how many workers. All others are cases of
-//! `bench/cases` (`of_labrun/words.py`).
+//! `checks/cases` (`of_labrun/words.py`).
 use crate::rows::check;
 use lab_runs::{Task, read_words};
 

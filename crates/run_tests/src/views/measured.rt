@@ -1,5 +1,5 @@
 //! Which measure is better, and scripts that were made and are read back. What `labview arrange N` writes stands in
-//! `bench/cases/of_labview/measured.py`.
+//! `checks/cases/of_labview/measured.py`.
 use arranged_scripts::read_back;
 use arranging::has_jobs_of;
 use lab_plan::{JobNo, Plan};

@@ -1,4 +1,4 @@
-//! The colours of a script's jobs, and how many there are. What `labview arrange` writes stands in `bench/cases/of_labview/orders.py`.
+//! The colours of a script's jobs, and how many there are. What `labview arrange` writes stands in `checks/cases/of_labview/orders.py`.
 use arranging::{colours_of, order_of};
 use lab_plan::JobNo;
 use script_reader::read_plan;

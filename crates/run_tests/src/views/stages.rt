@@ -1,5 +1,5 @@
 //! Causes why events aren't legal that no step of a text has: of jobs and edges that aren't there, of what is seen, and of sets of bottles.
-//! The others, and the moves that are legal, stand in `bench/cases/of_labview/explanations.py`.
+//! The others, and the moves that are legal, stand in `checks/cases/of_labview/explanations.py`.
 ghost use Rattle.std.specs.List.{All};
 ghost use Rattle.legal_steps.specs.Steps.{IsStepOf};
 

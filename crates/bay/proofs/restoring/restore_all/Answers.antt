@@ -1,3 +1,5 @@
+use Rattle.std.proofs.Common.{ap, arith}
+use Rattle.bay_book.specs.Books.{BookView}
 use Rattle.bay.specs.Refusals.{IsWhyNotRestored}
 use Rattle.bay.proofs.Restored.{so_far_more, all_done}
 use Rattle.bay.proofs.Refused.{why_lines, handed_on}
@@ -8,7 +10,17 @@ loop-place-preserved c =
     let l = c.loop-place in let holders = c.args.holders.now in let place = c.in-Some.place in
     let s = so_far_more c.args.classes.now c.args.lines.now c.args.moment c.args.book.now.durable l.next holders l.book c.restore_one.new.book place
     c.requires.holders c.in-Some.ensures c.in_ok-restore_one.ensures.restores c.in_ok-restore_one.ensures.alone l.invariant.each l.invariant.done l.invariant.low in
-    record { alone = s.alone; each = s.each; done = s.done; low = s.low }
+    let restored = c.in_ok-restore_one.ensures.restores.1 in
+    let next = ap (λ (b : BookView). b.next) restored in let granted = ap (λ (b : BookView). b.granted) restored in
+    let numbers = l.invariant.numbers in let tokens = l.invariant.tokens in
+    record {
+      alone = s.alone;
+      each = s.each;
+      done = s.done;
+      low = s.low;
+      numbers = omega (arith, next, numbers);
+      tokens = omega (arith, granted, tokens);
+    }
 
 pub returns-clause-all : goal.returns-clause-all
 returns-clause-all c =

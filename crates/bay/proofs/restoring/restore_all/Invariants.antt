@@ -1,4 +1,4 @@
-use Rattle.std.proofs.Common.{◌-◌}
+use Rattle.std.proofs.Common.{◌≤◌, ◌-◌}
 use Rattle.bay.specs.Restoring.{AreAlone, AreLow, AreRestored}
 use Rattle.bay.proofs.Restored.{AreDoneBelow}
 use Rattle.bay.proofs.restoring.restore_all.Given as goal
@@ -9,6 +9,8 @@ invariant-loop-place l = record {
   each : AreRestored l.lines l.moment l.fn.book.durable l.book;
   done : AreDoneBelow l.lines l.next l.book;
   low : AreLow l.next l.book.asks;
+  numbers : l.fn.book.next ≤ l.book.next;
+  tokens : l.fn.book.granted ≤ l.book.granted;
 }
 
 abbrev pub decreases-loop-place : goal.decreases-loop-place
