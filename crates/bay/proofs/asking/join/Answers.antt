@@ -3,8 +3,8 @@ use Rattle.bay_line.specs.Lines.{LineView, leaving, asking}
 use Rattle.bay.specs.Classes.{class_bit}
 use Rattle.bay.specs.Cores.{core, IsTied}
 use Rattle.bay.proofs.Tied.{same_core}
-use Rattle.bay.proofs.Askers.{fits_of, fits_next, tied_below, left_again, asked_tied}
-use Rattle.bay.proofs.asking.take.Goals as goal
+use Rattle.bay.proofs.Askers.{fits_of, fits_next, tied_below, left_again, joined_tied}
+use Rattle.bay.proofs.asking.join.Goals as goal
 
 pub ask-requires : goal.ask-requires
 ask-requires c =
@@ -19,7 +19,7 @@ returns-in-Ok-add-clause-tied c =
     subst (IsTied c.args.classes.now)
     (sym (same_core c.ask.new.self (asking line r.number sets (class_bit r.class) r.deadline) c.add.new.self _
     (c.in-Ok.ensures.asks ∙ ap (λ n. asking line r.number sets n r.deadline) c.class_bit.ensures) c.in-Ok-add.ensures.adds))
-    (asked_tied c.args.classes.now x sets r c.args.now f c.requires.tied)
+    (joined_tied c.args.classes.now x sets r c.args.now f c.requires.tied)
 
 -- the line and the book are as they were
 as_it_was : (c : goal.After-leave) → core c.leave.new.self c.add.new.self ≡ core c.args.line.now c.args.book.now
