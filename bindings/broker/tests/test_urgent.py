@@ -2,9 +2,11 @@
 
 from __future__ import annotations
 
+import asyncio
 import json
 import os
 import unittest
+from typing import Any
 from unittest import mock
 
 from labrun_broker import people
@@ -13,6 +15,7 @@ from labrun_broker.command import lines_of
 from labrun_broker.errors import BadWish, NotAllowed
 from labrun_broker.http_words import wish_of_body
 from labrun_broker.labs import OF_THE_LAB
+from labrun_broker.standing import Session
 from labrun_broker.wishes import Wish, check
 from tests.brokers import BAY, OnBroker, station, until
 from tests.test_keeping import OnFolder, OnKeeping, how
@@ -23,6 +26,13 @@ FREE = 'urgent = ["bob"]'
 
 
 class Order(OnKeeping):
+    async def asks(self, *given: Any, **more: Any) -> asyncio.Task[Session]:
+        """Whoever waits still at the end of the test leaves."""
+        task = await super().asks(*given, **more)
+        self.addAsyncCleanup(asyncio.wait, {task})
+        self.addCleanup(task.cancel)
+        return task
+
     async def test_who_waits_keeps_its_place(self) -> None:
         """One waits for scope and supply, of which supply is held; an urgent one, and then another, for scope, which is free."""
         keeping = await self.keeping()

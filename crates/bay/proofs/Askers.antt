@@ -155,8 +155,7 @@ ordered_tied classes Usual line book t = t
 ordered_tied classes Urgent line book t = record {
   in_line = λ a h waits. let l = t.in_line a h waits in let m = most_has line.most line.wishes l.0 l.1 in (m.0, m.1, sym m.2.ask ∙ l.2);
   by_book = λ w h.
-      let m = most_cases line.most line.wishes w h in let b = t.by_book m.0 m.1 in
-      (
+      let m = most_cases line.most line.wishes w h in let b = t.by_book m.0 m.1 in (
         b.0,
         b.1,
         b.2,

@@ -1,5 +1,5 @@
 -- All in line count as passed by as often as may be.
-use Rattle.std.proofs.Common.{◌≡◌, ℕ, zero, suc, ◌≤◌, List, [], ◌∷◌, ◌++◌, map, length, set, refl, ap, ◌∙◌, subst, arith}
+use Rattle.std.proofs.Common.{◌≡◌, ℕ, zero, suc, List, [], ◌∷◌, ◌++◌, map, length, set, refl, ap, ◌∙◌, subst, arith}
 use Rattle.std.proofs.lemmas.List.{length-map, map-append}
 use Rattle.bay_line.specs.declared.wish.Wish.{Wish}
 use Rattle.bay_line.specs.Wishes.{wish_at, passed_most}

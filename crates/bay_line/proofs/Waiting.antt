@@ -253,7 +253,7 @@ meanwhile ask (suc n) old new w place x is st (mid, before, o) =
 pub waits_add_up : WaitsAddUp
 waits_add_up ask n zero old mid new first second =
     let Both : LineView → Type 0 = λ v. (x : Waits ask n old v) × ((w : Wish) → go_before ask n old v x w ≡ go_before ask n old mid first w + 0)
-        × (keep_order ask n old v x ≡ keep_order ask n old mid first + 0) in
+    × (keep_order ask n old v x ≡ keep_order ask n old mid first + 0) in
     let both : Both new = subst Both (sym second) (first, (λ w. omega arith), omega arith) in
     (n, omega arith, both.0, both.1, both.2)
 waits_add_up ask n (suc m) old mid new first (there, before, last) =
