@@ -68,7 +68,7 @@ class Doors(unittest.TestCase):
         self.ran(at, "disable", "oven", "cold")
         self.assertIn("oven has been out of order", self.ran(at, "status"))
         self.ran(at, "enable", "oven")
-        self.assertIn("a session is in one bay", self.ran(at, "hold", "scope", "oven", "--", "true", status=1))
+        self.assertEqual(self.ran(at, "hold", "oven", "scope", "--", "sh", "-c", "echo $LABRUN_HELD"), "oven scope\n")
 
     def test_the_bays_files_are_applied(self) -> None:
         at, path = self.broker(), f"{self.folder}/bay.toml"
