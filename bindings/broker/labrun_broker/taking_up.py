@@ -24,7 +24,7 @@ def takes_up(keeping: Keeping, it: Opened) -> None:
     for owner, taken in mending.ends_of(it.recent):
         keeping._ends.add(owner, taken)
     for one in it.left.values():
-        if one.end == "let_go" or one.what == "taken":
+        if one.end and (one.end == "let_go" or one.what == "taken"):
             keeping._ends.add(one.owner, "" if one.end == "let_go" else f"by {one.taken or 'the broker'}")
     rows = {row.number: row for row in keeping.machine.standings() if row.what == HOLDS}
     names = {number: keeping.places.station(row.kind) or it.left[number].station for number, row in rows.items()}

@@ -162,5 +162,42 @@ class Holds(OnCrossings):
         self.assertEqual(self.stands(bays), {"oven": "guest-1"})
 
 
+class Choices(OnCrossings):
+    async def test_the_first_that_can_be_had_at_once(self) -> None:
+        bays = await self.bays()
+        await self.holds(bays, "scope", station="board")
+        it = await self.crosses(bays, any_of=(("scope", "oven"), ("supply", "load-2")))
+        self.assertEqual(it.instruments, ("supply", "load-2"))
+        self.assertEqual((await self.holds(bays, any_of=(("load-2",), ("load-1",)))).instruments, ("load-1",))
+
+    async def test_else_it_waits_for_the_first_and_all_in_the_same_bays(self) -> None:
+        bays = await self.bays()
+        scope, supply = await self.holds(bays, "scope", station="board"), await self.holds(bays, "load-1", "load-2")
+        task, _ = await self.waits(bays, "north", any_of=(("scope", "oven"), ("load-1", "oven"), ("load-1", "load-3")))
+        await bays.let_go(supply, self.owner)
+        it = await asyncio.wait_for(task, LIMIT)
+        self.assertEqual(it.instruments, ("load-1", "oven"))
+        await bays.let_go(it, self.owner)
+        await bays.let_go(scope, self.owner)
+        # (one bay's alone, too: then it is a session as ever)
+        for name in ("load-1", "load-2"):
+            await self.holds(bays, name)
+        task = await self.asks(bays, any_of=(("load-1",), ("load-2",)))
+        await bays.release("guest-1", "me")
+        self.assertEqual((await asyncio.wait_for(task, LIMIT)).instruments, ("load-1",))
+
+    async def test_which_of_the_second_bay_by_what_it_has_of_the_first(self) -> None:
+        bays = await self.bays()
+        await self.holds(bays, "load-3")
+        task, asked = await self.waits(bays, "south", any_of=(("scope", "load-3"), ("supply", "load-2", "load-3"), ("scope", "load-2", "load-3")))
+        self.assertEqual(asked._waiting()[1].wish.any_of, (("load-3",), ("load-2", "load-3")))  # type: ignore[attr-defined]
+        await bays.release("guest-1", "me")
+        self.assertEqual((await asyncio.wait_for(task, LIMIT)).instruments, ("scope", "load-3"))
+
+    async def test_words_over_two_bays(self) -> None:
+        bays = await self.bays()
+        self.assertEqual((await self.crosses(bays, "3 of load-*")).instruments, ("load-1", "load-2", "load-3"))
+
+
 if __name__ == "__main__":
     unittest.main()
