@@ -20,7 +20,7 @@ class OfLab(Broker):
     opens = ": lab "
 
 
-class Doors(unittest.TestCase):
+class OnLab(unittest.TestCase):
     def setUp(self) -> None:
         self.folder = self.enterContext(tempfile.TemporaryDirectory())
         written(self.folder)
@@ -37,6 +37,8 @@ class Doors(unittest.TestCase):
         self.assertEqual(it.returncode, status, it.stderr)
         return it.stdout if status == 0 else it.stderr
 
+
+class Doors(OnLab):
     def taken(self) -> Any:
         return self.assertRaises(labrun_broker.TakenAway)
 
