@@ -13,17 +13,18 @@ from typing import TYPE_CHECKING, Any, AsyncIterator, Callable, Iterable, Option
 import labrun
 from labrun import LabrunError
 
-from . import turning, wishes
+from . import outage, over, turning, wishes
 from .bay import Bay
+from .crossing import Crossing
 from .errors import BadWish
 from .folder import JOURNAL
 from .journals import sessions_of
-from .keeping import Keeping
+from .keeping import ANOTHER, Keeping
 from .labs import Lab, whole
 from .records import News, Record
 from .standing import Owner, Session
 from .together import all_of, no_bay, status_of
-from .wishes import Wish
+from .wishes import Ended, Wish
 
 if TYPE_CHECKING:
     from .entrance import Entrance
@@ -40,6 +41,8 @@ class Bays:
         self.settling, self.changing = _Settling(self.peers), asyncio.Lock()
         self.entrances: list[Entrance] = []
         self.tasks = set[asyncio.Future[None]]()
+        # sessions over several bays, by their tickets
+        self.crossings = dict[tuple[int, int], Crossing]()
         self._says: Callable[[str], None] = lambda text: None
         for name, it in self.of.items():
             it.peers, it._news.tells = self.peers, self._notes_of(name)
@@ -96,6 +99,7 @@ class Bays:
                 except LabrunError as fault:
                     raise fault if isinstance(fault, labrun.JournalError) else LabrunError(f"{name}: {fault}") from None
                 ends.push_async_callback(it.close)
+            over.takes_up(self)
             ends.pop_all()
 
     async def close(self) -> None:
@@ -104,7 +108,7 @@ class Bays:
     # ---- sessions
 
     async def hold(self, wish: Wish, owner: Owner, waits: Optional[Callable[[Session], None]] = None) -> Session:
-        """As at one bay, in that which has what the client wishes."""
+        """As at one bay, in that which has what the client wishes; or over several."""
         try:
             wishes.check_form(wish, self.bay)
             home = self._home(wish)
@@ -113,8 +117,15 @@ class Bays:
             raise
         return await home.hold(wish, owner, waits)
 
-    def _home(self, wish: Wish) -> Keeping:
+    def _home(self, wish: Wish) -> Union[Keeping, Crossing, over.Over]:
         key = wishes.owner_of(wish.ticket)
+        if (crossing := self.crossings.get(key)) is not None:
+            if crossing.holds:
+                wishes.check_asked_again(wish, crossing.instruments, self.bay)
+                return crossing
+            if wish.comes_back:
+                raise Ended("NotHeld", "the session of this ticket waits, and was never told that it holds")
+            crossing.gives_up(Ended("TakenAway", ANOTHER))
         before = next((it for it in self.peers if it.has(key)), None)
         if wish.comes_back:
             return before if before is not None else next((it for it in self.peers if it.had(key)), self.peers[0])
@@ -126,24 +137,23 @@ class Bays:
             before.leaves_line(key)
         return home
 
-    def _of_wish(self, wish: Wish) -> Keeping:
-        """BadWish, NoInstrument, MayNotUse: no bay has it for this client."""
+    def _of_wish(self, wish: Wish) -> Union[Keeping, over.Over]:
+        """BadWish, NoInstrument, MayNotUse: no bay has it for this client. OutOfOrder."""
         wishes.check(wish, self.bay)
-        names = wishes.resolved(wish, self.bay).names
-        of = {name: its for name, it in self.of.items() if (its := [one for one in names if one in it.bay.instruments])}
-        if len(of) > 1:
-            told = all_of([f"{all_of(its)} {'is' if len(its) == 1 else 'are'} of the bay {name}" for name, its in of.items()])
-            raise BadWish(f"{told}, and a session is in one bay: ask for instruments of one")
-        return self.of[next(iter(of))]
+        resolved, out = wishes.resolved(wish, self.bay), {name: it for home in self.peers for name, it in home.places.out.items()}
+        homes = {home for way in over.ways_of(self, resolved) for home in way}
+        return homes.pop() if len(homes) == 1 else over.Over(self, outage.going_round(resolved, out))
 
-    def _of_session(self, session: Session) -> Keeping:
-        return session.home or self.peers[0]
+    def _of_session(self, session: Session) -> Union[Keeping, Crossing]:
+        return session if isinstance(session, Crossing) else session.home or self.peers[0]
 
     async def let_go(self, session: Session, owner: Owner, failed: Optional[str] = None) -> None:
         await self._of_session(session).let_go(session, owner, failed)
 
     async def note(self, session: Session, owner: Owner, text: str) -> None:
-        await self._of_session(session).note(session, owner, text)
+        if isinstance(session, Crossing):
+            return await session.notes(owner, text)
+        await (session.home or self.peers[0]).note(session, owner, text)
 
     def heard(self, session: Session, owner: Owner, says_so: bool = False) -> bool:
         return self._of_session(session).heard(session, owner, says_so)
@@ -181,6 +191,9 @@ class Bays:
         return next((it for it in self.peers if all(name in it.bay.instruments for name in names)), self)
 
     async def release(self, station: str, by: str, number: int = 0, person: str = "", bay: str = "") -> tuple[str, ...]:
+        for it in self.crossings.values():
+            if any(part.name == station and part.holds and number in (0, part.number) and bay in ("", home.bay.name) for home, part in it.its()):
+                return await it.release(by, person)
         home = self.in_bay(bay) if bay else self._with_station(station, number)
         return await home.release(station, by, number, person)
 

@@ -165,10 +165,12 @@ def run_enable(args: argparse.Namespace) -> int:
 
 def add_bay(parser: argparse.ArgumentParser) -> None:
     what = "check: names every fault of the file; apply: the bay that a broker keeps goes on as the file has it, whoever holds or waits"
-    parser.add_argument("what", metavar="{check,apply}", choices=("check", "apply"), help=what)
-    parser.add_argument("bay", metavar="BAY", help="the TOML file")
+    what += "; split: proposes bays of which few sessions need two, by the records"
+    parser.add_argument("what", metavar="{check,apply,split}", choices=("check", "apply", "split"), help=what)
+    parser.add_argument("bay", metavar="BAY", help="the TOML file; of split the state folder")
     parser.add_argument("--check", action="store_true", help="of apply: nothing is changed, but what would be is said, and who is in the way")
     parser.add_argument("--bay", metavar="NAME", dest="of", default="", help="of apply, to a lab of several bays: whose file it is, if the file doesn't say so")
+    parser.add_argument("--most", metavar="COUNT", type=int, default=64, help="of split: how many instruments a bay has at most; 64 without")
     add_client(parser)
 
 
@@ -176,6 +178,8 @@ def run_bay(args: argparse.Namespace) -> int:
     from .bay import BayFault
     from .labs import Lab, read_any
 
+    if args.what == "split":
+        return split_bay(args)
     try:
         read = read_any(args.bay)
     except BayFault as fault:
@@ -187,6 +191,13 @@ def run_bay(args: argparse.Namespace) -> int:
         print(f"ok lab {read.name}: {counted(len(read.bays), 'bay')}")
     for bay in read.bays.values() if isinstance(read, Lab) else (read,):
         print(f"ok bay {bay.name}: {counted(len(bay.instruments), 'instrument')}, {counted(len(bay.stations), 'station')}, {counted(bay.guests, 'guest')}, gone = {bay.its_gone.told()}")
+    return 0
+
+
+def split_bay(args: argparse.Namespace) -> int:
+    from .splitting import told
+
+    print("\n".join(told(args.bay, args.most)))
     return 0
 
 
@@ -277,7 +288,7 @@ WORDS = (
     Word("report", "what each station and instrument did, from a state folder", add_past, later("past", "run_report")),
     Word("gantt", "a picture of what was: who held what, and who waited, from a state folder", add_gantt, later("past", "run_gantt")),
     Word("table", "each session of a state folder, with times and notes", add_table, later("past", "run_table")),
-    Word("bay", "bay check: is the bay's file sound; bay apply: the bay goes on as the file has it, without a restart", add_bay, run_bay),
+    Word("bay", "bay check: is the bay's file sound; bay apply: the bay goes on as the file has it; bay split: which bays a lab might have", add_bay, run_bay),
     Word("manual", "writes the man page and the completions", add_help, run_help),
 )
 

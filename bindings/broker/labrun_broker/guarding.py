@@ -40,7 +40,7 @@ def holder_of(instrument: str, session: Optional[Session]) -> Any:
 
 def holders_now(keeping: Kept, names: tuple[str, ...]) -> dict[str, Any]:
     """Of each instrument. (A session that holds, and isn't told so, may be another's after all, if its line doesn't reach the disk.)"""
-    of = {name: session for it in keeping.peers for session in it.by_number.values() if session.holds for name in session.instruments}
+    of = {name: session for it in keeping.peers for session in it.by_number.values() if session.is_at_work for name in session.instruments}
     return {name: holder_of(name, of.get(name)) for name in names}
 
 

@@ -11,6 +11,9 @@ from typing import Optional
 
 MOST_BYTES = 480  # of a text in one line, behind its word; the machine takes 500
 FIRST_WORD = 17  # behind a sum and a blank
+# A limit that is never over, for it is longer than any that a client may ask for: it says that the session is a part of one over as many bays as
+# it has more than this (crossing.py). So that stands in the very line of the hold, before anybody is told of it.
+PART = 1 << 62
 
 # what the records say of an end, by the journal's word for it
 ENDS = {"let_go": "let_go", "left": "gave_up", "lapsed": "gave_up", "stopped": "gave_up", "not_written": "failed"}
@@ -39,7 +42,13 @@ class Left:
     own_limit: Optional[int] = None
     over: str = ""
     person: str = ""
+    # of how many bays its session is, if it is a part of one over several
+    of: int = 0
     _word: str = ""
+
+    def limits(self, limit: Optional[int]) -> None:
+        is_part = limit is not None and limit > PART
+        self.limit, self.of = (None, limit - PART) if limit is not None and is_part else (limit, 0)
 
     def take(self, word: str, text: str) -> None:
         """A note's word, and what is behind it."""
@@ -90,7 +99,7 @@ def sessions_of(journal: bytes) -> dict[int, Left]:
             *its, limit, asked, token = rest.split()
             number, kind, needs, owner, since = (int(it, 16) for it in its)
             found[number] = Left(number, kind, needs, divmod(owner, 1 << 64), int(asked, 16), since, int(token, 16))
-            found[number].limit = None if limit.startswith(b"-") else int(limit, 16)
+            found[number].limits(None if limit.startswith(b"-") else int(limit, 16))
         elif word == b"end" and (of := found.get(int(rest[:16], 16))):
             how, at = rest[17:].split()
             of.how, of.until = how.decode(), int(at, 16)

@@ -19,7 +19,7 @@ from .bay import Bay
 from .errors import BadWish
 from .errors import TimeoutError as TimedOut
 from .folder import Folder, State
-from .journals import notes_of
+from .journals import PART, notes_of
 from .opening import Opened
 from .records import News, Record
 from .settling import Settling, settled
@@ -35,6 +35,7 @@ if TYPE_CHECKING:
 UNTOLD = "the session was taken away before its client was told that it holds"
 ANOTHER = "another connection came for the session"
 NO_WAIT = "was refused, because it doesn't wait (-n, or a timeout of 0)"
+NOT_AT_ONCE = "can't have all that it asks for at once"
 
 
 class Keeping:
@@ -197,10 +198,13 @@ class Keeping:
             raise labrun.Stopped("the broker ends")
         if before is not None:
             self._is_another(before)
-        name, told = wish.station or self.free_label(), asyncio.get_running_loop().create_future()
+        name = wish.station or self.free_label() if wish.crossing is None else wish.crossing.label()
+        told: asyncio.Future[None] = asyncio.get_running_loop().create_future()
         session = Session(0, name, self.places.kind(wish.station), key, told, since=self.now(), home=self)
         session.owner, session.by, session.limit = owner, people.told(wish.person, wish.by) or None, lasting.limit_of(self.bay, wish)
         session.person = wish.person
+        if wish.crossing is not None:
+            session.crossing, session.of = wish.crossing, wish.crossing.of
         self._asks_for(session, wish)
         return session
 
@@ -217,8 +221,10 @@ class Keeping:
         number, sets = max(it._next for it in self.peers), tuple(self.places.bits(choice) for choice in wish.choices)
         self._next = number + 1
         deadline = NEVER if wish.timeout is None else session.since + wishes.milliseconds(wish.timeout)
-        session.is_followed = making_safe.is_followed(self.bay, wish.names)
+        # (of a part, too, the broker sees to the end)
+        session.is_followed = session.of > 0 or making_safe.is_followed(self.bay, wish.names)
         limit = NEVER if session.limit is None or session.is_followed else wishes.milliseconds(session.limit)
+        limit = PART + session.of if session.of else limit
         try:
             self._shell.machine.ask(number, session.key, session.kind, sets, deadline, limit, self.now(), wish.urgent)
         except Refusal as it:
@@ -239,7 +245,7 @@ class Keeping:
         if told.what == HOLDS:
             self._holds(session, told)
         elif told.what == LAPSED:
-            what = "was given up when its time was over" if session.wish.timeout else NO_WAIT
+            what = "was given up when its time was over" if session.wish.timeout else NOT_AT_ONCE if session.of else NO_WAIT
             why = f"session {session.number} of {session.name} {what}: {Standings(self).why(session)}"
             self._fails(session, "gave_up", TimedOut(why))
         elif told.what == NOT_WRITTEN:
@@ -280,6 +286,8 @@ class Keeping:
         elif owner is not None:
             text = f"{session.name}: the session{'' if how == GRACE else f' with {held}'} was taken away {what}"
             self.settling.tells(owner.taken, text)
+        if session.crossing is not None:
+            session.crossing.is_lost(session, how)
 
     def _leaves(self, session: Session, fault: BaseException) -> None:
         """The client waits no longer, or can't be told any more that it holds."""

@@ -34,7 +34,7 @@ def begins(keeping: Keeping, session: Session, wants_warning: bool) -> None:
     stops(session)
     if session.limit is None or not wants_warning:
         return
-    left = session.limit - min(SHARE * session.limit, SOONEST) - (keeping.now() - session.since) / 1000
+    left = session.limit - min(SHARE * session.limit, SOONEST) - (keeping.now() - session.limit_since) / 1000
     # (more than some weeks a loop doesn't take)
     if left < 1e6:
         session.warning = asyncio.get_running_loop().call_later(max(0.0, left), _warns, keeping, session)
@@ -49,7 +49,7 @@ def stops(session: Session) -> None:
 def _warns(keeping: Keeping, session: Session) -> None:
     session.warning = None
     if session.owner is not None and session.limit is not None:
-        left = max(0.0, session.limit - (keeping.now() - session.since) / 1000)
+        left = max(0.0, session.limit - (keeping.now() - session.limit_since) / 1000)
         what, whole = " ".join(session.instruments), _span(session.limit)
         session.owner.warned(f"{session.name} may hold {what} for {whole}, which is over in {span(left, 1)}: then whoever waits for it gets it", left)
 
@@ -68,8 +68,8 @@ def because(keeping: Keeping, session: Session, how: int) -> str:
 
 def watches(keeping: Keeping, session: Session) -> None:
     """It is taken away once its limit is over and somebody waits for what it has."""
-    if session.is_followed and session.limit is not None and session.holds and not keeping._is_closed:
-        left = session.limit - (keeping.now() - session.since) / 1000
+    if session.is_followed and session.limit is not None and session.is_at_work and not keeping._is_closed:
+        left = session.limit - (keeping.now() - session.limit_since) / 1000
         if left > 0:
             asyncio.get_running_loop().call_later(min(left, 1e6), watches, keeping, session)
         else:

@@ -52,7 +52,7 @@ def is_followed(bay: Bay, names: Iterable[str]) -> bool:
 
 def takes_up(keeping: Keeping, session: Session, row: Standing, it: Left) -> None:
     """As a broker left it. (A session whose limit the machine knows asked before there was a command.)"""
-    names_it = it.own_limit is not None or bool(it.over) or is_followed(keeping.bay, session.instruments)
+    names_it = it.of > 0 or it.own_limit is not None or bool(it.over) or is_followed(keeping.bay, session.instruments)
     session.is_followed, session.is_kept = it.limit is None and names_it, keeping.keeps(session)
     if session.is_followed or session.is_kept:
         # (the machine takes each client for gone, and would end the session by itself)

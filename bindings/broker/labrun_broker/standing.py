@@ -22,6 +22,7 @@ from .wishes import Wish
 if TYPE_CHECKING:
     import asyncio
 
+    from .crossing import Crossing
     from .keeping import Keeping
 
 
@@ -82,11 +83,25 @@ class Session:
     safe: Optional[asyncio.Future[None]] = None
     # the bay that it is in
     home: Optional[Keeping] = None
+    # if it is a part of a session over several bays: of how many, which one that is, and when its client was told that it holds them all
+    of: int = 0
+    crossing: Optional[Crossing] = None
+    told_at: Optional[int] = None
 
     @property
     def holds(self) -> bool:
         """And its client was told so."""
         return self.state in ("holding", "gone")
+
+    @property
+    def is_at_work(self) -> bool:
+        """It holds, and so does all that it is a part of."""
+        return self.holds and (self.crossing is None or self.crossing.holds)
+
+    @property
+    def limit_since(self) -> int:
+        """From when on its limit counts."""
+        return self.since if self.told_at is None else self.told_at
 
     def chosen(self, needs: int) -> tuple[str, ...]:
         """Of the sets that it asked for, the one that it holds."""
@@ -245,6 +260,8 @@ class Standings:
     def _about(self, holder: Session, is_named: bool = False) -> str:
         """Who that is, and what somebody has to do if its client is gone."""
         parts = [] if is_named or not holder.by else [holder.by]
+        if holder.crossing is not None and (waits := holder.crossing.waits_where()):
+            parts.append(waits)
         if holder.gone_at is not None:
             see = f"see to it, and then run labrun-broker release {holder.name} --session {holder.number}"
             does = see if holder.is_kept else f"it is released after {self._keeping.its_grace:g} s"

@@ -24,7 +24,7 @@ def takes_up(keeping: Keeping, it: Opened) -> None:
     for owner, taken in mending.ends_of(it.recent):
         keeping._ends.add(owner, taken)
     for one in it.left.values():
-        if one.end == "let_go" or one.what == "taken":
+        if one.end and (one.end == "let_go" or one.what == "taken"):
             keeping._ends.add(one.owner, "" if one.end == "let_go" else f"by {one.taken or 'the broker'}")
     rows = {row.number: row for row in keeping.machine.standings() if row.what == HOLDS}
     names = {number: keeping.places.station(row.kind) or it.left[number].station for number, row in rows.items()}
@@ -55,7 +55,7 @@ def _takes_up_one(keeping: Keeping, row: Standing, it: Left, gone: Optional[floa
     told.set_result(None)
     session = Session(row.number, it.station, row.kind, row.owner, told, state="gone", since=row.since, token=row.token, by=it.by or None, home=keeping)
     session.person = it.person
-    session.limit = None if it.limit is None else it.limit / 1000
+    session.limit, session.of = None if it.limit is None else it.limit / 1000, it.of
     session.instruments, session.note = keeping.places.names(row.needs), it.notes[-1] if it.notes else None
     making_safe.takes_up(keeping, session, row, it)
     if session.state == "gone":

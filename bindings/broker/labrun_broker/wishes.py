@@ -6,7 +6,7 @@ import hashlib
 import math
 import secrets
 from dataclasses import dataclass, replace
-from typing import Any, Optional, Sequence
+from typing import TYPE_CHECKING, Any, Optional, Sequence
 
 from labrun import LabrunError, MayNotUse, NotHeld
 from labrun.picks import NoSuch, TooFew, TooMany, is_plain, near, sets_of
@@ -14,6 +14,9 @@ from labrun.picks import NoSuch, TooFew, TooMany, is_plain, near, sets_of
 from . import rights
 from .bay import MOST_SECONDS, Bay
 from .errors import BadWish, NoInstrument
+
+if TYPE_CHECKING:
+    from .crossing import Crossing
 
 MOST_CHOICES, LEAST_TICKET, MOST_NEAR = 100, 16, 32
 KEPT_IN_MEMORY = 1000  # ends
@@ -65,8 +68,9 @@ class Wish:
     limit: Optional[float] = None
     wants_warning: bool = False
     urgent: bool = False
-    # who asks, where the bay names people: no client says this of itself
+    # no client says these of itself: who asks, where the bay names people; and of what it is a part, in one of several bays
     person: str = ""
+    crossing: Optional[Crossing] = None
 
     @property
     def choices(self) -> tuple[tuple[str, ...], ...]:

@@ -120,12 +120,12 @@ class Holds(OnBays):
         self.assertEqual((await self.holds(bays, "2 of load-[23]")).instruments, ("load-2", "load-3"))
         self.assertEqual((await self.holds(bays, "tag:slow", station="heat")).instruments, ("oven",))
 
-    async def test_what_is_of_two_bays_is_refused_and_says_so(self) -> None:
+    async def test_what_is_of_two_bays_is_had_of_both(self) -> None:
         bays = await self.bays(state=False)
-        for wish in (Wish(("scope", "oven")), Wish(("load-*",)), Wish(any_of=(("scope",), ("oven",)))):
-            with self.assertRaisesRegex(BadWish, "of the bay north and .* of the bay south, and a session is in one bay"):
-                await bays.hold(wish, self.owner)
-        self.assertEqual((bays.refusals, bays.status()["refusals"]), (3, 3))
+        for wish, held in ((Wish(("scope", "oven")), ("scope", "oven")), (Wish(("load-*",)), ("load-1",)), (Wish(any_of=(("supply",), ("oven",))), ("supply",))):
+            session = await asyncio.wait_for(bays.hold(wish, self.owner), 10)
+            self.assertEqual(session.instruments, held)
+            await bays.let_go(session, self.owner)
 
     async def test_what_no_bay_has(self) -> None:
         bays = await self.bays(state=False)

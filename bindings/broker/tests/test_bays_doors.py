@@ -20,7 +20,7 @@ class OfLab(Broker):
     opens = ": lab "
 
 
-class Doors(unittest.TestCase):
+class OnLab(unittest.TestCase):
     def setUp(self) -> None:
         self.folder = self.enterContext(tempfile.TemporaryDirectory())
         written(self.folder)
@@ -37,6 +37,8 @@ class Doors(unittest.TestCase):
         self.assertEqual(it.returncode, status, it.stderr)
         return it.stdout if status == 0 else it.stderr
 
+
+class Doors(OnLab):
     def taken(self) -> Any:
         return self.assertRaises(labrun_broker.TakenAway)
 
@@ -68,7 +70,7 @@ class Doors(unittest.TestCase):
         self.ran(at, "disable", "oven", "cold")
         self.assertIn("oven has been out of order", self.ran(at, "status"))
         self.ran(at, "enable", "oven")
-        self.assertIn("a session is in one bay", self.ran(at, "hold", "scope", "oven", "--", "true", status=1))
+        self.assertEqual(self.ran(at, "hold", "oven", "scope", "--", "sh", "-c", "echo $LABRUN_HELD"), "oven scope\n")
 
     def test_the_bays_files_are_applied(self) -> None:
         at, path = self.broker(), f"{self.folder}/bay.toml"

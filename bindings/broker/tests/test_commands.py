@@ -124,7 +124,7 @@ class WithoutBroker(unittest.TestCase):
             (["status", "board"], "status [-h] [--json]", "unrecognized arguments: board; labrun-broker status --help"),
             (["release"], "release [-h] [--session N]", "the following arguments are required: STATION; labrun-broker release --help"),
             (["manual"], "manual [-h]", "the following arguments are required: {man,bash,zsh}; labrun-broker manual --help"),
-            (["bay", "chek", "bay.toml"], "bay [-h] [--check]", "argument {check,apply}: invalid choice: 'chek' (choose from 'check', 'apply'); labrun-broker bay --help"),
+            (["bay", "chek", "bay.toml"], "bay [-h] [--check]", "argument {check,apply,split}: invalid choice: 'chek' (choose from 'check', 'apply', 'split'); labrun-broker bay --help"),
         ):
             with self.subTest(words):
                 said = self.said(*words)

@@ -1,0 +1,224 @@
+"""One session over several bays, as its client has it: in each of them it has a *part*, which is a session of that bay like any other, and by
+the same ticket. Which bay gives what is for that bay to say, and in which order they are asked is said elsewhere (over.py). Here stands what
+the parts have in common: the client is told that it holds only once all of them do, and when one ends, all do.
+
+To a bay it is the owner of its part; to the doors it is a session, and the keeper of it."""
+
+from __future__ import annotations
+
+import asyncio
+from dataclasses import replace
+from typing import TYPE_CHECKING, Any, Callable, Iterator, Optional
+
+import labrun
+from labrun import NotHeld
+from labrun.machine import TAKEN
+
+from . import lasting, making_safe
+from .keeping import ANOTHER, UNTOLD, Keeping
+from .standing import Owner, Session
+from .together import all_of
+from .wishes import Ended, Wish
+
+if TYPE_CHECKING:
+    from .bays import Bays
+
+
+class Crossing(Session):
+    """`homes` are its bays, in the order of the lab's file; `parts` those sessions that have been asked for."""
+
+    def __init__(self, bays: Bays, homes: tuple[Keeping, ...], key: tuple[int, int], wish: Wish, owner: Optional[Owner]) -> None:
+        super().__init__(0, "", 0, key, asyncio.get_running_loop().create_future(), wish, instruments=wish.names, of=len(homes))
+        self.owner, self.person = owner, wish.person
+        self.homes, self.parts = homes, dict[str, Session]()
+        self.fault: Optional[BaseException] = None
+        self._bays = bays
+        bays.crossings[key] = self
+
+    def its(self) -> Iterator[tuple[Keeping, Session]]:
+        """Its parts, the first one first."""
+        return ((it, self.parts[it.bay.name]) for it in self.homes if it.bay.name in self.parts)
+
+    def label(self) -> str:
+        """The guest's name, which is the same in all bays."""
+        return next((it.name for _, it in self.its() if it.state != "over"), self._bays.peers[0].free_label())
+
+    # ---- until its client is told that it holds
+
+    async def asks(self, home: Keeping, choices: tuple[tuple[str, ...], ...], timeout: Optional[float]) -> Session:
+        """Returns the part in this bay once it holds. Whatever is raised, nothing is held any more."""
+        part = replace(self.wish, instruments=(), any_of=choices, timeout=timeout, pings=False, wants_warning=False, crossing=self)
+        try:
+            session = await home.hold(part, self, lambda it: self._is_asked(home, it))
+            if self.fault is not None:
+                raise self.fault
+            return session
+        except BaseException as fault:
+            self.gives_up(fault)
+            raise
+
+    def _is_asked(self, home: Keeping, part: Session) -> None:
+        self.parts[home.bay.name] = part
+        self.name, self.number = part.name, self.number or part.number
+        if self.fault is not None:
+            home._leaves(part, self.fault)
+
+    def gives_up(self, fault: BaseException) -> None:
+        """Nobody was told that it holds. It lets go of what it has, the last one first."""
+        if self.state != "waiting":
+            return
+        self.fault = fault
+        self._is_over()
+        for home, part in reversed(list(self.its())):
+            # (what is held in the journal of a bay that is closed is let go of when that one begins again)
+            if not home._is_closed:
+                home._leaves(part, fault)
+
+    def is_whole(self, ago: int = 0) -> Session:
+        """All of its parts hold, and that is on the disk: its client is told now, or was so many milliseconds ago."""
+        its, held = list(self.its()), {name for _, it in self.its() for name in it.instruments}
+        # (in the order in which its client named them)
+        self.instruments = next(tuple(dict.fromkeys(it)) for it in self.wish.choices if set(it) == held)
+        self.state, self.number = "holding", its[0][1].number
+        self.is_kept = any(home.keeps(part) for home, part in its)
+        for home, part in its:
+            part.is_kept, part.told_at = self.is_kept, home.now() - ago
+            lasting.watches(home, part)
+            home._news.changed()
+        if self.owner is not None:
+            self.heard(self, self.owner, self.wish.pings)
+            self._warns(self.wish.wants_warning)
+        return self
+
+    def _warns(self, wants_warning: bool) -> None:
+        """Of the limit that is over first."""
+        limits = [(part.limit, home.bay.name) for home, part in self.its() if part.limit is not None]
+        for home, part in self.its():
+            lasting.begins(home, part, wants_warning and (part.limit, home.bay.name) == min(limits, default=None))
+
+    # ---- while it holds: each part is asked
+
+    async def hold(self, wish: Wish, owner: Owner, waits: Optional[Callable[[Session], None]] = None) -> Session:
+        """Its client comes back."""
+        part = replace(wish, instruments=(), any_of=(), comes_back=True, wants_warning=False)
+        try:
+            for home in self.homes:
+                await home.hold(part, self)
+        except BaseException:
+            if self.owner is None:
+                for home, one in self.its():
+                    home.gone(one, self)
+            raise
+        if self.owner is not None and self.owner is not owner:
+            self.owner.taken(ANOTHER)
+        self.owner, self.state, self.person = owner, "holding", self.person or wish.person
+        self._warns(wish.wants_warning)
+        return self
+
+    def _is_of(self, owner: Owner) -> None:
+        if self.owner is not owner or not self.holds:
+            raise NotHeld("the session is over, or another connection came for it")
+
+    async def let_go(self, _: Session, owner: Owner, failed: Optional[str] = None) -> None:
+        """The last part first. (Whoever is cancelled meanwhile has let go all the same.)"""
+        self._is_of(owner)
+        self._is_over()
+        tasks = [asyncio.ensure_future(home.let_go(part, self, failed)) for home, part in reversed(list(self.its()))]
+        for it in tasks:
+            self._bays.tasks.add(it)
+            it.add_done_callback(self._bays.tasks.discard)
+        await asyncio.wait(tasks)
+        faults = [fault for it in tasks if (fault := it.exception()) is not None]
+        for fault in sorted(faults, key=lambda it: not isinstance(it, labrun.JournalError)):
+            raise fault
+
+    async def notes(self, owner: Owner, text: str) -> None:
+        """It stands in the first bay alone, so that it is read once."""
+        self._is_of(owner)
+        home, part = next(self.its())
+        await home.note(part, self, text)
+
+    def heard(self, _: Session, owner: Owner, says_so: bool = False) -> bool:
+        return self.owner is owner and self.holds and all([home.heard(part, self, says_so) for home, part in self.its()])
+
+    def gone(self, _: Session, owner: Owner) -> None:
+        if self.owner is owner and self.holds:
+            self.owner, self.state = None, "gone"
+            for home, part in self.its():
+                home.gone(part, self)
+
+    def lease_of(self, _: Session) -> Optional[float]:
+        return min((it for home, part in self.its() if (it := home.lease_of(part)) is not None), default=None)
+
+    def grace_of(self, _: Session) -> float:
+        return min(home.grace_of(part) for home, part in self.its())
+
+    # ---- its end
+
+    def _is_over(self) -> None:
+        self.state = "over"
+        if self._bays.crossings.get(self.key) is self:
+            del self._bays.crossings[self.key]
+
+    def is_lost(self, of: Session, how: int) -> None:
+        """One of its parts was taken away: so are the others."""
+        if not self.holds:
+            return self.gives_up(Ended("TakenAway", UNTOLD))
+        self._is_over()
+        for home, part in reversed(list(self.its())):
+            if part is not of and part.holds:
+                part.taken_by = of.taken_by
+                if how == TAKEN:
+                    home._notes(part, "taken", part.taken_by)
+                making_safe.takes(home, part, how)
+
+    async def release(self, by: str, person: str = "") -> tuple[str, ...]:
+        """Somebody ends it, perhaps before its client is told that it holds; what it held."""
+        its = [(home, part) for home, part in self.its() if part.holds]
+        names = tuple(name for _, part in its for name in part.instruments)
+        home, part = its[0]
+        await home.release(part.name, by, part.number, person)
+        await asyncio.gather(*(it._shell.durable(takes_all=True) for it, _ in its[1:]))
+        return names
+
+    # what a bay tells the owner of its part
+
+    def taken(self, why: str) -> None:
+        if self.holds and self.owner is not None:
+            owner, self.owner = self.owner, None
+            owner.taken(why)
+
+    def warned(self, text: str, seconds: float) -> None:
+        if self.owner is not None:
+            self.owner.warned(text, seconds)
+
+    @property
+    def host(self) -> Optional[str]:
+        return getattr(self.owner, "host", None)
+
+    @property
+    def context(self) -> Any:
+        """(By which a guard knows the client's machine.)"""
+        return getattr(self.owner, "context", None)
+
+    # ---- what is told of one that waits
+
+    def _waiting(self) -> Optional[tuple[Keeping, Session]]:
+        return next(((home, part) for home, part in self.its() if part.state == "waiting"), None) if self.state == "waiting" else None
+
+    def for_whom(self, _: Session) -> tuple[list[dict[str, Any]], str, tuple[Any, ...]]:
+        """Whom it waits for, in which bay, and what it holds already."""
+        if (it := self._waiting()) is None:
+            return [], "", ()
+        home, part = it
+        keepers, why, changes = home.for_whom(part)
+        held = [name for _, one in self.its() if one.holds for name in one.instruments]
+        text = f"in the bay {home.bay.name}: {why}" + (f"; it holds {all_of(held)} already" if held else "")
+        return keepers, text, (home.bay.name, changes)
+
+    def waits_where(self) -> str:
+        """For whoever waits for what it holds already. Nothing: it waits for nothing."""
+        if (it := self._waiting()) is None:
+            return ""
+        home, part = it
+        return f"which waits in the bay {home.bay.name}, too: {home.for_whom(part)[1]}"
