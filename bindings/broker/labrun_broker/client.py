@@ -64,7 +64,9 @@ class Lab:
         self._metadata = (("authorization", f"Bearer {token}"),) if token else ()
         self._idle: list[Stream] = []
         self._held: set[Held] = set()
+        # who waits, and who is leaving the line
         self._waiting: set[asyncio.Task[Any]] = set()
+        self._leaving: set[asyncio.Task[None]] = set()
         self._loop = loop_of_this_process()
         self._process = os.getpid()
         self._was_there = self._is_closed = self._has_left = False

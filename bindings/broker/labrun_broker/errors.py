@@ -97,6 +97,8 @@ def raised(fault: Any) -> Exception:
 
 
 CLOSED = "it closed the connection"
+# of whom no word comes
+SILENT = "(it is stopped, or the network is cut)"
 # what gRPC says where it can't connect, and what that means; first where somebody listens
 IS_THERE = {
     "Socket closed": CLOSED,
@@ -108,7 +110,7 @@ IS_THERE = {
 HINTS = IS_THERE | {
     "Broken pipe": CLOSED,
     "Permission denied": "permission denied",
-    "before receiving SETTINGS frame": "it doesn't answer",
+    **dict.fromkeys(("before receiving SETTINGS frame", "keepalive watchdog timeout", "ping timeout"), f"it doesn't answer {SILENT}"),
     "C-ares status is not ARES_SUCCESS": "no machine of that name is known here",
 }
 
@@ -135,7 +137,7 @@ def plainly(address: str, text: str, may_want_tls: bool) -> str:
 def why_lost(address: str, code: Any, text: str, may_want_tls: bool = False) -> Exception:
     """`may_want_tls`: it was never reached, and without a certificate."""
     if code is grpc.StatusCode.DEADLINE_EXCEEDED:
-        return AnswerLost(f"the broker at {address} doesn't answer")
+        return AnswerLost(f"the broker at {address} doesn't answer {SILENT}")
     if code in (grpc.StatusCode.UNAVAILABLE, grpc.StatusCode.UNKNOWN, grpc.StatusCode.CANCELLED):
         why = plainly(address, text, may_want_tls)
         return (AnswerLost if why == CLOSED else Unreachable)(f"the broker at {address} can't be reached: {why}")

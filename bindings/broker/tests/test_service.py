@@ -20,6 +20,7 @@ import grpc
 import labrun
 import labrun_broker
 from labrun_broker import broker_pb2 as pb
+from labrun_broker import coming
 from labrun_broker import held as sessions
 from labrun_broker.bay import BadAddress
 from labrun_broker.door import Door, Seldom, is_loopback
@@ -192,7 +193,7 @@ class Clients(OnBroker):
     def test_who_waits_while_brokers_come_and_go(self) -> None:
         """It tries for a while to reach each of them, however long ago it lost the first."""
         broker = self.broker(BAY, "--state", "FOLDER/state")
-        self.enterContext(unittest.mock.patch.object(sessions, "GRACE", 12.0))
+        self.enterContext(unittest.mock.patch.object(coming, "GRACE", 12.0))
         lab, got = self.lab(broker), list[str]()
         held = lab.hold("scope")
         held.acquire()
