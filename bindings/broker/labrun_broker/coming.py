@@ -5,7 +5,7 @@ from __future__ import annotations
 import asyncio
 from typing import TYPE_CHECKING, Any, Coroutine, Optional
 
-from .errors import SILENT, Unreachable, raised
+from .errors import SILENT, Unreachable, is_for_good, raised
 from .stream import AGAIN, LATE, Lost, Silent, Stream
 from .work import clock
 
@@ -103,7 +103,7 @@ class Coming:
         lab, now = self._lab, self._loop.time()
         patience = GRACE if lab._was_there else lab._brokers.patience
         is_over = self._lost_at is not None and now > self._lost_at + patience or self._until is not None and now > self._until
-        if lost.code not in AGAIN or not patience or is_over:
+        if lost.code not in AGAIN or is_for_good(str(lost)) or not patience or is_over:
             raise lab._why_lost(lost.code, str(lost)) from None
         if self._lost_at is None and lab._brokers.is_list:
             self._held._waits_for(f"no broker of {lab.address} answers")
