@@ -150,7 +150,7 @@ async def guards(table: dict[str, dict[str, Any]], args: argparse.Namespace, lab
         for (name, row), server in zip(table.items(), servers):
             say(f"guards {name} at {row['instrument']}: clients come to {address_of(server)}")
         tell_systemd("READY=1")
-        await hears(its, lab)
+        await hears(its, lab, args)
     finally:
         for guard in its.values():
             guard.told(None)
@@ -178,8 +178,9 @@ async def listens(guard: Guard, at: str, context: Optional[ssl.SSLContext]) -> a
         raise BadAddress(f"{at}: it can't listen there: {why}") from None
 
 
-async def hears(its: dict[str, Guard], lab: Lab) -> None:
-    """Goes on to hear who holds. While the broker is away who is let through stays so, and no other session is."""
+async def hears(its: dict[str, Guard], lab: Lab, args: argparse.Namespace) -> None:
+    """Goes on to hear who holds. While the broker is away who is let through stays so, and no other session is. One that is back may have
+    another certificate."""
     import grpc
 
     from . import broker_pb2 as pb
@@ -190,6 +191,7 @@ async def hears(its: dict[str, Guard], lab: Lab) -> None:
     seldom = Seldom(SELDOM)
     while True:
         try:
+            await lab._reads_again(args.certificate, args.token_file)
             # (of several the one that leads now)
             await lab._brokers.looks()
             async for told in lab._methods["Guard"](pb.GuardWish(instruments=list(its)), metadata=lab._metadata):

@@ -16,7 +16,7 @@ from labrun.machine import GRACE, HOLDS, LAPSED, NEVER, NOT_WRITTEN, TAKEN, WAS_
 
 from . import lasting, leases, making_safe, outage, people, rights, turning, wishes
 from .bay import Bay
-from .errors import BadWish
+from .errors import BadWish, JournalError
 from .errors import TimeoutError as TimedOut
 from .folder import Folder, State
 from .journals import PART, notes_of
@@ -380,7 +380,11 @@ class Keeping:
             self._shell.machine.take_away(session.number, self.now())
             self._shell.pump()
         self._news.write()
-        await self._shell.durable(takes_all=True)
+        try:
+            await self._shell.durable(takes_all=True)
+        except labrun.JournalError as fault:
+            until = "until that is written a broker that begins anew has it again, and nobody else comes to hold what it held"
+            raise JournalError(f"{station}'s session is ended, but {until}: {fault}") from None
         return instruments
 
     # ---- clients that are gone

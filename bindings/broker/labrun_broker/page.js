@@ -100,7 +100,7 @@ function rowOf(it, long) {
   const row = make("div", `row ${kind}${it.holder ? " held" : ""}${long && it.holder === long.name && it.waiting.length ? " worst" : ""}`, make("span", "name", named(it.name)));
   row.dataset.instrument = it.name;
   const ending = it.being_made_safe == null ? ["free soon, after "] : ["is being made safe after "];
-  const state = make("span", "state", ...(it.holder ? [...(isEnding ? ending : []), named(it.holder), isGone ? " is gone" : ""] : [isOut ? "out of order" : "free"]));
+  const state = make("span", "state", ...(it.holder ? [...(isEnding ? ending : []), named(it.holder), isGone ? " is gone" : holder && holder.state === "waiting" ? ", once that is written" : ""] : [isOut ? "out of order" : "free"]));
   if (WALL && it.bay) row.title = it.bay;
   if (holder && holder.by) state.append(make("span", "soft", " by ", named(holder.by)));
   row.append(state, make("span", "since", since(isEnding ? holder.since : it.holder ? it.since : null)));

@@ -12,9 +12,11 @@ import threading
 import time
 from typing import TYPE_CHECKING, Callable, Iterator, Optional, TypeVar, Union
 
+from .credentials import DEFAULT, token_in, user
 from .family import TELLING, Family, adopting, ends
-from .quick import DEFAULT, Absent, Odd, Quick, Silent, Wish, token_in, user
+from .quick import Quick, Wish
 from .texts import addresses_of, last, plain, seconds
+from .wire import Absent, Odd, Silent
 from .words import CANT_RUN, NOT_FOUND, PROGRAM, TAKEN, USAGE, add_client, lab_of, say
 
 if TYPE_CHECKING:

@@ -335,8 +335,10 @@ async def start(keeping: Kept, door: Door, entrance: Optional[Entrance] = None) 
     service, credentials = Service(keeping, entrance or Entrance(keeping, door.token()), fronts), door.credentials()
     within = {it: it + WITHIN if fronts is not None and it.startswith("unix:") else it for it in door.addresses}
     # (a server of gRPC that is made and not started may keep the program from ending, so all is looked at before)
-    for address in {*within, *within.values()}:
+    for address, inner in within.items():
         check_free(address)
+        if inner != address:
+            check_free(inner, address)
     asyncio.get_running_loop().set_exception_handler(Complaints())
     server = grpc.aio.server(options=OPTIONS)
     server.add_generic_rpc_handlers((_methods(service),))

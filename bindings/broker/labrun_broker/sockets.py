@@ -40,8 +40,8 @@ def family_of(host: str) -> socket.AddressFamily:
     return socket.AF_INET6 if ":" in host else socket.AF_INET
 
 
-def clear(path: str) -> None:
-    """Nobody listens there. A socket that a broker left which is gone is taken away."""
+def clear(path: str, told: Optional[str] = None) -> None:
+    """Nobody listens there. A socket that a broker left which is gone is taken away. `told` is the address that people know it by."""
     folder = os.path.dirname(os.path.abspath(path))
     if not os.access(folder, os.W_OK):
         raise BadAddress(f"unix:{path}: no socket can be made in {folder}")
@@ -57,7 +57,7 @@ def clear(path: str) -> None:
             return
         except OSError as fault:
             raise BadAddress(f"unix:{path}: {fault.strerror or fault}") from None
-    raise BadAddress(f"unix:{path}: another broker listens there")
+    raise BadAddress(f"{told or f'unix:{path}'}: another broker listens there")
 
 
 @contextlib.contextmanager

@@ -9,7 +9,7 @@ import socket
 import sys
 from typing import TYPE_CHECKING, Any, Callable, NamedTuple
 
-from .quick import CERTIFICATE_FILE, DEFAULT, TOKEN_FILE
+from .credentials import CERTIFICATE_FILE, DEFAULT, TOKEN_FILE
 from .texts import address
 
 if TYPE_CHECKING:

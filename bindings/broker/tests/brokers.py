@@ -61,6 +61,14 @@ def free_port() -> int:
             return port
 
 
+def certificate(folder: str, name: str = "certificate", key: str = "key", of: str = "DNS:localhost") -> tuple[str, str]:
+    """A certificate and its key, made anew: their files."""
+    words = ["openssl", "req", "-x509", "-newkey", "ec", "-pkeyopt", "ec_paramgen_curve:prime256v1", "-nodes", "-days", "2", "-subj", "/CN=it"]
+    words += ["-addext", f"subjectAltName={of}", "-keyout", f"{folder}/{key}", "-out", f"{folder}/{name}"]
+    subprocess.run(words, check=True, capture_output=True)
+    return f"{folder}/{name}", f"{folder}/{key}"
+
+
 class Broker:
     """`labrun-broker serve`, begun anew as often as wanted."""
 

@@ -5,8 +5,10 @@ from __future__ import annotations
 
 import json
 import os
+import select
 import shutil
 import signal
+import socket
 import subprocess
 import tempfile
 import time
@@ -307,6 +309,33 @@ class Held(OnBroker):
                     pass
                 broker.process.send_signal(signal.SIGCONT)
                 self.assertEqual((asks.wait(LIMIT), waits.wait(LIMIT), holder.wait(LIMIT)), (0, 0, 0))
+
+    def test_a_signal_while_its_wish_is_on_its_way(self) -> None:
+        """To a broker that has much to do. It is told that this waits no longer once it has read the wish, and again if it didn't answer."""
+        path = f"{self.room}/busy.sock"
+        with socket.socket(socket.AF_UNIX) as listens:
+            listens.bind(path)
+            listens.listen()
+            listens.settimeout(LIMIT)
+            one = subprocess.Popen([self.program, "scope", "--broker", f"unix:{path}", "--", "true"], stderr=subprocess.PIPE, text=True)
+            self.addCleanup(one.communicate)
+            self.addCleanup(one.kill)
+            wish, _ = listens.accept()
+            asked = wish.recv(4096)
+            self.assertTrue(asked.startswith(b"POST /v1/sessions?"))
+            one.terminate()
+            assert one.stderr is not None
+            self.assertIn("the broker doesn't answer, and is told for some seconds", one.stderr.readline())
+            self.assertEqual(select.select([listens], [], [], 0)[0], [])
+            body = b'{"state": "holding", "station": "guest-1", "instruments": ["scope"], "token": 1}'
+            wish.sendall(b"HTTP/1.1 200 OK\r\nContent-Length: %d\r\n\r\n%s" % (len(body), body))
+            for answer in (b"", b"HTTP/1.1 200 OK\r\nContent-Length: 2\r\n\r\n{}"):
+                tells, _ = listens.accept()
+                self.assertTrue(tells.recv(4096).startswith(b"DELETE /v1/sessions/"))
+                tells.sendall(answer)
+                tells.close()
+            wish.close()
+            self.ends(one, 128 + signal.SIGTERM)
 
     def waits(self, broker: Broker, *words: str) -> "subprocess.Popen[str]":
         one = subprocess.Popen([self.program, *words], env=self.environment(broker), stderr=subprocess.PIPE, text=True)

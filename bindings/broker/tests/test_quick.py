@@ -12,7 +12,8 @@ from unittest import mock
 import labrun_broker
 from labrun_broker import quick, run
 from labrun_broker.command import main
-from labrun_broker.quick import HELD, Odd, Wire, _field, _fields, _number, _text
+from labrun_broker.quick import HELD
+from labrun_broker.wire import Odd, Wire, _number, field, fields_of, text_field
 from tests.brokers import BAY, LIMIT, SOON, Broker, OnBroker, station, until
 
 RELEASES = BAY.replace('bay = "north"', 'bay = "north"\ngone = "release"')
@@ -229,7 +230,7 @@ class Quick(OnBroker):
 
     def test_a_broker_that_is_stopped(self) -> None:
         """A time limit is kept all the same, and nothing is held once the broker goes on. (Without one it would wait for a word.)"""
-        program = f"import sys; from labrun_broker import command, quick; quick.SILENT = {10 * LIMIT}; sys.exit(command.main())"
+        program = f"import sys; from labrun_broker import command, wire; wire.SILENT = {10 * LIMIT}; sys.exit(command.main())"
         for bay in (BAY, RELEASES):
             for limit, seconds in ((["-n"], 0.0), (["--timeout", "2"], 2.0)):
                 with self.subTest(bay, limit=limit):
@@ -309,9 +310,9 @@ class Numbers(unittest.TestCase):
     def test_protobuf(self) -> None:
         """By the encoding's own examples: 150 is 96 01, and field 2 with `testing` is 12 07 and its letters."""
         self.assertEqual((_number(150), _number(1), _number(300)), (b"\x96\x01", b"\x01", b"\xac\x02"))
-        self.assertEqual(_text(2, "testing"), b"\x12\x07testing")
-        told = b"\x08\x96\x01" + _text(2, "testing") + _field(2, b"") + b"\x19" + bytes(8)
-        self.assertEqual(_fields(told), {1: [150], 2: [b"testing", b""], 3: [bytes(8)]})
+        self.assertEqual(text_field(2, "testing"), b"\x12\x07testing")
+        told = b"\x08\x96\x01" + text_field(2, "testing") + field(2, b"") + b"\x19" + bytes(8)
+        self.assertEqual(fields_of(told), {1: [150], 2: [b"testing", b""], 3: [bytes(8)]})
 
 
 if __name__ == "__main__":
