@@ -8,24 +8,18 @@ import contextlib
 import fnmatch
 import json
 import os
-import random
-import re
-import shutil
-import signal
 import ssl
 import subprocess
 import sys
-import tempfile
 import threading
-import time
 import urllib.error
 import urllib.request
-from typing import Any, Iterator, Optional
+from typing import Any, Optional
 
 from labrun_broker.etcd import Etcd, EtcdError, NoAnswer
 from labrun_broker.people import HASH, digest_of, new_token
 from tests.brokers import COMMAND, TOP
-from tests.machines import MACHINES, NET, Machine, Net, ip, until, why_not
+from tests.machines import MACHINES, NET, Machine, Net, until
 from tests.week_words import Sentences
 
 sys.path.insert(0, f"{TOP}/examples/broker")
@@ -50,7 +44,8 @@ at=()
 for name in $LABRUN_HELD; do
     exec {one}<>"/dev/tcp/127.0.0.1/${port[$name]}"
     read -r -t 60 word <&$one; [ "$word" = READY ] || echo "busy $name"
-    echo "ADD 1" >&$one; read -r -t 60 word <&$one; at+=($one)
+    echo "READ?" >&$one; read -r -t 60 word <&$one; [ "$word" -lt "$LABRUN_TOKEN" ] || echo "late $name"
+    echo "SET $LABRUN_TOKEN" >&$one; read -r -t 60 word <&$one; at+=($one)
 done
 read -r -t "$2"
 for one in "${at[@]}"; do echo BYE >&$one; read -r -t 60 word <&$one; exec {one}>&-; done
