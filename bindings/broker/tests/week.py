@@ -27,7 +27,7 @@ import subprocess
 import sys
 import tempfile
 import time
-import urllib.request
+import urllib.parse
 from typing import Iterator
 
 from tests.brokers import TOP
@@ -116,12 +116,12 @@ def until_given(lab: Lab, upto: int) -> None:
 
 def everybody_can_hold_everything(lab: Lab) -> None:
     for person in lab.model.people:
-        its = lab.model.allowed(person)
-        told = lab.asks(person, "POST", "/v1/sessions?wait=30", {"instruments": its, "timeout": 30, "ticket": f"the last one of {person:24}"})
-        if told is None or told.get("state") != "holding":
+        its, ticket = lab.model.allowed(person), f"the last one of {person:24}"
+        wish = {"instruments": its, "ticket": ticket}
+        told = until(lambda: (it := lab.asks(person, "POST", "/v1/sessions?wait=30", wish)) and it.get("state") != "waiting" and it, f"{person} is answered")
+        if told.get("state") != "holding":
             lab.fault(f"{person} can't hold {len(its)} instruments: {told}")
-        else:
-            lab.asks(person, "DELETE", f"/v1/sessions/{urllib.request.quote(told['ticket'])}")  # type: ignore[attr-defined]
+        until(lambda: lab.asks(person, "DELETE", f"/v1/sessions/{urllib.parse.quote(ticket)}"), f"{person} has let go")
 
 
 def look_at_records(lab: Lab) -> None:

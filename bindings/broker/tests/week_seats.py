@@ -245,7 +245,7 @@ class Seat:
     def _is_released(self, station: str, number: int) -> None:
         words = ["release", station, *(["--session", str(number)] if number and self.chance.random() < 0.5 else [])]
         who = self.chance.choice([*OPERATORS, *([self.person] if self.person in self.lab.model.people else [])])
-        status, text = self.lab.command(who, *words)
+        status, text = self.lab.does(who, *words)
         if status:
             self.lab.fault(f"{' '.join(words)} by {who}: {status}, {text}")
 
