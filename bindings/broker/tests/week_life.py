@@ -3,6 +3,7 @@
 from __future__ import annotations
 
 import copy
+import json
 import os
 import random
 import re
@@ -25,39 +26,55 @@ class Operator:
         self.lab, self.chance = lab, random.Random(f"{lab.args.seed} operator")
         self._out, self._at, self._seen = lab.out, 0, dict[int, float]()
         self._is_over = threading.Event()
-        self._thread = threading.Thread(target=self._runs, daemon=True)
+        loops = (self._sees_to_what_is_gone, self._changes_what_is_out)
+        self._threads = [threading.Thread(target=self._goes_on, args=(it,), daemon=True) for it in loops]
 
     def __enter__(self) -> None:
-        self._thread.start()
+        for it in self._threads:
+            it.start()
 
     def __exit__(self, *_: object) -> None:
         self._is_over.set()
-        self._thread.join(LONG)
+        for it in self._threads:
+            it.join(LONG)
         for name in list(self._out):
             self._does("enable", name)
 
-    def _runs(self) -> None:
+    def _goes_on(self, loop: Callable[[], None]) -> None:
         while not self._is_over.wait(1.0):
             try:
-                self._looks()
+                loop()
             except Exception as fault:
                 self.lab.fault(f"the operator: {type(fault).__name__}: {fault}")
 
-    def _looks(self) -> None:
+    def _sees_to_what_is_gone(self) -> None:
         lab = self.lab
-        status = lab.status()
-        for one in status["stations"]:
+        for one in lab.status()["stations"]:
             for keeper in one["waits_for"]:
                 lab.said.add("the status, waits_for", keeper["text"])
             if one["state"] == "gone" and self._is_seen_to(one):
-                status_of, text = lab.does(self.chance.choice(OPERATORS), "release", one["name"], "--session", str(one["session"]))
-                if status_of not in (0, 1):
-                    lab.fault(f"release {one['name']} --session {one['session']}: {status_of}, {text}")
+                self._releases(one["name"], one["session"])
+
+    def _releases(self, station: str, session: int) -> None:
+        """By a command, or by HTTP. (It may have come back, or be over, by now.)"""
+        lab, who = self.lab, self.chance.choice(OPERATORS)
+        if self.chance.random() < 0.2:
+            status, text = lab.does(who, "release", station, "--session", str(session))
+            if status not in (0, 1):
+                lab.fault(f"release {station} --session {session}: {status}, {text}")
+            return
+        told = until(lambda: lab.asks(who, "POST", "/v1/release", {"station": station, "session": session}), "a broker answers")
+        lab.said.add("POST /v1/release", told.get("text") or json.dumps(told))
+        if told.get("kind") not in (None, "NotHeld", "BadWish", "JournalError"):
+            lab.fault(f"POST /v1/release of {station}, {session}: {told}")
+
+    def _changes_what_is_out(self) -> None:
+        lab = self.lab
         self._at += 1
         if self._at % 10 == 0:
             lab.command(self.chance.choice(lab.model.people), "status")
         if self._at % 7 == 0:
-            self._tries(status)
+            self._tries(lab.status())
         for name, until_then in list(self._out.items()):
             if time.monotonic() > until_then or lab.is_evening:
                 self._does("enable", name)

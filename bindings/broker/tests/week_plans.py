@@ -8,7 +8,7 @@ from typing import Any
 from tests.week_world import STATIONS, Model
 
 Plan = dict[str, Any]
-KINDS = {"python": 52, "http": 21, "hold": 9, "labrun-hold": 14, "pytest": 4}
+KINDS = {"python": 53, "http": 22, "hold": 8, "labrun-hold": 15, "pytest": 2}
 FATES = {"": 91, "kill": 2, "kill in line": 1, "stop": 2, "cut": 1.3, "overstays": 1.5, "released": 0.8}
 PLAIN = range(6)  # the ways of `_what` that a test's marker can ask in, too
 
@@ -36,7 +36,7 @@ def planned(chance: random.Random, model: Model, person: str, number: int) -> Pl
         plan["idle"] = 3.0
     if fate == "released":
         plan["idle"], plan["expected"] = 90.0, {"TakenAway", *plan["expected"] - {"done"}}
-    plan["fate"], plan["span"] = fate, chance.choice([1.0, 2.0, 4.0, 8.0, 16.0])
+    plan["fate"], plan["span"] = fate, chance.choices([1.0, 2.0, 4.0, 8.0, 16.0], [5, 4, 3, 2, 1])[0]
     if fate == "cut" and is_loads(plan):
         plan["expected"].add("TakenAway")
     if plan["fails"]:

@@ -37,7 +37,7 @@ PEOPLE = [*OPERATORS, *"dan eva finn gita hal ida jon kim leo mia ned olga pia q
 PEOPLE += "abel bea carl dora emil fay gus hana ivan jill kurt lena milo nora".split()
 STUDENTS, NIGHT = PEOPLE[20:28], PEOPLE[28:32]
 MAY = {"hana": ["scope-*", "meter-*"], "ivan": ["load-*"], "jill": ["tag:precise"], "kurt": ["camera-*", "probe-*"]}
-SEATS, DAYS, GRACE, UID, USERS, GROUP = 20, 7, 20, 5000, "users", 100
+SEATS, DAYS, GRACE, UID, USERS, GROUP = 28, 7, 20, 5000, "users", 100
 LONG = 240.0
 SHELL = r"""
 declare -A port; while read -r name at; do port[$name]=$at; done < "$1/ports"
@@ -190,7 +190,7 @@ class Lab:
     # as somebody
 
     def began(self, person: str, words: list[str], where: str = "", **more: Any) -> subprocess.Popen[Any]:
-        env = {"PATH": os.environ["PATH"], "PYTHONPATH": ".:../python", "PYTHONDONTWRITEBYTECODE": "1", "USER": person, "LOGNAME": person}
+        env = {"PATH": os.environ["PATH"], "PYTHONPATH": ".:../python", "PYTHONDONTWRITEBYTECODE": "1", "PYTHONFAULTHANDLER": "1", "USER": person, "LOGNAME": person}
         env |= {"LABRUN_LIBRARY": os.environ["LABRUN_LIBRARY"], "LABRUN_BROKER_TOKEN_FILE": f"{self.folder}/{person}.token", "LABRUN_BROKER": where or self.addresses}
         # (by a program that becomes it: Popen's own `user` forks, and gRPC's threads are in the way of that)
         becomes = ["setpriv", "--reuid", str(uid_of(person)), "--regid", str(GROUP), "--clear-groups", "--"]
