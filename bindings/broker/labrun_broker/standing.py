@@ -244,7 +244,8 @@ class Standings:
         """Who that is, and what somebody has to do if its client is gone."""
         parts = [] if is_named or not holder.by else [holder.by]
         if holder.gone_at is not None:
-            see = f"see to it, and then run labrun-broker release {holder.name} --session {holder.number}"
+            people = self._keeping.bay.people
+            see = f"see to it, and then run labrun-broker release {holder.name} --session {holder.number}{f'; {people.to_ask()}' if people else ''}"
             does = see if holder.is_kept else f"it is released after {self._keeping.its_grace:g} s"
             parts.append(f"{GONE} {self._for(holder.gone_at)}: {does}")
         return f" ({', '.join(parts)})" if parts else ""

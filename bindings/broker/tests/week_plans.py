@@ -75,6 +75,10 @@ def _what(chance: random.Random, model: Model, plan: Plan, its: list[str]) -> No
         plan["words"], plan["expected"] = [chance.choice([it for it in model.instruments if it not in its])], {"MayNotUse"}
     plan["words"] = plan["words"] or ([] if plan["any_of"] else some(3))
     plan["names"] = [*plan["words"], *(it for one in plan["any_of"] for it in one)]
+    # (a test's pattern is each that is like that, and not only what somebody may have)
+    like = model.matching([it.removeprefix("2 of ") for it in plan["words"]])
+    if plan["kind"] == "pytest" and not set(like) <= set(its):
+        plan["expected"].add("MayNotUse")
 
 
 def _wrong(chance: random.Random, plan: Plan) -> None:

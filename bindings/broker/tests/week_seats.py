@@ -83,7 +83,7 @@ class Seat:
             may |= {"NoInstrument", "OutOfOrder"}
         if self.person in lab.model.revoked:
             may |= {"Unreachable", "TakenAway", "NotAllowed"}
-        if self._was_slow(plan, outcome, begun):
+        if self._was_slow(plan, outcome, text, begun):
             may.add(outcome)
         with lab.lock:
             lab.outcomes[f"{plan['kind']}: {outcome}" + (f" ({plan['fate']})" if plan["fate"] else "")] += 1
@@ -94,10 +94,10 @@ class Seat:
         if outcome == "Unreachable":
             self._leaves()
 
-    def _was_slow(self, plan: Plan, outcome: str, begun: float) -> bool:
+    def _was_slow(self, plan: Plan, outcome: str, text: str, begun: float) -> bool:
         """Whether it is so because the machine is slow, or another broker leads now: a new client tries for 20 s to reach one, who was there for 60;
-        who has a time limit no longer than that, and labrun-hold asks at one machine alone."""
-        if outcome == "Unreachable" and plan["kind"] == "labrun-hold" and plan["timeout"] is not None:
+        who has a time limit no longer than that, and labrun-hold asks at one machine alone, and waits five seconds until a broker listens there."""
+        if outcome == "Unreachable" and plan["kind"] == "labrun-hold" and (plan["timeout"] is not None or "it doesn't listen yet" in text):
             return True
         if outcome not in ("Unreachable", "JournalError", "nobody answers", "TakenAway"):
             return False
