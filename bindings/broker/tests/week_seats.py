@@ -66,7 +66,6 @@ class Seat:
             self._leaves()
             self.person = self.chance.choice(self.lab.model.people)
         plan, begun = planned(self.chance, self.lab.model, self.person, number), time.monotonic()
-        plan["fence"] = self.lab.fence()
         outcome, text = self._by_worker(plan) if plan["kind"] in ("python", "http") else self._by_command(plan)
         self._judges(plan, outcome, text, begun)
 
@@ -83,7 +82,7 @@ class Seat:
             may |= {"NoInstrument", "OutOfOrder"}
         if self.person in lab.model.revoked:
             may |= {"Unreachable", "TakenAway", "NotAllowed"}
-        if self._was_slow(plan, outcome, text, begun):
+        if self._was_slow(plan, outcome, begun):
             may.add(outcome)
         with lab.lock:
             lab.outcomes[f"{plan['kind']}: {outcome}" + (f" ({plan['fate']})" if plan["fate"] else "")] += 1
@@ -94,17 +93,13 @@ class Seat:
         if outcome == "Unreachable":
             self._leaves()
 
-    def _was_slow(self, plan: Plan, outcome: str, text: str, begun: float) -> bool:
-        """Whether it is so because the machine is slow, or another broker leads now: a new client tries for 20 s to reach one, who was there for 60;
-        who has a time limit no longer than that, and labrun-hold asks at one machine alone, and waits five seconds until a broker listens there."""
-        if outcome == "Unreachable" and plan["kind"] == "labrun-hold" and (plan["timeout"] is not None or "it doesn't listen yet" in text):
-            return True
-        if outcome not in ("Unreachable", "JournalError", "nobody answers", "TakenAway"):
-            return False
-        is_early = time.monotonic() < begun + 19 and plan["timeout"] is None and plan["kind"] != "labrun-hold"
-        if is_loads(plan) if outcome == "TakenAway" else not is_early:
-            return bool(plan["fence"] != until(self.lab.fence, "somebody leads"))
-        return False
+    def _was_slow(self, plan: Plan, outcome: str, begun: float) -> bool:
+        """Whether it is so because no broker listened for a while: a new client tries for 20 s to reach one, and one that was there before for 60;
+        who has a time limit no longer than that, and labrun-hold asks at one machine alone."""
+        silent, is_short = self.lab.listening.silent_since(begun), plan["timeout"] is not None or plan["kind"] == "labrun-hold"
+        if outcome in ("Unreachable", "JournalError", "nobody answers"):
+            return silent > (0.0 if is_short else 15.0)
+        return outcome == "TakenAway" and is_loads(plan) and silent > 0.0
 
     def _reads(self, one: subprocess.Popen[Any], events: queue.Queue[Plan], out: Optional[list[str]] = None) -> None:
         """What a program tells by JSON or in words; what people read is kept in `out`, if it writes that here, too."""
@@ -141,7 +136,7 @@ class Seat:
             threading.Thread(target=self._hears, args=(self.worker, "a program", self.events, self.kept), daemon=True).start()
         one = self.worker
         assert one.stdin is not None
-        given = {key: it for key, it in plan.items() if key not in ("expected", "names", "fate", "span", "fence")}
+        given = {key: it for key, it in plan.items() if key not in ("expected", "names", "fate", "span")}
         one.stdin.write(json.dumps(given).encode() + b"\n")
         one.stdin.flush()
         return self._follows(plan, one, self.events)

@@ -9,6 +9,7 @@ import fnmatch
 import http.client
 import json
 import os
+import socket
 import ssl
 import subprocess
 import sys
@@ -127,6 +128,36 @@ def uid_of(person: str) -> int:
     return UID + PEOPLE.index(person)
 
 
+class Listening:
+    """When no broker listened: none leads, or the machine is slow. Of such moments it is no fault that somebody doesn't reach one."""
+
+    def __init__(self) -> None:
+        self._at, self._last, self._silent = 1, time.monotonic(), collections.deque[tuple[float, float]](maxlen=1000)
+        threading.Thread(target=self._looks, daemon=True).start()
+
+    def _looks(self) -> None:
+        while True:
+            others = [it for it in range(1, MACHINES + 1) if it != self._at]
+            found = next((it for it in (self._at, *others) if self._listens(it)), 0)
+            now = time.monotonic()
+            if not found or now > self._last + 2.0:
+                self._silent.append((self._last, now))
+            self._at, self._last = found or self._at, now
+            time.sleep(0.2)
+
+    @staticmethod
+    def _listens(at: int) -> bool:
+        try:
+            with socket.create_connection((f"{NET}.{at}", 7443), timeout=1.0):
+                return True
+        except OSError:
+            return False
+
+    def silent_since(self, moment: float) -> float:
+        """For how many seconds, in all, nobody has listened since then."""
+        return sum(end - max(begin, moment) for begin, end in list(self._silent) if end > moment)
+
+
 class Lab:
     """The machines, the instruments, and what is known of all programs."""
 
@@ -148,7 +179,7 @@ class Lab:
         self.by_web = ",".join(f"{NET}.{it}:7444" for it in range(1, MACHINES + 1))
         self.tls = ssl.create_default_context(cafile=f"{folder}/certificate")
         self.etcd = Etcd([f"{NET}.{it}:2379" for it in range(1, MACHINES + 1)])
-        self.lock = threading.Lock()
+        self.lock, self.listening = threading.Lock(), Listening()
         self.outcomes = collections.Counter[str]()
         self.faults = list[str]()
         self.told, self.over, self.released, self.idle = dict[int, str](), set[int](), set[int](), dict[int, float]()
@@ -178,14 +209,6 @@ class Lab:
         except (NoAnswer, EtcdError):
             return None
         return self.machines[int(found[0].value.split(b":")[0].split(b".")[-1]) - 1] if found else None
-
-    def fence(self) -> int:
-        """Another number once another broker leads, or the same one again; 0 while none does."""
-        try:
-            found = list(self.etcd.all_of(b"/labrun/lab/leader"))
-        except (NoAnswer, EtcdError):
-            return 0
-        return int(found[0].create_revision) if found else 0
 
     # as somebody
 
