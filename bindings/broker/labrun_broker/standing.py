@@ -263,7 +263,8 @@ class Standings:
         if holder.crossing is not None and (waits := holder.crossing.waits_where()):
             parts.append(waits)
         if holder.gone_at is not None:
-            see = f"see to it, and then run labrun-broker release {holder.name} --session {holder.number}"
+            people = self._keeping.bay.people
+            see = f"see to it, and then run labrun-broker release {holder.name} --session {holder.number}{f'; {people.to_ask()}' if people else ''}"
             does = see if holder.is_kept else f"it is released after {self._keeping.its_grace:g} s"
             parts.append(f"{GONE} {self._for(holder.gone_at)}: {does}")
         return f" ({', '.join(parts)})" if parts else ""

@@ -379,6 +379,10 @@ class Brokers(OnPeople):
         until(lambda: station(ana, held.station)["state"] == "gone", "it is gone")
         row = station(ana, held.station)
         self.assertEqual((row["state"], row["by"], row["instruments"]), ("gone", "bob: tester", ["load-1"]))
+        # (who waits for it is told who may end it)
+        see = f"see to it, and then run labrun-broker release {held.station} --session {held.number}; operators: ana"
+        with self.assertRaisesRegex(labrun.TimeoutError, see):
+            ana.hold("load-1", timeout=0.1).acquire()
         self.assertFalse([it for it in ana.status()["stations"] if it["state"] == "waiting"])
         hers.note("on")
         with self.assertRaisesRegex(Unreachable, "nobody's token"):
