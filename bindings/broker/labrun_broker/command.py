@@ -91,8 +91,8 @@ def lines_of_bay(status: dict[str, Any]) -> list[str]:
     for one in status["in_line"]:
         rows.append([one["station"] or "a guest", "in line", span(at - one["since"]), " ".join(one["instruments"]), plain(one["by"] or "")])
         place = f"{one['station']} is in one session at a time" if one["station"] else "all places for guests are taken (guests.count says how many hold at once)"
-        # (who went first counts only while there is a place)
-        rows += [["", "", "", text] for text in (*line_of({**one, "passed": 0}, status), place)]
+        # (who goes first counts only while there is a place)
+        rows += [["", "", "", text] for text in (*line_of({**one, "passed": 0, "keeps_place": False}, status), place)]
     return [*lines, *(aligned(rows) if len(rows) > 1 else ["nobody holds or waits"])]
 
 
@@ -110,10 +110,10 @@ def line_of(it: dict[str, Any], status: dict[str, Any]) -> list[str]:
     """Where somebody who waits stands, and how often others went before."""
     if not it.get("place"):
         return []
+    said = f"number {it['place']} in line{', urgent' if it.get('urgent') else ''}"
     if it.get("keeps_place"):
-        why = "urgent" if it["urgent"] else "before one that is urgent"
-        return [f"number {it['place']} in line, {why}: nobody who asks later goes before it"]
-    return [f"number {it['place']} in line" + (f"; {counted(it['passed'], 'other')} went first, and after {status['overtakes']} what it needs is kept for it" if it["passed"] else "")]
+        return [f"{said}{'' if it['urgent'] else ', and an urgent one asked after it'}: nobody who asks later goes before it"]
+    return [said + (f"; {counted(it['passed'], 'other')} went first, and after {status['overtakes']} what it needs is kept for it" if it["passed"] else "")]
 
 
 def out_of(it: dict[str, Any], at: float) -> str:

@@ -130,8 +130,9 @@ function overtakesOf(it) {
 }
 function lineOf(it) {
   if (!it.place) return "";
-  if (it.keeps_place) return `, number ${it.place} in line, ${it.urgent ? "urgent" : "before one that is urgent"}: nobody who asks later goes before it`;
-  return `, number ${it.place} in line${it.passed ? `; ${it.passed} ${it.passed === 1 ? "other" : "others"} went first, and after ${overtakesOf(it)} what it needs is kept for it` : ""}`;
+  const said = `, number ${it.place} in line${it.urgent ? ", urgent" : ""}`;
+  if (it.keeps_place) return `${said}${it.urgent ? "" : ", and an urgent one asked after it"}: nobody who asks later goes before it`;
+  return `${said}${it.passed ? `; ${it.passed} ${it.passed === 1 ? "other" : "others"} went first, and after ${overtakesOf(it)} what it needs is kept for it` : ""}`;
 }
 function chainOf(it) {
   // (a line is too short for all of it: for what it waits stands beside the instruments, too)
@@ -142,7 +143,7 @@ function chainOf(it) {
 }
 function inLineOf(it) {
   const whose = it.station ? ["for ", bold(it.station), " to be idle"] : ["until a guest goes home"];
-  return make("div", "chain", bold(it.by || "somebody"), " waits ", ...whose, ", and then for ", ...list(it.instruments), ": ", since(it.since), make("span", "soft", lineOf({...it, passed: 0})));
+  return make("div", "chain", bold(it.by || "somebody"), " waits ", ...whose, ", and then for ", ...list(it.instruments), ": ", since(it.since), make("span", "soft", lineOf({...it, passed: 0, keeps_place: false})));
 }
 function drawNow() {
   const long = worst(), waiting = status.stations.filter(it => it.state === "waiting").sort((a, b) => a.since - b.since);

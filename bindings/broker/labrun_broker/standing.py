@@ -233,7 +233,7 @@ class Standings:
         its = self._line(other)
         first = f"{counted(its['passed'], 'other')} went before it" if its["passed"] else "it asked first"
         if its["keeps_place"]:
-            first = "it is urgent" if its["urgent"] else "one that asked after it is urgent"
+            first = "it is urgent" if its["urgent"] else "an urgent one asked after it"
         text = f"{self._name(bit)} is kept for {other.name} until it holds, since {first}"
         return text + (f" and it waits for {' and '.join(ends)}" if (ends := self._ends(other)) else "")
 

@@ -76,6 +76,14 @@ class Held(OnBroker):
         self.assertEqual([(it["what"], it["text"]) for it in records if it["what"] in ("held", "failed", "let_go")], [("held", ""), ("failed", "status 3")])
         self.assertRegex(records[1]["by"], r"^ann@\S+ \d+ sh$")
 
+    def test_it_asks_urgently(self) -> None:
+        broker, _ = self.at(BAY, "--state", "FOLDER/state")
+        for words in (("scope", "--urgent"), ("scope",)):
+            self.assertEqual(self.ran(broker, *words, "--", "true").returncode, 0)
+        with open(f"{broker.folder}/state/records.jsonl", encoding="utf-8") as file:
+            records = [json.loads(it) for it in file]
+        self.assertEqual([it.get("urgent", False) for it in records if it["what"] == "asked"], [True, False])
+
     def test_who_it_is(self) -> None:
         """By the token in a file; one that isn't let in any more ends its command, and holds no longer."""
         broker, _ = self.at(PEOPLE.replace(f"unix = {os.getuid()}", "unix = 4242"))

@@ -48,6 +48,12 @@ WRONG = {
     "people of a lab of whom its bays know nothing": Wrong(
         "test_bays.Changes.test_who_is_taken_out_of_the_lab_is_let_in_no_more", "labs.py", (("        return replace(bay, name=name, people=self.people, limits=self.limits)\n", "        return replace(bay, name=name, limits=self.limits)\n"),)
     ),
+    "an urgent session that is asked for as any other": Wrong(
+        "test_urgent.Order.test_who_waits_keeps_its_place", "keeping.py", ((", self.now(), wish.urgent)\n", ", self.now())\n"),)
+    ),
+    "people of whom each may ask urgently": Wrong(
+        "test_urgent.Rights.test_who_may", "rights.py", (("person not in (*bay.people.operators, *bay.people.urgent)", "person not in bay.people.of"),)
+    ),
     "a guard that cuts nobody": Wrong(
         "test_guard_inside.Exclusion.test_many_times_over", "guard.py", (("                self.cuts += 1\n                one.cut()\n", "                self.cuts += 1\n                one.over.set()\n"),)
     ),
