@@ -174,11 +174,11 @@ class Crossing(Session):
 
     async def release(self, by: str, person: str = "") -> tuple[str, ...]:
         """Somebody ends it, perhaps before its client is told that it holds; what it held."""
-        its = [(home, part) for home, part in self.its() if part.holds]
-        names = tuple(name for _, part in its for name in part.instruments)
-        home, part = its[0]
+        (home, part), *others = [(home, part) for home, part in self.its() if part.holds]
+        held = {name for _, it in self.its() if it.holds for name in it.instruments}
+        names = tuple(name for name in self.instruments if name in held)
         await home.release(part.name, by, part.number, person)
-        await asyncio.gather(*(it._shell.durable(takes_all=True) for it, _ in its[1:]))
+        await asyncio.gather(*(it._shell.durable(takes_all=True) for it, _ in others))
         return names
 
     # what a bay tells the owner of its part

@@ -54,6 +54,27 @@ WRONG = {
     "people of whom each may ask urgently": Wrong(
         "test_urgent.Rights.test_who_may", "rights.py", (("person not in (*bay.people.operators, *bay.people.urgent)", "person not in bay.people.of"),)
     ),
+    "a session over two bays that waits in the first while it holds in the second": Wrong(
+        "test_crossing.Holds.test_it_waits_in_the_first_and_holds_nothing", "over.py", (("        for home in it.homes:\n", "        for home in reversed(it.homes):\n"),)
+    ),
+    "a session over two bays that keeps what it got by trying": Wrong(
+        "test_crossing.Holds.test_who_waits_for_nothing_has_nothing", "crossing.py", (("                home._leaves(part, fault)\n", "                pass\n"),)
+    ),
+    "a session over two bays that is told once it holds in the first": Wrong(
+        "test_crossing.Holds.test_a_time_limit_that_passes_in_the_second", "over.py", (("            ways = [way for way in ways if set(way[home]) == set(part.instruments)]\n", "            return part\n"),)
+    ),
+    "a broker that begins again, and keeps a part of a session that was never told": Wrong(
+        "test_crossing_ends.Restarts.test_each_cut_between_the_two_journals", "over.py", (("                _ends(bays, home, part)\n", "                pass\n"),)
+    ),
+    "a session over two bays of which one part is taken away": Wrong(
+        "test_crossing_ends.Ends.test_a_release_ends_it_in_all_bays", "crossing.py", (("                making_safe.takes(home, part, how)\n", "                pass\n"),)
+    ),
+    "a guard that is told of a part before its client is told of the whole": Wrong(
+        "test_crossing_ends.Ends.test_a_guard_is_told_once_its_client_is", "guarding.py", (("if session.is_at_work for name", "if session.holds for name"),)
+    ),
+    "a limit of a session over two bays that counts from its first part": Wrong(
+        "test_crossing_ends.Ends.test_a_limit_counts_from_when_it_is_told", "standing.py", (("        return self.since if self.told_at is None else self.told_at\n", "        return self.since\n"),)
+    ),
     "a guard that cuts nobody": Wrong(
         "test_guard_inside.Exclusion.test_many_times_over", "guard.py", (("                self.cuts += 1\n                one.cut()\n", "                self.cuts += 1\n                one.over.set()\n"),)
     ),
@@ -84,7 +105,7 @@ WRONG = {
         "test_guard_inside.Told.test_no_holder_that_is_not_on_the_disk",
         "guarding.py",
         (
-            ("for session in it.by_number.values() if session.holds for name", "for session in it.by_number.values() if session.state != 'over' for name"),
+            ("for session in it.by_number.values() if session.is_at_work for name", "for session in it.by_number.values() if session.state != 'over' for name"),
             ("                await keeping.confirmed()\n", "                await asyncio.sleep(0)\n"),
         ),
     ),
