@@ -139,7 +139,8 @@ class Standings:
 
     def __init__(self, keeping: Keeping) -> None:
         self._keeping, self._now, self._at = keeping, keeping.now(), time.time()
-        self._wrong, self._wrong_since = keeping.disk_fault()
+        # what is wrong with the disk, mostly nothing
+        self._wrong, self._shell = keeping._shell.is_wrong(), keeping._shell
         self.holders, self.waiters = list[tuple[Session, int, int]](), list[tuple[Session, int]]()
         for it in keeping.machine.standings():
             if (session := keeping.by_number.get(it.number)) is None:
@@ -226,7 +227,7 @@ class Standings:
         return f"{name} is free once {' and '.join(of.unsafe) or 'that is written'} is made safe {after}"
 
     def _once_written(self) -> str:
-        return f"{ONCE} {self._keeping.kept_where}" + (f" ({self._wrong})" if self._wrong else "")
+        return f"{ONCE} {self._shell.where}" + (f" ({self._wrong})" if self._wrong else "")
 
     def _is_kept(self, bit: int, other: Session) -> str:
         """Also why, and until when: and for what that one waits, down to the one that holds it."""
@@ -295,8 +296,8 @@ class Standings:
             "refusals": keeping.refusals,
             "version": 2,
             "disk": self._wrong,
-            "disk_since": self.when(self._wrong_since),
-            "overtakes": keeping.overtakes,
+            "disk_since": self.when(self._shell.wrong_since),
+            "overtakes": keeping._opened.overtakes,
         }
 
     def _instrument(self, name: str, waiting: dict[int, list[str]]) -> dict[str, Any]:
