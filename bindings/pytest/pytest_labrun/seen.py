@@ -61,7 +61,8 @@ def _in_all(sessions: Sequence[Held]) -> str:
     if not waiters:
         return "nobody waited"
     longest = max(waiters, key=lambda it: it.waited)
-    whom = ", ".join(f"{name} ({by})" for name, by in longest.kept.items()) or ", ".join(longest.instruments)
+    # (of a choice that it never got it isn't known)
+    whom = ", ".join(f"{name} ({by})" for name, by in longest.kept.items()) or ", ".join(longest.instruments) or "one of several"
     total = sum(it.waited for it in waiters)
     return f"waited {total:.1f} s in all, {len(waiters)} of {_sessions(sessions)}; the longest {longest.waited:.1f} s: {longest.test}, for {whom}"
 
