@@ -229,9 +229,10 @@ class Keeping:
             raise LabrunError(f"the bay doesn't take it: {it}") from None
         session.number, session.wish, session.sets, session.instruments = number, wish, sets, wish.names
         self.by_number[number] = self._by_key[session.key] = session
+        more = dict[str, Any](urgent=True) if wish.urgent else {}
         if wish.urgent:
             self.urgent, self.last_urgent = self.urgent + 1, number
-        self._record("asked", session, **({"urgent": True} if wish.urgent else {}))
+        self._record("asked", session, **more)
         self._shell.pump()
         lasting.looks(self)
 
