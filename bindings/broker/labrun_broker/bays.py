@@ -112,6 +112,8 @@ class Bays:
         """As at one bay, in that which has what the client wishes; or over several."""
         try:
             wishes.check_form(wish, self.bay)
+            while (it := self.crossings.get(wishes.owner_of(wish.ticket))) is not None and it.state == "over":
+                await it.is_through.wait()
             home = self._home(wish)
         except LabrunError:
             self._refused += 1

@@ -33,6 +33,8 @@ class Crossing(Session):
         self.owner, self.person = owner, wish.person
         self.homes, self.parts = homes, dict[str, Session]()
         self.fault: Optional[BaseException] = None
+        # once each part has let go
+        self.is_through = asyncio.Event()
         self._bays = bays
         bays.crossings[key] = self
 
@@ -70,6 +72,7 @@ class Crossing(Session):
             return
         self.fault = fault
         self._is_over()
+        self._is_forgotten()
         for home, part in reversed(list(self.its())):
             # (what is held in the journal of a bay that is closed is let go of when that one begins again)
             if not home._is_closed:
@@ -124,12 +127,17 @@ class Crossing(Session):
         """The last part first. (Whoever is cancelled meanwhile has let go all the same.)"""
         self._is_of(owner)
         self._is_over()
-        tasks = [asyncio.ensure_future(home.let_go(part, self, failed)) for home, part in reversed(list(self.its()))]
-        for it in tasks:
-            self._bays.tasks.add(it)
-            it.add_done_callback(self._bays.tasks.discard)
-        await asyncio.wait(tasks)
-        faults = [fault for it in tasks if (fault := it.exception()) is not None]
+        task = asyncio.ensure_future(self._lets_go(failed))
+        self._bays.tasks.add(task)
+        task.add_done_callback(self._bays.tasks.discard)
+        # (if nobody waits any more, nobody is told why it couldn't be written)
+        task.add_done_callback(asyncio.Future.exception)
+        await asyncio.shield(task)
+
+    async def _lets_go(self, failed: Optional[str]) -> None:
+        its = await asyncio.gather(*(home.let_go(part, self, failed) for home, part in reversed(list(self.its()))), return_exceptions=True)
+        self._is_forgotten()
+        faults = [it for it in its if it is not None]
         for fault in sorted(faults, key=lambda it: not isinstance(it, labrun.JournalError)):
             raise fault
 
@@ -158,6 +166,9 @@ class Crossing(Session):
 
     def _is_over(self) -> None:
         self.state = "over"
+
+    def _is_forgotten(self) -> None:
+        self.is_through.set()
         if self._bays.crossings.get(self.key) is self:
             del self._bays.crossings[self.key]
 
@@ -166,6 +177,7 @@ class Crossing(Session):
         if not self.holds:
             return self.gives_up(Ended("TakenAway", UNTOLD))
         self._is_over()
+        self._is_forgotten()
         for home, part in reversed(list(self.its())):
             if part is not of and part.holds:
                 part.taken_by = of.taken_by
@@ -210,7 +222,7 @@ class Crossing(Session):
     def for_whom(self, _: Session) -> tuple[list[dict[str, Any]], str, tuple[Any, ...]]:
         """Whom it waits for, in which bay, and what it holds already."""
         if (it := self._waiting()) is None:
-            return [], "", ()
+            return [], "it is about to ask the next of its bays" if self.state == "waiting" else "", ()
         home, part = it
         keepers, why, changes = home.for_whom(part)
         held = [name for _, one in self.its() if one.holds for name in one.instruments]

@@ -7,6 +7,7 @@ First all bays are asked at once, and none is waited for: so who could hold at o
 from __future__ import annotations
 
 import asyncio
+import secrets
 from collections import defaultdict
 from dataclasses import replace
 from typing import TYPE_CHECKING, Callable, Optional
@@ -46,7 +47,8 @@ class Over:
     """A wish that isn't for one bay alone. Its words are resolved."""
 
     def __init__(self, bays: Bays, wish: Wish) -> None:
-        self._bays, self._wish, self._ways = bays, wish, ways_of(bays, wish)
+        # (its parts are known by one ticket)
+        self._bays, self._wish, self._ways = bays, wish if wish.ticket else replace(wish, ticket=secrets.token_urlsafe()), ways_of(bays, wish)
 
     async def hold(self, _: Wish, owner: Owner, waits: Optional[Callable[[Session], None]] = None) -> Session:
         """Each choice is tried, and then the first one waited for, with all others that lie in the same bays."""
@@ -74,7 +76,11 @@ class Over:
             ((home, names),) = way.items()
             return await home.hold(replace(wish, instruments=names, any_of=(), timeout=0.0), owner)
         it = Crossing(self._bays, tuple(way), owner_of(wish.ticket), wish, owner)
-        await asyncio.gather(*(it.asks(home, (names,), 0.0) for home, names in way.items()), return_exceptions=True)
+        try:
+            await asyncio.gather(*(it.asks(home, (names,), 0.0) for home, names in way.items()), return_exceptions=True)
+        except BaseException as fault:
+            it.gives_up(fault)
+            raise
         if it.fault is not None:
             raise it.fault
         return it.is_whole()

@@ -3,19 +3,23 @@
 from __future__ import annotations
 
 import asyncio
+import collections
+import contextlib
 import os
+import random
 import re
 import shutil
 import unittest
 from typing import Any
 
 import labrun
+from labrun.machine import HOLDS, WAITS
 from labrun_broker import guarding, lab_applying
 from labrun_broker.bays import Bays
 from labrun_broker.crossing import Crossing
 from labrun_broker.errors import BadWish
 from labrun_broker.journals import PART
-from labrun_broker.outage import disable
+from labrun_broker.standing import Session
 from labrun_broker.wishes import Ended, Wish
 from tests.brokers import LIMIT
 from tests.test_bays import LAB, NORTH, SOUTH, TICKET, Owner
@@ -146,6 +150,91 @@ class Ends(OnCrossings):
             await self.crosses(bays, "scope", "oven", "load-2", timeout=0.1)
         with open(f"{self.folder}/said", encoding="utf-8") as file:
             self.assertEqual(file.read(), "let_go\n")
+
+
+class ByChance(OnCrossings):
+    """Clients that ask for this and that, wait, give up, are gone and come back, while somebody releases and pages are turned."""
+
+    async def test_nobody_holds_what_another_has_and_nothing_is_left(self) -> None:
+        bays, dice = await self.bays(), random.Random(11)
+        for home in bays.peers:
+            home.most_bytes = home._shell.turns.most = 4096
+        wishes: list[dict[str, Any]] = [{"instruments": it} for it in (("scope", "oven"), ("oven", "scope", "supply"), ("load-*",), ("oven",), ("scope",))]
+        wishes += [{"any_of": (("scope", "oven"), ("supply", "load-2"))}, {"instruments": ("3 of load-*",)}]
+        clients = [Client(bays, random.Random(number), wishes) for number in range(6)]
+        tasks = [asyncio.create_task(it.works()) for it in clients]
+        while not all(it.done() for it in tasks):
+            await asyncio.sleep(dice.random() / 20)
+            if (names := list(self.stands(bays).values())) and dice.random() < 0.3:
+                with contextlib.suppress(labrun.LabrunError):
+                    await bays.release(str(dice.choice(names)), "ann")
+        for it in tasks:
+            it.result()
+        await self.eventually(lambda: not self.stands(bays), "nothing is held")
+        left = [one.what for it in bays.peers for one in it.machine.standings() if one.what in (HOLDS, WAITS)]
+        self.assertEqual((len(bays.crossings), [it.by_number for it in bays.peers], left), (0, [{}, {}], []))
+        # (each kind of end was there)
+        ends = collections.Counter(end for it in clients for end in it.ends)
+        self.assertEqual({end for end, count in ends.items() if count}, {"let go", "gave up", "taken", "came back"}, ends)
+        self.assertTrue(all(it._shell.turns.count for it in bays.peers), "each bay has turned a page")
+
+
+class Client:
+    """One after another; `users` has who is at each instrument, as far as clients know."""
+
+    users: dict[str, "Client"] = {}
+
+    def __init__(self, bays: Bays, dice: random.Random, wishes: list[dict[str, Any]]) -> None:
+        self.bays, self.dice, self.wishes, self.ends, self.its = bays, dice, wishes, list[str](), tuple[str, ...]()
+
+    def taken(self, why: str) -> None:
+        self.leaves()
+
+    def warned(self, text: str, seconds: float) -> None: ...
+
+    def leaves(self) -> None:
+        for name in self.its:
+            assert self.users.pop(name) is self
+        self.its = ()
+
+    async def works(self) -> None:
+        for _ in range(25):
+            wish = Wish(**self.dice.choice(self.wishes), ticket=f"{self.dice.random()} of a client", timeout=self.dice.choice((None, None, 0.0, 0.05, 1.0)))
+            task = asyncio.create_task(self.asks(wish))
+            if self.dice.random() < 0.2:
+                asyncio.get_running_loop().call_later(self.dice.random() / 20, task.cancel)
+            try:
+                session = await asyncio.wait_for(asyncio.shield(task), LIMIT)
+            except (labrun.TimeoutError, asyncio.CancelledError):
+                self.ends.append("gave up")
+            except labrun.NotHeld:
+                self.ends.append("taken")
+            else:
+                await self.holds(wish, session)
+
+    async def asks(self, wish: Wish) -> Session:
+        """(At once: it may be taken away before its task goes on.)"""
+        session = await self.bays.hold(wish, self)
+        self.its = session.instruments
+        assert not set(self.its) & set(self.users), f"{self.its} of {self.users}"
+        self.users.update(dict.fromkeys(self.its, self))
+        return session
+
+    async def holds(self, wish: Wish, session: Session) -> None:
+        await asyncio.sleep(self.dice.random() / 50)
+        try:
+            if self.dice.random() < 0.2:
+                self.bays.gone(session, self)
+                await self.bays.hold(Wish(ticket=wish.ticket, comes_back=True), self)
+                self.ends.append("came back")
+            await self.bays.note(session, self, "at work")
+            if self.its:
+                self.leaves()
+                await self.bays.let_go(session, self)
+                self.ends.append("let go")
+        except labrun.NotHeld:
+            self.leaves()
+            self.ends.append("taken")
 
 
 class Changes(OnCrossings):
