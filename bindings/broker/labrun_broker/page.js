@@ -136,7 +136,7 @@ function lineOf(it) {
 }
 function chainOf(it) {
   // (a line is too short for all of it: for what it waits stands beside the instruments, too)
-  const box = WALL ? make("div", "chain", bold(it.name), " ", since(it.since)) : make("div", "chain", bold(it.name), " waits for ", ...list(it.instruments), ": ", since(it.since), make("span", "soft", lineOf(it)));
+  const box = WALL ? make("div", "chain", bold(it.name), it.urgent ? ", urgent, " : " ", since(it.since)) : make("div", "chain", bold(it.name), " waits for ", ...list(it.instruments), ": ", since(it.since), make("span", "soft", lineOf(it)));
   for (const why of it.waits_for.slice(0, WALL ? 1 : MOST_CHAINS)) box.append(make("div", "links", ...(WALL ? [] : [named(it.name)]), ...links(why, new Set([it.name]))));
   if (!it.waits_for.length) box.append(make("div", "links", status.disk ? "it waits for the disk" : "nobody keeps it waiting at this moment"));
   return box;

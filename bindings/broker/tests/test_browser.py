@@ -181,6 +181,14 @@ class Browser(unittest.TestCase):
         self.seen("body", lambda _: "tall" in self.browser.execute_script("return document.body.className"))
         self.assertGreater(self.browser.execute_script("return document.documentElement.scrollHeight"), 800)
 
+    def test_a_wall_says_who_is_urgent(self) -> None:
+        self.do("hold", "board", "scope")
+        self.do("ask", "radio", "scope")
+        self.web.do(lambda it: it.stations["radio"].update(urgent=True), self.web.keeping)
+        self.width_at(1280, 800)
+        self.browser.get(f"http://127.0.0.1:{self.web.port}/?wall")
+        self.seen("#waits", lambda text: "radio, urgent, " in text)
+
     def test_a_wall_shows_what_its_colours_mean(self) -> None:
         """All of it, and where the picture and the rows beside it go on."""
         keys = ["done", "holds now", "failed", "taken away", "client gone", "somebody waits", "gave up"]
