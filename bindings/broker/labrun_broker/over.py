@@ -1,4 +1,4 @@
-"""A wish whose instruments lie in several bays: in which order these are asked. (crossing.py has the session that comes of it; docs/bays.md says
+"""A wish whose instruments lie in several bays: in which order these are asked. (crossing.py has the session that comes of it; docs/broker.md says
 why nobody waits for ever.)
 
 First all bays are asked at once, and none is waited for: so who could hold at once does. Else what was given goes back, and the bays are asked
