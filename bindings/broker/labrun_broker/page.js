@@ -118,9 +118,11 @@ function headOf(it, before) {
 function links(why, seen) {
   // the rest of a chain: who has the instrument, and, if that one only waits, for whom
   const other = station(why.station), state = other && ["gone", "ending"].includes(other.state) ? other.state : why.holds ? "holding" : "";
-  const holding = other && other.state === "waiting" ? [" waits for the disk"] : [" has held for ", since(why.since)];
+  // (of several bays, one that holds in this one may wait in another)
+  const more = why.holds ? status.stations.find(it => it.name === why.station && it !== other && it.state === "waiting") : null;
+  const holding = other && other.state === "waiting" ? [" waits for the disk"] : [" has held for ", since(why.since), ...(more ? [", and waits in the bay ", named(more.bay)] : [])];
   const told = state === "ending" ? ["’s session is over, and it is being made safe for ", since(other.since)] : state === "gone" ? [" has been gone for ", since(other.gone_since)] : why.holds ? holding : [];
-  const next = why.holds || !other || seen.has(why.station) ? null : other.waits_for[0];
+  const whose = why.holds ? more : other, next = !whose || seen.has(why.station) ? null : whose.waits_for[0];
   seen.add(why.station);
   return [" → ", named(why.instrument), ": ", make("span", `chip ${state}`, named(why.station)), ...told, ...(next ? links(next, seen) : [])];
 }

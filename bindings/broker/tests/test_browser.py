@@ -126,6 +126,27 @@ class Browser(unittest.TestCase):
         self.do("tell", "note", "night")
         self.seen("#waits", lambda text: "board → scope: radio → oven: night has held for 2 min" in text)
 
+    def test_a_chain_over_two_bays(self) -> None:
+        """Whoever holds in one bay waits in another."""
+        bays = {"scope": "north", "supply": "north", "oven": "south"}
+
+        def of_two(status: Any) -> Any:
+            its = [{**it, "bay": bays[(it["instruments"] or ["scope"])[0]]} for it in status["stations"]]
+            waits = {"instrument": "oven", "station": "night", "holds": True, "since": time.time() - 120, "text": "oven is held by night"}
+            its.append({**next(it for it in its if it["name"] == "drive"), "state": "waiting", "instruments": ["oven"], "bay": "south", "waits_for": [waits]})
+            return {**status, "stations": its, "instruments": [{**it, "bay": bays[it["name"]]} for it in status["instruments"]]}
+
+        keeping = self.web.keeping
+        keeping.status = lambda does=keeping.status: of_two(does())
+        self.do("hold", "night", "oven")
+        self.at(60)
+        self.do("hold", "drive", "supply")
+        self.at(30)
+        self.do("ask", "board", "scope", "supply")
+        self.at(0)
+        self.do("tell", "note", "night")
+        self.seen("#waits", lambda text: "board → supply: drive has held for 1 min, and waits in the bay south → oven: night has held for 2 min" in " ".join(text.split()))
+
     def test_hostile_text_is_shown_as_text(self) -> None:
         evil = "<img src=x onerror=\"document.title='evil'\"><script>document.title='evil'</script>\u202e" + "m" * 400
         self.do("hold", "board", "scope", by=evil)
