@@ -85,8 +85,10 @@ class Quick:
             self._whole.lab.close(lets_go=False)
 
     def _holds(self) -> None:
-        self.wire.asks(WISH, _wish(self._wish, self.ticket, self._waits is not None))
         try:
+            if self._wish.timeout is not None:
+                self.wire.is_answered()
+            self.wire.asks(WISH, _wish(self._wish, self.ticket, self._waits is not None))
             while (told := self.wire.told())[0] == WAITS:
                 if self._waits is not None:
                     self._waits(text_of(told[1], 1))

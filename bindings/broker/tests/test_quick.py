@@ -14,7 +14,7 @@ from labrun_broker import quick, run
 from labrun_broker.command import main
 from labrun_broker.quick import HELD
 from labrun_broker.wire import Odd, Wire, _number, field, fields_of, text_field
-from tests.brokers import BAY, LIMIT, SOON, Broker, OnBroker, station, until
+from tests.brokers import BAY, LIMIT, SOON, Broker, OnBroker, station, stopped, until
 
 RELEASES = BAY.replace('bay = "north"', 'bay = "north"\ngone = "release"')
 
@@ -230,20 +230,16 @@ class Quick(OnBroker):
 
     def test_a_broker_that_is_stopped(self) -> None:
         """A time limit is kept all the same, and nothing is held once the broker goes on. (Without one it would wait for a word.)"""
-        program = f"import sys; from labrun_broker import command, wire; wire.SILENT = {10 * LIMIT}; sys.exit(command.main())"
-        for bay in (BAY, RELEASES):
+        program = f"import sys; from labrun_broker import command, run, wire; wire.SILENT = run.SILENCE = {10 * LIMIT}; sys.exit(command.main())"
+        for bay, *state in ((BAY,), (BAY, "--state", "FOLDER/state"), (RELEASES, "--state", "FOLDER/state")):
             for limit, seconds in ((["-n"], 0.0), (["--timeout", "2"], 2.0)):
-                with self.subTest(bay, limit=limit):
-                    broker = self.broker(bay, "--state", "FOLDER/state")
-                    assert broker.process is not None
-                    broker.process.send_signal(signal.SIGSTOP)
-                    try:
+                with self.subTest(bay, state=state, limit=limit):
+                    broker = self.broker(bay, *state)
+                    with stopped(broker):
                         begun = time.monotonic()
                         words = [sys.executable, "-c", program, "hold", "scope", *limit, "--", "echo", "ran"]
                         done = subprocess.run(words, env={**os.environ, "LABRUN_BROKER": broker.address}, capture_output=True, text=True, timeout=LIMIT)
                         took = time.monotonic() - begun
-                    finally:
-                        broker.process.send_signal(signal.SIGCONT)
                     told = f"labrun-broker: the broker at {broker.address} doesn't answer\n"
                     self.assertEqual((done.returncode, done.stdout, done.stderr), (69, "", told))
                     self.assertGreaterEqual(took, seconds)

@@ -1,26 +1,24 @@
 """A broker that is stopped, as it were by SIGSTOP: what its clients in Python are told, when, and that nothing is held once it goes on."""
 
 import contextlib
-import glob
 import os
 import signal
 import subprocess
 import sys
 import threading
 import unittest
-from typing import Iterator
 from unittest import mock
 
 import labrun_broker
 from labrun_broker import client, stream
-from tests.brokers import BAY, LIMIT, Broker, OnBroker, until
+from tests.brokers import BAY, LIMIT, Broker, OnBroker, stopped, until
 
 RELEASES = 'gone = "release"\n' + BAY
 TOLD = r"the broker at .* doesn't answer \(it is stopped, or the network is cut\)"
 # it asks, and ends while the broker is stopped
 PROGRAM = """
 import os, signal, sys, labrun_broker
-from tests.test_stopped import is_stopped
+from tests.brokers import is_stopped
 with labrun_broker.connect(sys.argv[1]) as lab:
     with lab.hold("supply"):
         pass
@@ -43,26 +41,6 @@ async def late(it, *wish):
 service.Client._holds = late
 sys.exit(command.main())
 """
-
-
-def is_stopped(process: int) -> bool:
-    """Each of its threads is: on a busy machine that takes a while."""
-    states = set[str]()
-    for path in glob.glob(f"/proc/{process}/task/*/stat"):
-        with open(path, encoding="ascii") as file:
-            states.add(file.read().rsplit(")", 1)[1].split()[0])
-    return states == {"T"}
-
-
-@contextlib.contextmanager
-def stopped(broker: Broker) -> Iterator[None]:
-    assert (process := broker.process) is not None
-    process.send_signal(signal.SIGSTOP)
-    try:
-        until(lambda: is_stopped(process.pid), "that it is stopped")
-        yield
-    finally:
-        process.send_signal(signal.SIGCONT)
 
 
 class Stopped(OnBroker):
