@@ -3,6 +3,7 @@
 from __future__ import annotations
 
 import json
+import math
 import os
 import queue
 import random
@@ -94,12 +95,13 @@ class Seat:
             self._leaves()
 
     def _was_slow(self, plan: Plan, outcome: str, begun: float) -> bool:
-        """Whether it is so because no broker listened for a while: a new client tries for 20 s to reach one, and one that was there before for 60;
-        who has a time limit no longer than that, and labrun-hold asks at one machine alone."""
+        """Whether it is so because no broker listened for a while, or another seat's program of this person was cut off: a new client tries for 20 s
+        to reach a broker, and one that was there before for 60; who has a time limit no longer than that, and labrun-hold asks at one machine alone."""
         silent, is_short = self.lab.listening.silent_since(begun), plan["timeout"] is not None or plan["kind"] == "labrun-hold"
-        if outcome in ("Unreachable", "JournalError", "nobody answers"):
-            return silent > (0.0 if is_short else 15.0)
-        return outcome == "TakenAway" and is_loads(plan) and silent > 0.0
+        was_away = silent > 0.0 or self.lab.cut.get(self.person, 0.0) > begun
+        if outcome in ("Unreachable", "AnswerLost", "JournalError", "nobody answers"):
+            return was_away if is_short else silent > 15.0
+        return outcome == "TakenAway" and is_loads(plan) and was_away
 
     def _reads(self, one: subprocess.Popen[Any], events: queue.Queue[Plan], out: Optional[list[str]] = None) -> None:
         """What a program tells by JSON or in words; what people read is kept in `out`, if it writes that here, too."""
@@ -243,9 +245,11 @@ class Seat:
             os.killpg(one.pid, signal.SIGCONT)
         elif fate == "cut":
             rule = ["uidrange", f"{uid_of(self.person)}-{uid_of(self.person)}", "unreachable", "priority", str(100 + self.at)]
+            self.lab.cut[self.person] = math.inf
             ip("rule", "add", *rule)
             time.sleep(span)
             ip("rule", "del", *rule)
+            self.lab.cut[self.person] = time.monotonic()
         return False
 
     def _is_released(self, station: str, number: int) -> None:
