@@ -139,7 +139,8 @@ class Keeping:
                 await self.settling.leads()
             if not wish.comes_back:
                 wish = await making_safe.is_over(self, key, wish)
-            held = await self._session_of(key)
+            await leases.pauses(self, key)
+            held = self._by_key.get(key)
             rights.check_ticket(self.bay, wish.person, held)
             if held is not None and held.holds:
                 wishes.check_asked_again(wish, held.instruments, self.bay)
@@ -180,16 +181,6 @@ class Keeping:
         """Whoever waits with this ticket asks for something else, and not here."""
         if (session := self._by_key.get(key)) is not None:
             self._is_another(session)
-
-    async def _session_of(self, key: tuple[int, int]) -> Optional[Session]:
-        """The session of this ticket. Who came back for it just now waits here."""
-        while (session := self._by_key.get(key)) is not None:
-            pause = leases.pause_of(math.inf if self.keeps(session) else self.its_grace)
-            span = session.back_at + pause - asyncio.get_running_loop().time()
-            if span <= 0:
-                return session
-            await asyncio.sleep(span)
-        return None
 
     def _asks(self, wish: Wish, key: tuple[int, int], owner: Owner, before: Optional[Session]) -> Session:
         if self._is_closed:

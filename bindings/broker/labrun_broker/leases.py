@@ -44,6 +44,16 @@ def pause_of(grace: float) -> float:
     return min(BACK, grace / 8)
 
 
+async def pauses(keeping: Keeping, key: tuple[int, int]) -> None:
+    """Whoever came back for the session of this ticket just now waits here."""
+    while (session := keeping._by_key.get(key)) is not None:
+        pause = pause_of(math.inf if keeping.keeps(session) else keeping.its_grace)
+        span = session.back_at + pause - asyncio.get_running_loop().time()
+        if span <= 0:
+            return
+        await asyncio.sleep(span)
+
+
 # ---- who is there
 
 
