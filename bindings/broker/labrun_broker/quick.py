@@ -81,6 +81,7 @@ class Wish(NamedTuple):
     by: str
     timeout: Optional[float]
     limit: Optional[float] = None
+    urgent: bool = False
 
 
 class Odd(Exception):
@@ -347,7 +348,7 @@ def _frame(kind: int, flags: int, stream: int, payload: bytes) -> bytes:
 
 def _wish(it: Wish, ticket: str, wants_waits: bool) -> bytes:
     parts = [_text(1, name) for name in it.instruments] + [_field(2, b"".join(_text(1, name) for name in names)) for names in it.any_of]
-    parts += [_text(3, it.station), _text(4, it.by), _text(6, ticket), bytes([8 << 3, wants_waits, 9 << 3, 1, 11 << 3, 1])]
+    parts += [_text(3, it.station), _text(4, it.by), _text(6, ticket), bytes([8 << 3, wants_waits, 9 << 3, 1, 11 << 3, 1, 12 << 3, it.urgent])]
     parts += [bytes([at << 3 | 1]) + struct.pack("<d", span) for at, span in ((5, it.timeout), (10, it.limit)) if span is not None]
     return b"".join(parts)
 
