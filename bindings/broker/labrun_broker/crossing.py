@@ -50,7 +50,9 @@ class Crossing(Session):
 
     async def asks(self, home: Keeping, choices: tuple[tuple[str, ...], ...], timeout: Optional[float]) -> Session:
         """Returns the part in this bay once it holds. Whatever is raised, nothing is held any more."""
-        part = replace(self.wish, instruments=(), any_of=choices, timeout=timeout, pings=False, wants_warning=False, crossing=self)
+        # (whoever only tries keeps nobody behind itself)
+        is_urgent = self.wish.urgent and timeout != 0
+        part = replace(self.wish, instruments=(), any_of=choices, timeout=timeout, pings=False, wants_warning=False, urgent=is_urgent, crossing=self)
         try:
             session = await home.hold(part, self, lambda it: self._is_asked(home, it))
             if self.fault is not None:

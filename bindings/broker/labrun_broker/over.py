@@ -74,7 +74,7 @@ class Over:
         """Without waiting for anybody."""
         if len(way) == 1:
             ((home, names),) = way.items()
-            return await home.hold(replace(wish, instruments=names, any_of=(), timeout=0.0), owner)
+            return await home.hold(replace(wish, instruments=names, any_of=(), timeout=0.0, urgent=False), owner)
         it = Crossing(self._bays, tuple(way), owner_of(wish.ticket), wish, owner)
         try:
             await asyncio.gather(*(it.asks(home, (names,), 0.0) for home, names in way.items()), return_exceptions=True)

@@ -153,6 +153,17 @@ class Holds(OnCrossings):
             await self.crosses(bays, "scope", "oevn")
         self.assertEqual((self.stands(bays), bays.refusals), ({}, 4))
 
+    async def test_an_urgent_one_is_so_where_it_waits(self) -> None:
+        bays = await self.bays()
+        await self.holds(bays, "oven", station="heat")
+        _, asked = await self.waits(bays, "south", "scope", "oven", urgent=True)
+        self.assertEqual([it.urgent for it in bays.peers], [1, 1])
+        self.assertTrue(asked._waiting()[1].wish.urgent)  # type: ignore[attr-defined]
+        # (whoever only tries keeps nobody behind itself)
+        with self.assertRaises(TimedOut):
+            await self.crosses(bays, "scope", "load-2", timeout=0.0, urgent=True)
+        self.assertEqual([it.urgent for it in bays.peers], [1, 1])
+
     async def test_an_instrument_that_is_put_out_of_order_meanwhile(self) -> None:
         bays = await self.bays()
         await self.holds(bays, "oven")
