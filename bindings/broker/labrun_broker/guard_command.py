@@ -14,7 +14,7 @@ from __future__ import annotations
 
 import argparse
 import asyncio
-import os
+import functools
 import signal
 import socket
 import ssl
@@ -25,7 +25,7 @@ from typing import TYPE_CHECKING, Any, Callable, Optional
 from labrun.picks import near
 
 from .bay import BadAddress, is_here
-from .sockets import family_of, parsed, tls_of
+from .sockets import family_of, listens, parsed, tls_of, written
 from .texts import plain, seconds
 from .words import add_client, lab_of, say
 
@@ -133,14 +133,16 @@ def run_guard(args: argparse.Namespace) -> int:
 
 async def guards(table: dict[str, dict[str, Any]], args: argparse.Namespace, lab: Lab, context: Optional[ssl.SSLContext]) -> int:
     """Goes on until it is ended. Then its connections are reset with this process."""
-    from .guard import Guard, Way
+    from .guard import FIRST_LINE, Caller, Guard, Way
     from .words import tell_systemd
 
-    where, its = Where(lambda: lab._brokers.address), dict[str, Guard]()
+    where, its, servers = Where(lambda: lab._brokers.address), dict[str, Guard](), list[asyncio.Server]()
     for name, row in table.items():
         host, port = host_and_port(row["instrument"])
         its[name] = Guard(Way(name, host, port, row["by_host"], row["settle"], row["clear"]), where.addresses)
-    servers = [await listens(its[name], row["listen"], None if row["by_host"] or is_here(host_and_port(row["listen"])[0]) else context) for name, row in table.items()]
+    for name, row in table.items():
+        at = host_and_port(row["listen"])
+        servers.append(await listens(at, functools.partial(Caller, its[name]), None if row["by_host"] or is_here(at[0]) else context, FIRST_LINE))
     web = None
     try:
         if args.metrics is not None:
@@ -148,7 +150,7 @@ async def guards(table: dict[str, dict[str, Any]], args: argparse.Namespace, lab
 
             web = await serve_metrics(list(its.values()), args.metrics)
         for (name, row), server in zip(table.items(), servers):
-            say(f"guards {name} at {row['instrument']}: clients come to {address_of(server)}")
+            say(f"guards {name} at {row['instrument']}: clients come to {written(*server.sockets[0].getsockname()[:2])}")
         tell_systemd("READY=1")
         await hears(its, lab, args)
     finally:
@@ -159,23 +161,6 @@ async def guards(table: dict[str, dict[str, Any]], args: argparse.Namespace, lab
         if web is not None:
             await web.cleanup()
     return 0
-
-
-def address_of(server: asyncio.Server) -> str:
-    host, port = server.sockets[0].getsockname()[:2]
-    return f"[{host}]:{port}" if ":" in host else f"{host}:{port}"
-
-
-async def listens(guard: Guard, at: str, context: Optional[ssl.SSLContext]) -> asyncio.Server:
-    from .guard import FIRST_LINE, Caller
-
-    host, port = host_and_port(at)
-    how: dict[str, Any] = {} if context is None else {"ssl": context, "ssl_handshake_timeout": FIRST_LINE}
-    try:
-        return await asyncio.get_running_loop().create_server(lambda: Caller(guard), host, port, family=family_of(host), **how)
-    except OSError as fault:
-        why = os.strerror(fault.errno) if fault.errno and fault.errno > 0 else fault.strerror or fault
-        raise BadAddress(f"{at}: it can't listen there: {why}") from None
 
 
 async def hears(its: dict[str, Guard], lab: Lab, args: argparse.Namespace) -> None:
