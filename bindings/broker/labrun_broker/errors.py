@@ -96,7 +96,7 @@ def raised(fault: Any) -> Exception:
     return KINDS.get(fault.kind, BrokerError)(fault.text)
 
 
-CLOSED = "it closed the connection"
+CLOSED, SILENT = "it closed the connection", "it doesn't answer any more"
 # what gRPC says where it can't connect, and what that means; first where somebody listens
 IS_THERE = {
     "Socket closed": CLOSED,
@@ -107,6 +107,8 @@ IS_THERE = {
 }
 HINTS = IS_THERE | {
     "Broken pipe": CLOSED,
+    # (there was a connection)
+    "recvmsg:": SILENT,
     "Permission denied": "permission denied",
     "before receiving SETTINGS frame": "it doesn't answer",
     "C-ares status is not ARES_SUCCESS": "no machine of that name is known here",
@@ -138,7 +140,7 @@ def why_lost(address: str, code: Any, text: str, may_want_tls: bool = False) -> 
         return AnswerLost(f"the broker at {address} doesn't answer")
     if code in (grpc.StatusCode.UNAVAILABLE, grpc.StatusCode.UNKNOWN, grpc.StatusCode.CANCELLED):
         why = plainly(address, text, may_want_tls)
-        return (AnswerLost if why == CLOSED else Unreachable)(f"the broker at {address} can't be reached: {why}")
+        return (AnswerLost if why in (CLOSED, SILENT) else Unreachable)(f"the broker at {address} can't be reached: {why}")
     if code in (grpc.StatusCode.UNAUTHENTICATED, grpc.StatusCode.RESOURCE_EXHAUSTED):
         return Unreachable(f"the broker at {address} doesn't let this client in: {text}")
     if code is grpc.StatusCode.PERMISSION_DENIED:
