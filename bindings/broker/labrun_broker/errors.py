@@ -127,6 +127,9 @@ def plainly(address: str, text: str, may_want_tls: bool) -> str:
         return "unix:PATH or HOST:PORT is wanted, with a port of up to 65535"
     text = re.sub(r"^failed to connect to all addresses; last error: \w+: (?:ipv[46]|unix):\S+: ", "", text)
     text = next((hint for told, hint in HINTS.items() if told in text), text)
+    if text.startswith("recvmsg:"):
+        # (there was a connection)
+        return NO_MORE
     if text == CLOSED and may_want_tls and not address.startswith("unix:"):
         return f"{text} (a broker with TLS wants --certificate FILE)"
     if text == "permission denied" and address.startswith("unix:"):
@@ -138,13 +141,16 @@ def plainly(address: str, text: str, may_want_tls: bool) -> str:
     return text
 
 
+NO_MORE = "it doesn't answer any more"
+
+
 def why_lost(address: str, code: Any, text: str, may_want_tls: bool = False) -> Exception:
     """`may_want_tls`: it was never reached, and without a certificate."""
     if code is grpc.StatusCode.DEADLINE_EXCEEDED:
         return AnswerLost(f"the broker at {address} doesn't answer {SILENT}")
     if code in (grpc.StatusCode.UNAVAILABLE, grpc.StatusCode.UNKNOWN, grpc.StatusCode.CANCELLED):
         why = plainly(address, text, may_want_tls)
-        return (AnswerLost if why == CLOSED else Unreachable)(f"the broker at {address} can't be reached: {why}")
+        return (AnswerLost if why in (CLOSED, NO_MORE) else Unreachable)(f"the broker at {address} can't be reached: {why}")
     if code in (grpc.StatusCode.UNAUTHENTICATED, grpc.StatusCode.RESOURCE_EXHAUSTED):
         return Unreachable(f"the broker at {address} doesn't let this client in: {text}")
     if code is grpc.StatusCode.PERMISSION_DENIED:

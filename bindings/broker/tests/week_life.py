@@ -14,6 +14,7 @@ from typing import Any, Callable, Optional
 from tests.machines import until
 from tests.week_world import LONG, OPERATORS, RENAMED, Lab, Model, left_in
 
+AWAY = 75.0  # seconds, and a client tries for 60
 # what a morning takes out, and what anybody may call mended
 LEFT_ALONE = {*RENAMED.values(), "camera-4", "probe-4"}
 WHYS = ["calibration until Friday", "its display is dark", "lent to bay south", "the fan is loud", "ask Ana first", ""]
@@ -93,12 +94,13 @@ class Operator:
             self.lab.fault(f"{' '.join(words)}: {status}, {text}")
 
     def _is_seen_to(self, one: dict[str, Any]) -> bool:
-        """Whether nobody is at its instruments: its programs have ended, or it was told that it doesn't hold."""
-        since = self._seen.setdefault(one["session"], time.monotonic())
+        """Whether nobody is at its instruments: its programs have ended, or it was told that it doesn't hold; or it isn't told that it does for
+        longer than a client tries to come back, because it has a time limit, and the broker that heard it was killed."""
+        since = time.monotonic() - self._seen.setdefault(one["session"], time.monotonic())
         found = re.search(r"@\S+ (\d+) ", f"{one['by']} ")
-        if time.monotonic() < since + 1 or not found:
+        if since < 1 or not found:
             return False
-        return one["session"] in self.lab.over or not left_in(int(found[1]))
+        return one["session"] in self.lab.over or not left_in(int(found[1])) or since > AWAY and self.lab.at.get(int(found[1])) != one["session"]
 
     def _tries(self, status: dict[str, Any]) -> None:
         """What only operators may, by somebody else; and what nobody can."""

@@ -217,7 +217,7 @@ class Seat:
                     with lab.lock:
                         if number in lab.told:
                             lab.faults.append(f"session {number} was told to two: {lab.told[number]} and {self.person}")
-                        lab.told[number] = f"{self.person}, {plan['kind']}"
+                        lab.told[number], lab.at[one.pid] = f"{self.person}, {plan['kind']}", number
                 if self._has_fate(plan, one):
                     return "killed", ""
             if what == "idle" and fate == "released":
@@ -226,6 +226,7 @@ class Seat:
                 if number:
                     with lab.lock:
                         lab.over.add(number)
+                        lab.at.pop(one.pid, None)
                 if what == "eof" and plan["kind"] in ("python", "http"):
                     kept = "".join(self.kept)
                     self._leaves()

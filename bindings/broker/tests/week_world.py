@@ -184,6 +184,8 @@ class Lab:
         self.faults = list[str]()
         self.told, self.over, self.released, self.idle = dict[int, str](), set[int](), set[int](), dict[int, float]()
         self.records = dict[int, bytes]()
+        # which session each program is in, as far as it was told
+        self.at = dict[int, int]()
         # until when each instrument is out of order, and each person was cut off
         self.out, self.cut = dict[str, float](), dict[str, float]()
         self.given, self.given_upto, self.is_evening, self.is_done = 0, 0, True, False
