@@ -100,7 +100,7 @@ struct lab_asked {
     uint64_t deadline; /* until when it waits, or LAB_NEVER */
     uint64_t limit;    /* how long it may hold while somebody waits for what it has, or LAB_NEVER */
     uint32_t kind;     /* its class, counted from 0 */
-    uint32_t unused;
+    uint32_t urgent;   /* 1: it is urgent; 0: it isn't */
 };
 
 struct lab_outcome {
@@ -131,7 +131,8 @@ uint32_t lab_bay_open(const struct lab_class *classes, size_t count, const struc
 uint32_t lab_bay_resume(const struct lab_class *classes, size_t count, const struct lab_terms *terms, const uint8_t *journal, size_t length,
                         uint64_t now, struct lab_bay *bay, size_t *used, uint64_t *fault);
 
-/* Somebody asks for one of these sets, whichever is free first (if several are: the first of them). 0; 5; 7; 20 to 25; 29. */
+/* Somebody asks for one of these sets, whichever is free first (if several are: the first of them). If it is urgent, nobody that asks later goes
+   before it while it waits, nor before anybody that stands in line with it. It goes before none of these itself. 0; 5; 7; 20 to 25; 29. */
 uint32_t lab_bay_ask(struct lab_bay *bay, const struct lab_asked *asked, const uint64_t *sets, size_t count, uint64_t now);
 
 /* An ask that holds lets go. 0; 7; 8 if it waits; 26. */

@@ -41,6 +41,7 @@ static const char HELP[] =
     "  --any              one of these is enough; with a comma, as in load-1,load-2, a choice has several\n"
     "  --timeout SECONDS  how long to wait for them at most\n"
     "  -n, --no-wait      take what is free, as with --timeout 0\n"
+    "  --urgent           once it waits, nobody who asks later goes before it, nor before anybody who waits with it\n"
     "  --station NAME     as which station; a guest without\n"
     "  --by TEXT          who holds, for people to read; user, machine and command without\n"
     "  --quiet            don't say for whom it waits\n"
@@ -254,7 +255,7 @@ static double number_of(const char *value) {
 static struct {
     char **instruments, **command, *station, *by, *broker, *token_file;
     int count;
-    bool any, quiet;
+    bool any, urgent, quiet;
     double timeout; /* NAN: none */
 } wish = {.station = "", .timeout = NAN};
 
@@ -533,7 +534,7 @@ static void put_wish(struct text *to, double left) {
         put_names(to, NULL, false);
     if (!isnan(left))
         putf(to, ", \"timeout\": %.3f", left);
-    put(to, "}", 1);
+    putf(to, "%s}", wish.urgent ? ", \"urgent\": true" : "");
 }
 
 /* Where the broker takes HTTP: at the socket itself, or at the one beside it. */
@@ -1038,6 +1039,8 @@ static int read_words(int count, char **words) {
                 return wrong("--timeout: this is no number of seconds, 0 or more and below 1000000000", value);
         } else if (strcmp(word, "--any") == 0)
             wish.any = true;
+        else if (strcmp(word, "--urgent") == 0)
+            wish.urgent = true;
         else if (strcmp(word, "--quiet") == 0)
             wish.quiet = true;
         else if (strcmp(word, "-n") == 0 || strcmp(word, "--no-wait") == 0)

@@ -811,6 +811,35 @@ static void own_sets(void) {
     freed();
 }
 
+static uint32_t hurries(uint64_t number, uint64_t needs, uint32_t urgent) {
+    struct lab_asked asked = {.number = number, .deadline = LAB_NEVER, .limit = LAB_NEVER, .urgent = urgent};
+    return lab_bay_ask(&bay, &asked, &needs, 1, 0);
+}
+
+/* An urgent ask goes before none that stands in line, also where another would; and from then on nobody goes before it, nor before them. */
+static void urgent_asks(void) {
+    opened(100, LAB_NEVER, LAB_NEVER, 64, 0);
+    IS(ask_one(1, 0, 2, 0) == LAB_DONE && ask_one(2, 0, 3, 0) == LAB_DONE);
+    IS(hurries(3, 1, 1) == LAB_DONE);
+    WAITS(2, 0, 3, 64);
+    WAITS(3, 0, 1, 64);
+    KEEPS(3, 0, 2, {0, 0}, 0, 0, 0, 0, LAB_WAITS);
+    IS(hurries(4, 1, 0) == LAB_DONE && hurries(5, 4, 0) == LAB_DONE); /* (5 is let in: nobody in line wants what it wants) */
+    WAITS(4, 0, 1, 0);
+    KEEPS(9, 2, 5, {0, 0}, 4, 0, 2, 0, LAB_HOLDS);
+    IS(lab_bay_let_go(&bay, 1, 1) == LAB_DONE && lab_bay_let_go(&bay, 2, 2) == LAB_DONE);
+    KEEPS(4, 0, 3, {0, 0}, 1, 2, 4, 0, LAB_HOLDS);
+    freed();
+    opened(100, LAB_NEVER, LAB_NEVER, 64, 0);
+    IS(ask_one(1, 0, 2, 0) == LAB_DONE && ask_one(2, 0, 3, 0) == LAB_DONE);
+    IS(hurries(3, 1, 0) == LAB_DONE); /* (that isn't urgent, and is let in at once) */
+    WAITS(2, 0, 3, 1);
+    IS(lab_bay_let_go(&bay, 3, 0) == LAB_DONE && hurries(4, 4, 1) == LAB_DONE); /* (so is this one, that nobody in line is in the way of) */
+    WAITS(2, 0, 3, 64);
+    KEEPS(9, 2, 4, {0, 0}, 4, 0, 3, 0, LAB_HOLDS);
+    freed();
+}
+
 static void stops(void) {
     opened(100, LAB_NEVER, LAB_NEVER, 64, 0);
     IS(ask_one(1, 0, 1, 0) == LAB_DONE);
@@ -1111,6 +1140,7 @@ int main(void) {
     first_keepers();
     waited_for();
     own_sets();
+    urgent_asks();
     stops();
     journals();
     comes_back();

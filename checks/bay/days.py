@@ -4,8 +4,8 @@ journal have to be the same.
 
 usage: checks/bay/days.py LIBRARY [DAYS [SEED]]      LIBRARY: liblabrun.so, as checks/door/build makes it; 300 days if none is said
 
-A day is up to some hundred calls by a few classes of clients at a few instruments: asks with one set or several, with deadlines and limits,
-let-goes, leaves, clients that are gone, what is taken away, notes, a disk that is slow, that fails, new files with other classes, a stop. At a
+A day is up to some hundred calls by a few classes of clients at a few instruments: urgent asks and others, with one set or several, with deadlines and
+limits, let-goes, leaves, clients that are gone, what is taken away, notes, a disk that is slow, that fails, new files with other classes, a stop. At a
 random moment the journal is cut at a random byte at or behind what is durable, and the bay that comes back from it has to hold what was told.
 The last line is `N passed, M failed`."""
 
@@ -40,7 +40,7 @@ class Terms(ctypes.Structure):
 
 class Asked(ctypes.Structure):
     _fields_ = [("number", ctypes.c_uint64), ("owner", ctypes.c_uint64 * 2), ("deadline", ctypes.c_uint64), ("limit", ctypes.c_uint64)]
-    _fields_ += [("kind", ctypes.c_uint32), ("unused", ctypes.c_uint32)]
+    _fields_ += [("kind", ctypes.c_uint32), ("urgent", ctypes.c_uint32)]
 
 
 class Outcome(ctypes.Structure):
@@ -138,8 +138,8 @@ class Machine:
             ctypes.byref(self.handle), ctypes.byref(used), ctypes.byref(fault))  # fmt: skip
         return status, used.value, fault.value
 
-    def ask(self, number, sets, kind, owner, deadline, limit, now):
-        asked = Asked(number, (ctypes.c_uint64 * 2)(owner >> 64, owner & NEVER), moment(deadline), moment(limit), kind, 0)
+    def ask(self, number, sets, kind, owner, deadline, limit, now, urgent):
+        asked = Asked(number, (ctypes.c_uint64 * 2)(owner >> 64, owner & NEVER), moment(deadline), moment(limit), kind, urgent)
         return self.call("ask", ctypes.byref(asked), (ctypes.c_uint64 * len(sets))(*sets), ctypes.c_size_t(len(sets)), ctypes.c_uint64(now))
 
     def act(self, name, number, now):
@@ -252,7 +252,8 @@ class Day:
         uses = self.rules.classes[kind][0] if kind < len(self.rules.classes) else 1
         sets = [dice.getrandbits(6) & (uses if dice.random() < 0.97 else 63) or dice.choice([uses & -uses, uses, 0]) for _ in range(dice.choice([1, 1, 1, 2, 3]))]
         sets = [] if dice.random() < 0.01 else sets
-        given = (self.number, sets, kind, dice.choice([0, dice.getrandbits(128), 7 << 64]), dice.choice([None, self.now, self.now + dice.randint(0, 9)]), dice.choice([None, dice.randint(0, 6)]), self.now)
+        owner, deadline = dice.choice([0, dice.getrandbits(128), 7 << 64]), dice.choice([None, self.now, self.now + dice.randint(0, 9)])
+        given = (self.number, sets, kind, owner, deadline, dice.choice([None, dice.randint(0, 6)]), self.now, dice.random() < 0.1)
         wanted, _ = answered(self.model.ask, *given)
         same(f"ask {given}", wanted, self.machine.ask(*given))
 

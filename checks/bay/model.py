@@ -12,7 +12,7 @@ An *ask* wants one of several sets of instruments and a place of a class. It wai
    nobody: it has no place, or somebody else holds an instrument of one of its sets, or has it kept. An ask keeps nothing from itself; but it
    doesn't go before somebody else that asked before and wants no more.
 5. In order: while a place is free for it, an ask is passed at a set by `most` that came later at the most; of those that want the same, who
-   asked first is served first.
+   asked first is served first. From an urgent ask on, nobody that asks later goes before it, nor before anybody that stands in line with it.
 6. Tokens rise: whoever is let in gets a number larger than everybody that was let in before; and after a crash a larger one than everybody whose
    hold is in the journal.
 """
@@ -66,6 +66,7 @@ class Wish:
     deadline: Optional[int]
     passed: int = 0
     overtaken: int = 0  # by how many that came later
+    is_closed: bool = False  # an urgent one stands in line with it
 
 
 @dataclass
@@ -103,7 +104,9 @@ class Bay:
 
     # ---- owners
 
-    def ask(self, number: int, sets: Iterable[int], kind: int, owner: int, deadline: Optional[int], limit: Optional[int], now: int) -> None:
+    def ask(
+        self, number: int, sets: Iterable[int], kind: int, owner: int, deadline: Optional[int], limit: Optional[int], now: int, urgent: bool = False
+    ) -> None:
         sets = list(sets)
         if self.is_stopped:
             raise Refused("stopped")
@@ -121,6 +124,8 @@ class Bay:
             raise Refused("line_full")
         self.asks.append(Ask(number, kind, owner, deadline, limit, max(now, self.now), max(now, self.now)))
         self.line += [Wish(number, it, kind, deadline) for it in sets]
+        for it in self.line if urgent else []:
+            it.is_closed, it.passed = True, self.rules.most
         self.next = number + 1
         self._follow(now)
 
@@ -275,6 +280,7 @@ class Bay:
         for it in ready:
             it.overtaken += bool(it.needs & first.needs) and first.ask > it.ask
             assert it.overtaken <= self.rules.most, "overtaken"
+            assert not (it.is_closed and it.needs & first.needs and first.ask > it.ask), "nobody goes before whom an urgent one stands in line with"
             if it.needs & first.needs and it.passed < self.rules.most:
                 it.passed += 1
         self.line = [it for it in self.line if it.ask != first.ask]

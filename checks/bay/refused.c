@@ -177,7 +177,7 @@ static void writes(int fails) {
 
 static void asks(uint64_t number) {
     static const uint64_t may[3] = {0xff, 0x0f, 0x3c};
-    struct lab_asked asking = {number, {number % 3, number}, LAB_NEVER, LAB_NEVER, chance(3), 0};
+    struct lab_asked asking = {number, {number % 3, number}, LAB_NEVER, LAB_NEVER, chance(3), chance(8) == 0};
     uint64_t sets[40];
     size_t count = number % 20 == 0 ? 40 : 1 + chance(3);
     uint32_t status;

@@ -83,8 +83,10 @@ class Machine:
 
     # whoever asks
 
-    def ask(self, number: int, owner: tuple[int, int], kind: int, sets: Sequence[int], deadline: int, limit: int, now: int) -> None:
-        self._calls(self._bay.ask, number, sets, kind, _of_pair(owner), _moment(deadline), _moment(limit), now)
+    def ask(
+        self, number: int, owner: tuple[int, int], kind: int, sets: Sequence[int], deadline: int, limit: int, now: int, urgent: bool = False
+    ) -> None:
+        self._calls(self._bay.ask, number, sets, kind, _of_pair(owner), _moment(deadline), _moment(limit), now, urgent)
 
     def holds(self, number: int, kind: int, sets: Sequence[int], deadline: int, now: int, done: int) -> Optional[tuple[int, int, int]]:
         self.ask(number, (1, number), kind, sets, deadline, NEVER, now)

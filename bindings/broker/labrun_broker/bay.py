@@ -71,7 +71,7 @@ SETTINGS = ("bay", "instruments", "gone", "limit", "overtakes", "on_release_limi
 TABLES = (
     "stations", "guests", "station_limits", "station_gone", "instrument_gone", "limits", "tags", "labels", "guards", "on_release",
 )  # fmt: skip
-KEYS = (*SETTINGS, *TABLES, "people", "groups", "operators")
+KEYS = (*SETTINGS, *TABLES, "people", "groups", "operators", "urgent")
 # what a command of `hold`, or one of [on_release], has in these names is something else
 VARIABLES = (
     "LABRUN_HELD", "LABRUN_STATION", "LABRUN_BROKER", "LABRUN_AROUND", "LABRUN_TOKEN", "LABRUN_LIBRARY", "LABRUN_BROKER_TOKEN_FILE",

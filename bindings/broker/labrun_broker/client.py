@@ -111,11 +111,13 @@ class Lab:
     def hold(
         self, *instruments: str, timeout: Optional[float] = None, any_of: Iterable[Union[str, Iterable[str]]] = (), station: Optional[str] = None,
         waits: Optional[Callable[[str], None]] = None, limit: Optional[float] = None, warns: Optional[Callable[[str], None]] = None,
+        urgent: bool = False,
     ) -> Held:
         """A session of these instruments, or of one of the sets `any_of`: `with lab.hold("scope", "supply"):`, or `async with`. After `timeout`
         seconds TimeoutError says who keeps it waiting, and it is given up. `waits` is called with a line whenever it is known for whom it waits. With a
         `limit` it may be taken away once it has held for so many seconds and somebody waits for what it has; `warns` is called with a line before
-        the limit is over, be it this one or the bay's, on another thread."""
+        the limit is over, be it this one or the bay's, on another thread. While an `urgent` one waits, nobody who asks later goes before it, nor before
+        anybody who waits with it."""
         timeout, limit = _seconds("timeout", timeout), _seconds("limit", limit)
         if timeout is not None and not 0 <= timeout < MOST_SECONDS:
             raise BadWish(f"a timeout of {timeout:g} s; it is 0 or more, and below {MOST_SECONDS}")
@@ -135,7 +137,7 @@ class Lab:
         wish.wants_waits, wish.pings = waits is not None, True
         if limit is not None:
             wish.limit = limit
-        wish.wants_warning = True
+        wish.wants_warning, wish.urgent = True, bool(urgent)
         held = Held(self, wish, timeout, waits)
         held.on_warning = warns
         return held

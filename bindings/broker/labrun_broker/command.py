@@ -110,6 +110,9 @@ def line_of(it: dict[str, Any], status: dict[str, Any]) -> list[str]:
     """Where somebody who waits stands, and how often others went before."""
     if not it.get("place"):
         return []
+    if it.get("keeps_place"):
+        why = "urgent" if it["urgent"] else "before one that is urgent"
+        return [f"number {it['place']} in line, {why}: nobody who asks later goes before it"]
     return [f"number {it['place']} in line" + (f"; {counted(it['passed'], 'other')} went first, and after {status['overtakes']} what it needs is kept for it" if it["passed"] else "")]
 
 

@@ -83,13 +83,19 @@ def number(key: str, given: Any) -> float:
         return math.inf
 
 
+def yes_or_no(key: str, given: Any) -> bool:
+    if not isinstance(given, bool):
+        raise BadWish(f"{key}: true or false is wanted")
+    return given
+
+
 def whole(key: str, given: Any) -> int:
     if isinstance(given, bool) or not isinstance(given, int) or not 0 <= given < 1 << 64:
         raise BadWish(f"{key}: a whole number is wanted")
     return given
 
 
-WISH: Fields = {"instruments": names, "any_of": choices, "station": text, "by": text, "timeout": number, "limit": number, "ticket": text}
+WISH: Fields = {"instruments": names, "any_of": choices, "station": text, "by": text, "timeout": number, "limit": number, "ticket": text, "urgent": yes_or_no}
 NOTE: Fields = {"text": text}
 RELEASE: Fields = {"station": text, "session": whole, "by": text, "bay": text}
 

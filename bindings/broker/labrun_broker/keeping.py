@@ -47,6 +47,8 @@ class Keeping:
         self._news = News()
         self.history = self._news.history
         self.refusals = self.sessions = self.opened_at = 0
+        # of urgent ones: how many, and the number of the last
+        self.urgent = self.last_urgent = 0
         # what is to be told to whoever looks after the broker, as it begins, and later
         self.complaints: list[str] = []
         self.says: Callable[[str], None] = lambda text: None
@@ -216,12 +218,15 @@ class Keeping:
         session.is_followed = making_safe.is_followed(self.bay, wish.names)
         limit = NEVER if session.limit is None or session.is_followed else wishes.milliseconds(session.limit)
         try:
-            self._shell.machine.ask(number, session.key, session.kind, sets, deadline, limit, self.now())
+            self._shell.machine.ask(number, session.key, session.kind, sets, deadline, limit, self.now(), wish.urgent)
         except Refusal as it:
             raise LabrunError(f"the bay doesn't take it: {it}") from None
         session.number, session.wish, session.sets, session.instruments = number, wish, sets, wish.names
         self.by_number[number] = self._by_key[session.key] = session
-        self._record("asked", session)
+        if wish.urgent:
+            self.urgent, self.last_urgent = self.urgent + 1, number
+        more: dict[str, Any] = {"urgent": True} if wish.urgent else {}
+        self._record("asked", session, **more)
         self._shell.pump()
         lasting.looks(self)
 

@@ -26,9 +26,9 @@ from typing import Any, Callable, Iterator, Mapping, Sequence, Union
 from .bay import Bay, BayFault, Limits, Path, Reader, bay_of, table_in, text_in
 from .people import People, people_of
 
-LAB_KEYS = ("lab", "bays", "people", "groups", "operators", "limits")
+LAB_KEYS = ("lab", "bays", "people", "groups", "operators", "urgent", "limits")
 # what a bay of a lab leaves to the lab
-OF_THE_LAB = ("people", "groups", "operators", "limits")
+OF_THE_LAB = ("people", "groups", "operators", "urgent", "limits")
 MOST_BAYS = 64
 
 

@@ -19,6 +19,7 @@ except ImportError:
 BUCKETS = (0.001, 0.005, 0.02, 0.1, 0.5, 2, 10, 60, 300, 1800, 7200)
 COUNTS = {
     "refusals": "Wishes that were refused: a wrong name, an instrument that the client may not use, a ticket that no session has",
+    "urgent": "Sessions that were asked for as urgent",
     "write_failures": "Writes to the journal that failed: the disk is full, or broken",
 }
 STATES = {"holding": "Stations that hold instruments", "waiting": "Stations that wait", "gone": "Stations that hold, but whose client is gone"}

@@ -130,6 +130,7 @@ function overtakesOf(it) {
 }
 function lineOf(it) {
   if (!it.place) return "";
+  if (it.keeps_place) return `, number ${it.place} in line, ${it.urgent ? "urgent" : "before one that is urgent"}: nobody who asks later goes before it`;
   return `, number ${it.place} in line${it.passed ? `; ${it.passed} ${it.passed === 1 ? "other" : "others"} went first, and after ${overtakesOf(it)} what it needs is kept for it` : ""}`;
 }
 function chainOf(it) {

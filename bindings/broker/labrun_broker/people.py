@@ -1,6 +1,7 @@
-"""The people of a bay's file: by what they are known, what each may ask for, and who looks after the bay.
+"""The people of a bay's file: by what they are known, what each may ask for, who looks after the bay, and who else may ask urgently.
 
     operators = ["ana"]
+    urgent = ["bob"]
 
     [people]
     ana = {token = "sha256:..", unix = "ana"}                     # `labrun-broker token ana` makes the line
@@ -45,6 +46,7 @@ class People:
 
     of: dict[str, Person] = field(default_factory=dict)
     operators: tuple[str, ...] = ()
+    urgent: tuple[str, ...] = ()
 
     def __bool__(self) -> bool:
         return bool(self.of)
@@ -98,6 +100,8 @@ def changes(before: People, after: People) -> Iterator[str]:
             yield f"person {name}: may ask for {_words(new.may)}, and not {_words(old.may)} (for who asks from now on)"
     if after.operators != before.operators:
         yield f"operators: {_all(after.operators)}, and not {_all(before.operators)}"
+    if after.urgent != before.urgent:
+        yield f"urgent: {_all(after.urgent)}, and not {_all(before.urgent)}"
 
 
 def _tokens(count: int) -> str:
@@ -142,7 +146,8 @@ def people_of(reader: Reads, instruments: tuple[str, ...], tags: Tags) -> People
     reading.are_of_one("unix", {name: it.unix for name, it in found.items()})
     for name, may in reading.groups(found).items():
         found[name] = Person(found[name].tokens, found[name].unix, tuple(dict.fromkeys((*(found[name].may or ()), *may))))
-    return People(found, reading.known("operators", reader.given.get("operators", []), found))
+    operators, urgent = (reading.known(key, reader.given.get(key, []), found) for key in ("operators", "urgent"))
+    return People(found, operators, urgent)
 
 
 class _Reading:

@@ -43,6 +43,12 @@ def check_operator(bay: Bay, person: str, what: str) -> None:
         raise NotAllowed(f"{person or 'nobody'} may not {what}; {bay.people.to_ask()}")
 
 
+def check_urgent(bay: Bay, person: str) -> None:
+    """NotAllowed: there are people, and this one may not ask urgently."""
+    if bay.people and person not in (*bay.people.operators, *bay.people.urgent):
+        raise NotAllowed(f"{person or 'nobody'} may not ask urgently; {bay.people.to_ask()}")
+
+
 class OfPerson(Protocol):
     """A session."""
 

@@ -39,6 +39,8 @@ def add_hold(parser: argparse.ArgumentParser) -> None:
     parser.add_argument("--limit", metavar="SPAN", type=last, help=limit)
     parser.add_argument("-n", "--no-wait", dest="timeout", action="store_const", const=0.0, help="take what is free, as with --timeout 0")
     parser.add_argument("--any", action="store_true", help="one of these is enough; with a comma, as in load-1,load-2, a choice has several")
+    urgent = "once it waits, nobody who asks later goes before it, nor before anybody who waits with it; it goes before none of them"
+    parser.add_argument("--urgent", action="store_true", help=urgent)
     parser.add_argument("--station", metavar="NAME", default="", help="as which station; a guest without")
     parser.add_argument("--by", metavar="TEXT", help="who holds, for people to read; user, machine and command without")
     parser.add_argument("--quiet", action="store_true", help="don't say for whom it waits")
@@ -56,7 +58,7 @@ def run_hold(args: argparse.Namespace) -> int:
     any_of = tuple(tuple(it.split(",")) for it in its) if args.any else ()
     if not looks_around(args, any_of or (its,)):
         return USAGE
-    wish = Wish(() if any_of else its, any_of, args.station, args.by or f"{user()} {os.getpid()} {what}"[:64], args.timeout, args.limit)
+    wish = Wish(() if any_of else its, any_of, args.station, args.by or f"{user()} {os.getpid()} {what}"[:64], args.timeout, args.limit, args.urgent)
     silence = Silence(address_of(args))
 
     def waits(text: str) -> None:
@@ -207,7 +209,7 @@ def holds(args: argparse.Namespace, wish: Wish, waits: Waits, signals: Signals, 
         except Odd:
             was_there, ticket = tried[0].wire.was_there, tried[0].ticket
     lab = ends.enter_context(connects(was_there))
-    held = lab.hold(*wish.instruments, any_of=wish.any_of, waits=waits, limit=wish.limit)
+    held = lab.hold(*wish.instruments, any_of=wish.any_of, waits=waits, limit=wish.limit, urgent=wish.urgent)
 
     def wholly() -> Held:
         # (it may hold by now, and the broker's word be lost)

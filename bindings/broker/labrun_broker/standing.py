@@ -216,8 +216,10 @@ class Standings:
 
     def _is_kept(self, bit: int, other: Session) -> str:
         """Also why, and until when: and for what that one waits, down to the one that holds it."""
-        passed = self._line(other)["passed"]
-        first = f"{counted(passed, 'other')} went before it" if passed else "it asked first"
+        its = self._line(other)
+        first = f"{counted(its['passed'], 'other')} went before it" if its["passed"] else "it asked first"
+        if its["keeps_place"]:
+            first = "it is urgent" if its["urgent"] else "one that asked after it is urgent"
         text = f"{self._name(bit)} is kept for {other.name} until it holds, since {first}"
         return text + (f" and it waits for {' and '.join(ends)}" if (ends := self._ends(other)) else "")
 
@@ -308,7 +310,7 @@ class Standings:
         since = session.since if session is not None and session.state == ENDING else since
         row = {"name": name, "state": "idle", "instruments": [], "since": self.when(since), "by": None, "note": None, "gone_since": None}
         if session is None:
-            return {**row, "session": None, "token": None, "place": None, "passed": None, "waits_for": []}
+            return {**row, "session": None, "token": None, **self._line(None), "waits_for": []}
         state = session.state
         if self._is_untold(session):
             # (it is at its instruments as good as ever, unless the disk keeps it from them)
@@ -317,11 +319,15 @@ class Standings:
         row |= {"gone_since": self.when(session.gone_at), "session": session.number, "token": session.token or None, **self._line(session)}
         return {**row, "waits_for": self.keepers(session) if state == "waiting" else []}
 
-    def _line(self, session: Session) -> dict[str, Optional[int]]:
-        """Its place among all that wait; and how many were let in since it asked that need what it does, at the set where these are most."""
+    def _line(self, session: Optional[Session]) -> dict[str, Any]:
+        """Its place among all that wait; how many were let in since it asked that need what it does, at the set where these are most; and whether
+        nobody who asks later goes before it, since it or one that asked after it is urgent."""
+        place = None if session is None else self._places.get(session.number)
+        if session is None or place is None:
+            return {"place": None, "passed": None, "urgent": False, "keeps_place": False}
         waits = (self._keeping.machine.waits(session.number, at) for at in range(len(session.sets)))
-        place = self._places.get(session.number)
-        return {"place": place, "passed": None if place is None else max((it[1] for it in waits if it is not None), default=0)}
+        passed = max((it[1] for it in waits if it is not None), default=0)
+        return {"place": place, "passed": passed, "urgent": session.wish.urgent, "keeps_place": session.number <= self._keeping.last_urgent}
 
     def _holds(self, session: Session) -> bool:
         return session.number in self._holding

@@ -64,6 +64,7 @@ class Wish:
     # in seconds; and whether its client wants to be warned before that
     limit: Optional[float] = None
     wants_warning: bool = False
+    urgent: bool = False
     # who asks, where the bay names people: no client says this of itself
     person: str = ""
 
@@ -83,7 +84,7 @@ def wish_of(asked: Any) -> Wish:
     timeout = float(asked.timeout) if asked.HasField("timeout") else None
     ticket = asked.ticket or secrets.token_urlsafe()
     limit = float(asked.limit) if asked.HasField("limit") else None
-    its = timeout, ticket, asked.comes_back, asked.pings, limit, asked.wants_warning
+    its = timeout, ticket, asked.comes_back, asked.pings, limit, asked.wants_warning, asked.urgent
     return Wish(tuple(asked.instruments), any_of, asked.station, asked.by, *its)
 
 
@@ -104,7 +105,7 @@ def check_form(wish: Wish, bay: Bay) -> None:
 
 
 def check(wish: Wish, bay: Bay) -> None:
-    """Whether the bay has it for this client. BadWish, NoInstrument or MayNotUse says what is wrong."""
+    """Whether the bay has it for this client. BadWish, NoInstrument, MayNotUse or NotAllowed says what is wrong."""
     if wish.station and wish.station not in bay.stations:
         hint = "; guests ask without one" if wish.station in bay.guest_names else near(wish.station, bay.stations)
         raise BadWish(f"{wish.station} is no station of this {bay.what}: there are {', '.join(bay.stations) or 'none'}{hint}")
@@ -114,6 +115,8 @@ def check(wish: Wish, bay: Bay) -> None:
         raise BadWish("say either which instruments, or which sets of them to choose from (any_of), and not both")
     if not all(wish.choices):
         raise BadWish("say which instruments, or which sets of them to choose from (any_of)")
+    if wish.urgent:
+        rights.check_urgent(bay, wish.person)
     may = _may_use(wish, bay)
     for name in filter(is_plain, wish.names):
         if name not in bay.instruments:

@@ -18,7 +18,7 @@ class Keeping:
     def __init__(self, bay: dict[str, list[str]], name: str = "bay-3", now: Optional[float] = None, most: int = 1000) -> None:
         self.bay, self.name, self.now = bay, name, now
         self.history: deque[Record] = deque(maxlen=most)
-        self.refusals = self.write_failures = 0
+        self.refusals = self.write_failures = self.urgent = 0
         self.disk, self.notice = "", ""
         self.state: Optional[str] = None
         self.since = self._t()

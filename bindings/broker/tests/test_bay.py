@@ -143,10 +143,10 @@ class Example(unittest.TestCase):
         more |= {"limit": 12 * 3600.0, "guests_limit": 2 * 3600.0, "station_limits": {"burn-in": 3 * 86400.0}}
         more |= {"on_release": {"supply": "/usr/local/bin/safe-state supply"}}
         more |= {"station_gone": {"burn-in": "keep", "": "release"}, "instrument_gone": {"load-1": "release"}}
-        people = People({"ana": Person((PEOPLE["ana"],), ("ana",)), "bob": Person((), ("bob",), ("scope", "load-*")), "runner-1": Person((PEOPLE["runner-1"],), (), ("scope", "tag:precise"))}, ("ana",))
+        people = People({"ana": Person((PEOPLE["ana"],), ("ana",)), "bob": Person((), ("bob",), ("scope", "load-*")), "runner-1": Person((PEOPLE["runner-1"],), (), ("scope", "tag:precise"))}, ("ana",), ("bob",))
         self.assertEqual(bay_of(whole), replace(bay, overtakes=16, people=people, **more))
         given = tomllib.loads(whole)
-        self.assertEqual(set(given), {"bay", "instruments", "gone", "overtakes", "stations", "guests", "limits", "tags", "labels", "guards", "limit", "station_limits", "on_release", "on_release_limit", "station_gone", "instrument_gone", "people", "groups", "operators"})
+        self.assertEqual(set(given), {"bay", "instruments", "gone", "overtakes", "stations", "guests", "limits", "tags", "labels", "guards", "limit", "station_limits", "on_release", "on_release_limit", "station_gone", "instrument_gone", "people", "groups", "operators", "urgent"})
         self.assertEqual((set(given["guests"]), set(given["limits"])), ({"count", "may_use", "limit", "gone"}, {"clients", "requests", "name", "note"}))
 
     def test_each_key_is_in_formats(self) -> None:
@@ -155,6 +155,6 @@ class Example(unittest.TestCase):
         rows = set(re.findall(r"(?m)^\| `([\w.]+)` \|", part))
         limits = {f"limits.{it}" for it in vars(Limits())}
         wanted = {"bay", "instruments", "gone", "overtakes", "stations.NAME", "guests.count", "guests.may_use", "tags.NAME", "labels.NAME", "guards.NAME"}
-        wanted |= {"people.NAME.token", "people.NAME.unix", "people.NAME.may", "groups.NAME", "operators"}
+        wanted |= {"people.NAME.token", "people.NAME.unix", "people.NAME.may", "groups.NAME", "operators", "urgent"}
         wanted |= {"limit", "guests.limit", "station_limits.NAME", "on_release_limit", "on_release.NAME", "guests.gone", "station_gone.NAME", "instrument_gone.NAME"}
         self.assertEqual(rows, {*wanted, *limits})

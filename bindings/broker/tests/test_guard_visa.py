@@ -2,7 +2,9 @@
 
 from __future__ import annotations
 
+import contextlib
 import importlib.util
+import itertools
 import re
 import socket
 import struct
@@ -128,22 +130,22 @@ class Hislip:
         threading.Thread(target=self.serves, daemon=True).start()
 
     def serves(self) -> None:
-        number = 0
-        while True:
-            try:
+        with contextlib.suppress(OSError):
+            for number in itertools.count(1):
                 one, _ = self.listening.accept()
-            except OSError:
-                return
-            kind, given = hislip_of(one)
-            if kind == 0:  # Initialize
-                number += 1
-                self.sessions[number] = one
-                one.sendall(hislip(1, 0x01000000 | number))
-            elif kind == 17 and given in self.sessions:  # AsyncInitialize
-                one.sendall(hislip(18, 0))
-                self.sessions[given].sendall(hislip(7, 0, b"labrun,scope\n"))
-            else:
-                one.close()
+                # (each by itself: a guard may bring a client's second connection first)
+                threading.Thread(target=self.begins, args=(one, number), daemon=True).start()
+
+    def begins(self, one: socket.socket, number: int) -> None:
+        kind, given = hislip_of(one)
+        if kind == 0:  # Initialize
+            self.sessions[number] = one
+            one.sendall(hislip(1, 0x01000000 | number))
+        elif kind == 17 and given in self.sessions:  # AsyncInitialize
+            one.sendall(hislip(18, 0))
+            self.sessions[given].sendall(hislip(7, 0, b"labrun,scope\n"))
+        else:
+            one.close()
 
 
 def hislip(kind: int, given: int, data: bytes = b"") -> bytes:

@@ -33,7 +33,7 @@ def day(it: Keeping) -> None:
     it.hold("radio", "scope")
     it.gone("radio")
     it.ask("board", "scope")
-    it.refusals, it.write_failures = 4, 3
+    it.refusals, it.write_failures, it.urgent = 4, 3, 2
 
 
 class Numbers(unittest.TestCase):
@@ -57,7 +57,7 @@ class Numbers(unittest.TestCase):
             rest = {name: value for name, value in numbers.items() if not name.startswith("labrun_wait")}
             expected = {
                 'labrun_sessions_total{end="done",station="board"}': 2, 'labrun_sessions_total{end="failed",station="board"}': 1,
-                'labrun_sessions_total{end="gave up",station="radio"}': 1, "labrun_refusals_total": 4, "labrun_write_failures_total": 3,
+                'labrun_sessions_total{end="gave up",station="radio"}': 1, "labrun_refusals_total": 4, "labrun_write_failures_total": 3, "labrun_urgent_total": 2,
                 "labrun_stations_holding": 0, "labrun_stations_waiting": 1, "labrun_stations_gone": 1,
             }  # fmt: skip
             self.assertEqual(rest, expected)

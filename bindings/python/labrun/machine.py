@@ -195,14 +195,16 @@ class Machine:
 
     # whoever asks
 
-    def ask(self, number: int, owner: tuple[int, int], kind: int, sets: Sequence[int], deadline: int, limit: int, now: int) -> None:
+    def ask(
+        self, number: int, owner: tuple[int, int], kind: int, sets: Sequence[int], deadline: int, limit: int, now: int, urgent: bool = False
+    ) -> None:
         """Refusal: NUMBER, STOPPED, NO_CLASS, EMPTY, MAY_NOT, LINE_FULL, OWNER."""
         count = len(sets)
         if count == 1:
             self._sets[0] = sets[0]
         else:
             self._has_sets(sets)
-        _packs(self._asked, 0, number, owner[0], owner[1], deadline, limit, kind, 0)
+        _packs(self._asked, 0, number, owner[0], owner[1], deadline, limit, kind, urgent)
         status = self._ask(self._at, self._asked_at, self._sets_at, count, now)
         if status:
             self._finds("ask", status)

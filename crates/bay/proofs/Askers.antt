@@ -12,12 +12,14 @@ use Rattle.bay_book.specs.Books.{BookView, IsSound}
 use Rattle.bay.specs.declared.classes.Class.{Class}
 use Rattle.bay.specs.declared.request.Request.{Request}
 use Rattle.bay.specs.declared.request.NotAsked.{NotAsked}
+use Rattle.bay.specs.declared.request.Urgency.{Urgency}
+use Rattle.bay.specs.declared.request.Urgency.TheVariants.{Usual, Urgent}
 use Rattle.bay.specs.Members.{Has}
 use Rattle.bay.specs.Classes.{class_at, class_bit, is_within, has_no_set, leaves}
-use Rattle.bay.specs.Cores.{Core, IsTied}
-use Rattle.bay.specs.Requests.{why_not, is_no_number, asked}
+use Rattle.bay.specs.Cores.{Core, core, IsTied}
+use Rattle.bay.specs.Requests.{why_not, is_no_number, joined, ordered}
 use Rattle.bay.proofs.Members.{append_cases, append_first, append_second, place_of}
-use Rattle.bay.proofs.InLine.{wishes_cases, below_of}
+use Rattle.bay.proofs.InLine.{most_cases, most_has, wishes_cases, below_of}
 
 -- ---- the request fits
 
@@ -108,9 +110,9 @@ one_of : (a b : Ask) → Has (a ∷ []) b → a ≡ b
 one_of a b (inl is) = is
 one_of a b (inr h) = absurd h
 
-pub asked_tied : (classes : List Class) (x : Core) (sets : List ℕ) (r : Request) (now : ℕ) → Fits classes x.book sets r → IsTied classes x
-    → IsTied classes (asked x sets r now)
-asked_tied classes x sets r now f t =
+pub joined_tied : (classes : List Class) (x : Core) (sets : List ℕ) (r : Request) (now : ℕ) → Fits classes x.book sets r → IsTied classes x
+    → IsTied classes (joined x sets r now)
+joined_tied classes x sets r now f t =
     let asks = x.book.asks in let v : Ask = asker r.number r.class r.owner r.deadline r.limit now in
     let new = wishes_of r.number sets (class_bit r.class) r.deadline in
     let held : (a : Ask) → Has (asks ++ v ∷ []) a → is_holding a.stage ≡ true → Has asks a = λ a h holds. elim (append_cases asks (v ∷ []) a h) [
@@ -144,3 +146,27 @@ asked_tied classes x sets r now f t =
       few = λ k. let e = sum_by_push (λ (a : Ask). if holds_class k a then 1 else 0) asks v in let le = t.few k in omega (arith, e, le);
       within = λ a h. t.within a (held a h.0 h.1, h.1);
     }
+
+-- ---- an urgent one keeps the order
+
+pub ordered_tied : (classes : List Class) (urgency : Urgency) (line : LineView) (book : BookView) → IsTied classes (core line book)
+    → IsTied classes (core (ordered urgency line) book)
+ordered_tied classes Usual line book t = t
+ordered_tied classes Urgent line book t = record {
+  in_line = λ a h waits. let l = t.in_line a h waits in let m = most_has line.most line.wishes l.0 l.1 in (m.0, m.1, sym m.2.ask ∙ l.2);
+  by_book = λ w h.
+      let m = most_cases line.most line.wishes w h in let b = t.by_book m.0 m.1 in (
+        b.0,
+        b.1,
+        b.2,
+        record {
+          number = b.3.number ∙ m.2.ask;
+          class = sym m.2.classes ∙ b.3.class;
+          within = subst (λ n. is_within (class_at classes b.0.class).uses n ≡ true) m.2.needs b.3.within;
+          deadline = sym m.2.deadline ∙ b.3.deadline;
+        },
+      );
+  apart = t.apart;
+  few = t.few;
+  within = t.within;
+}

@@ -1,8 +1,8 @@
 -- Who is in a line that was changed.
-use Rattle.std.proofs.Common.{◌≡◌, ◌≢◌, ℕ, ◌<◌, Bool, true, false, not, nat_eq, if◌then◌else◌, List, [], ◌∷◌, Option, refl, sym, ap, ◌∙◌, subst, inl, inr}
+use Rattle.std.proofs.Common.{◌≡◌, ◌≢◌, ℕ, ◌<◌, Bool, true, false, not, nat_eq, if◌then◌else◌, List, [], ◌∷◌, map, Option, refl, sym, ap, ◌∙◌, subst, inl, inr}
 use Rattle.std.proofs.lemmas.Bool.{eq-eqb, ne_eqb, false≢true}
 use Rattle.bay_line.specs.declared.wish.Wish.{Wish}
-use Rattle.bay_line.specs.Wishes.{counts, passed_by}
+use Rattle.bay_line.specs.Wishes.{counts, passed_by, passed_most}
 use Rattle.bay_line.specs.Turns.{pass_all, others}
 use Rattle.bay_line.specs.Lines.{Below, wishes_of}
 use Rattle.bay.specs.Members.{Has}
@@ -32,6 +32,17 @@ passed_has most free needs [] v h = absurd h
 passed_has most free needs (u ∷ ws) v (inl is) =
     (passed_by most free needs u, inl refl, subst (λ (x : Wish). SameWish x (passed_by most free needs u)) is (same_passed most free needs u))
 passed_has most free needs (u ∷ ws) v (inr h) = let r = passed_has most free needs ws v h in (r.0, inr r.1, r.2)
+
+pub most_cases : (most : ℕ) (ws : List Wish) (w : Wish) → Has (map (passed_most most) ws) w → (v : Wish) × Has ws v × SameWish v w
+most_cases most [] w h = absurd h
+most_cases most (v ∷ ws) w (inl is) = (v, inl refl, subst (SameWish v) is (record { ask = refl; needs = refl; classes = refl; deadline = refl }))
+most_cases most (v ∷ ws) w (inr h) = let r = most_cases most ws w h in (r.0, inr r.1, r.2)
+
+pub most_has : (most : ℕ) (ws : List Wish) (v : Wish) → Has ws v → (w : Wish) × Has (map (passed_most most) ws) w × SameWish v w
+most_has most [] v h = absurd h
+most_has most (u ∷ ws) v (inl is) =
+    (passed_most most u, inl refl, subst (λ (x : Wish). SameWish x (passed_most most u)) is (record { ask = refl; needs = refl; classes = refl; deadline = refl }))
+most_has most (u ∷ ws) v (inr h) = let r = most_has most ws v h in (r.0, inr r.1, r.2)
 
 test_other : (a b : ℕ) → not (nat_eq a b) ≡ true → a ≢ b
 test_other a b h e = false≢true (sym (ap not (eq-eqb a b e)) ∙ h)

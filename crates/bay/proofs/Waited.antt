@@ -3,7 +3,7 @@ use Rattle.std.proofs.Common.{◌≡◌, ◌≢◌, ℕ, zero, suc, ◌+◌, ◌
 use Rattle.std.proofs.lemmas.List.{length-map}
 use Rattle.bay_line.specs.declared.wish.Wish.{Wish}
 use Rattle.bay_line.specs.Turns.{pass_all, others}
-use Rattle.bay_line.specs.Lines.{LineView, LetsIn as LineLetsIn, NextIsLetIn, asking, leaving, wishes_of}
+use Rattle.bay_line.specs.Lines.{LineView, LetsIn as LineLetsIn, NextIsLetIn, asking, leaving, kept_in_order, wishes_of}
 use Rattle.bay_line.specs.Bounds.{Waits, WaitsOnce}
 use Rattle.bay_line.specs.Chains.{EachReasonEnds}
 use Rattle.bay_book.specs.declared.ask.End.{End}
@@ -11,15 +11,17 @@ use Rattle.bay_book.specs.Asks.{ask_at}
 use Rattle.bay_book.specs.Books.{BookView}
 use Rattle.bay.specs.declared.classes.Class.{Class}
 use Rattle.bay.specs.declared.request.Request.{Request}
+use Rattle.bay.specs.declared.request.Urgency.{Urgency}
+use Rattle.bay.specs.declared.request.Urgency.TheVariants.{Usual, Urgent}
 use Rattle.bay.specs.declared.terms.Terms.{Terms}
 use Rattle.bay.specs.Classes.{class_bit}
 use Rattle.bay.specs.Cores.{Core, core, AreFree, ended}
 use Rattle.bay.specs.Following.{Step, Steps}
-use Rattle.bay.specs.Requests.{why_not, asked}
+use Rattle.bay.specs.Requests.{why_not, ordered, asked}
 use Rattle.bay.specs.Standings.{MarksGone}
 use Rattle.bay.specs.Views.{RoomView, core_of, GoesOn}
 use Rattle.bay.specs.Rooms.{IsKept, Asks}
-use Rattle.bay.specs.LineLaws.{HasWish, IsCall, CallsAreWaited, EachHasAReason, NumbersRise}
+use Rattle.bay.specs.LineLaws.{HasWish, IsCall, CallsAreWaited, UrgentKeepsOrder, EachHasAReason, NumbersRise}
 use Rattle.bay.proofs.InLine.{others_cases, passed_cases}
 use Rattle.bay.proofs.Askers.{if_none, fits_of, fits_next, tied_below}
 
@@ -50,7 +52,7 @@ step_once classes terms now ask old new is (inr e) h =
     let n = (ask_at old.book.asks e.place).number in
     let same : new.line ≡ leaving old.line n = ap (λ (x : Core). x.line) e.then in
     let g = left_before n ask old.line.wishes (subst (λ (x : LineView). HasWish x.wishes ask) same h) in
-    record { before = g.0; once = inr (inr (n, g.1, same)) }
+    record { before = g.0; once = inr (inr (inl (n, g.1, same))) }
 
 -- and so many times
 record Times (ask : ℕ) (old new : LineView) : Type 0 where
@@ -84,7 +86,7 @@ ended_waits now ask how place old new is g h =
     let t = goes_times now ask (ended (core_of old) place how (max old.moment now)) old new is g h in
     let n = (ask_at old.book.asks place).number in
     let b = left_before n ask old.line.wishes t.before in
-    waits_first ask t.many old.line (leaving old.line n) new.line (inr (inr (n, b.1, refl))) t.waits
+    waits_first ask t.many old.line (leaving old.line n) new.line (inr (inr (inl (n, b.1, refl)))) t.waits
 
 pub same_waits : (now ask : ℕ) (book : BookView) (old new : RoomView) → NextIsLetIn → GoesOn now (core old.line book) old new → HasWish new.line.wishes ask
     → (n : ℕ) × Waits ask n old.line new.line
@@ -107,19 +109,32 @@ asks_below old sets r k h =
     let f = fits_of old.classes old.book sets r (subst (λ (b : Bool). why_not old.classes old.book b sets r ≡ None) (not_stopped old sets r h) h) in
     fits_next old.classes old.book sets r f
 
+-- the order is kept first
+ordered_waits : (urgency : Urgency) (ask n : ℕ) (line new : LineView) → Waits ask n (ordered urgency line) new → (k : ℕ) × Waits ask k line new
+ordered_waits Usual ask n line new w = (n, w)
+ordered_waits Urgent ask n line new w = waits_first ask n line (kept_in_order line) new (inr (inr (inr refl))) w
+
 pub calls_waited : NextIsLetIn → CallsAreWaited
 calls_waited is old new now ask k (inl (sets, r, c)) h =
-    let mid = asked (core_of old) sets r (max old.moment now) in
-    let t = goes_times now ask mid old new is c.goes_on h in
+    let t = goes_times now ask (asked (core_of old) sets r (max old.moment now)) old new is c.goes_on h in
+    let joins = asking old.line r.number sets (class_bit r.class) r.deadline in
     let below = tied_below old.classes (core_of old) r.number k.book k.room.tied (asks_below old sets r k c.fits) in
-    waits_first ask t.many old.line mid.line new.line
-    (inr (inl (r.number, sets, class_bit r.class, r.deadline, below, refl, room_of old.line r.number sets (class_bit r.class) r.deadline c.room))) t.waits
+    let w = ordered_waits r.urgency ask t.many joins new.line t.waits in
+    waits_first ask w.0 old.line joins new.line
+    (inr (inl (r.number, sets, class_bit r.class, r.deadline, below, refl, room_of old.line r.number sets (class_bit r.class) r.deadline c.room))) w.1
 calls_waited is old new now ask k (inr (inl (how, number, c))) h = ended_waits now ask how c.place old new is c.goes_on h
 calls_waited is old new now ask k (inr (inr (inl (number, inl c)))) h = ended_waits now ask _ c.0 old new is c.2 h
 calls_waited is old new now ask k (inr (inr (inl (number, inr c)))) h = same_waits now ask old.book old new is c.1 h
 calls_waited is old new now ask k (inr (inr (inr (inl (number, c))))) h = same_waits now ask c.0 old new is c.2 h
 calls_waited is old new now ask k (inr (inr (inr (inr (inl (number, owner, needs, c)))))) h = same_waits now ask c.0 old new is c.2 h
 calls_waited is old new now ask k (inr (inr (inr (inr (inr c))))) h = same_waits now ask old.book old new is c h
+
+-- an urgent one begins with the order kept
+pub urgent_keeps_order : NextIsLetIn → UrgentKeepsOrder
+urgent_keeps_order is old new sets r now ask c urgent h =
+    let t = goes_times now ask (asked (core_of old) sets r (max old.moment now)) old new is c.goes_on h in
+    let joins = asking old.line r.number sets (class_bit r.class) r.deadline in
+    (t.many, subst (λ (u : Urgency). Waits ask t.many (ordered u joins) new.line) urgent t.waits)
 
 -- ---- reasons
 

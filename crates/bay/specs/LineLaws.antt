@@ -1,6 +1,7 @@
 -- For readers: what holds of everybody who waits, of numbers and of tokens.
 use Rattle.std.specs.Prelude.{◌≡◌, ◌⊎◌, ℕ, ◌<◌, ◌≤◌, List, length, Option, Some}
 use Rattle.bay_line.specs.declared.wish.Wish.{Wish}
+use Rattle.bay_line.specs.Lines.{asking, kept_in_order}
 use Rattle.bay_line.specs.Bounds.{Waits}
 use Rattle.bay_line.specs.Chains.{HasWholeReason}
 use Rattle.bay_book.specs.declared.ask.Ask.{Ask}
@@ -8,8 +9,10 @@ use Rattle.bay_book.specs.declared.ask.End.{End}
 use Rattle.bay_book.specs.Finding.{IsInUse}
 use Rattle.bay_book.specs.Books.{BookView}
 use Rattle.bay.specs.declared.request.Request.{Request}
+use Rattle.bay.specs.declared.request.Urgency.TheVariants.{Urgent}
 use Rattle.bay.specs.declared.telling.Told.{Told}
 use Rattle.bay.specs.Members.{Has}
+use Rattle.bay.specs.Classes.{class_bit}
 use Rattle.bay.specs.Cores.{Core, AreFree}
 use Rattle.bay.specs.Views.{RoomView, GoesOn}
 use Rattle.bay.specs.Rooms.{IsKept, Asks, Ends, Leaves, Goes, ComesBack, Passes, Stops, Tells}
@@ -35,6 +38,13 @@ IsCall now old new =
 abbrev pub CallsAreWaited : Type 0
 CallsAreWaited =
     (old new : RoomView) (now ask : ℕ) → IsKept old → IsCall now old new → HasWish new.line.wishes ask → (n : ℕ) × Waits ask n old.line new.line
+
+-- All that follows an urgent ask is a time that begins with the order kept of all that stand in line, it with them. So the line's laws say of each of them
+-- that nobody who asked later goes before it
+abbrev pub UrgentKeepsOrder : Type 0
+UrgentKeepsOrder =
+    (old new : RoomView) (sets : List ℕ) (r : Request) (now ask : ℕ) → Asks sets r now old new → r.urgency ≡ Urgent → HasWish new.line.wishes ask
+    → (n : ℕ) × Waits ask n (kept_in_order (asking old.line r.number sets (class_bit r.class) r.deadline)) new.line
 
 -- why each that is in line waits, to the end: no place is free for it; or it leads to an instrument that somebody holds
 pub record EachHasAReason (x : RoomView) : Type 0 where

@@ -1,12 +1,14 @@
 -- For readers: what is asked, and why it is refused.
 use Rattle.std.specs.Prelude.{ℕ, ◌+◌, ◌<◌, ◌≤◌, ◌==◌, nat_lt, nat_le, Bool, ◌&&◌, ◌||◌, not, if◌then◌else◌, List, length, Option, Some, None}
 use Rattle.std.specs.List.{list_any}
-use Rattle.bay_line.specs.Lines.{LineView, asking}
+use Rattle.bay_line.specs.Lines.{LineView, asking, kept_in_order}
 use Rattle.bay_book.specs.declared.ask.Ask.{Ask}
 use Rattle.bay_book.specs.Asks.{is_over}
 use Rattle.bay_book.specs.Books.{BookView, add}
 use Rattle.bay.specs.declared.classes.Class.{Class}
 use Rattle.bay.specs.declared.request.Request.{Request}
+use Rattle.bay.specs.declared.request.Urgency.{Urgency}
+use Rattle.bay.specs.declared.request.Urgency.TheVariants.{Usual, Urgent}
 use Rattle.bay.specs.declared.request.NotAsked.{NotAsked}
 use Rattle.bay.specs.declared.request.NotAsked.TheVariants.{Stopped, Number, NoClass, Empty, MayNotUse, OwnerTaken, LineFull, NoMemory}
 use Rattle.bay.specs.Classes.{class_at, class_bit, has_no_set, leaves}
@@ -46,8 +48,17 @@ IsWhyNotTaken line sets LineFull = line.limit < length line.wishes + length sets
 IsWhyNotTaken line sets NoMemory = length line.wishes + length sets ≤ line.limit
 
 -- it stands at the end of the line, and is in the book
-abbrev pub asked : Core → List ℕ → Request → ℕ → Core
-asked x sets r now = record {
+abbrev pub joined : Core → List ℕ → Request → ℕ → Core
+joined x sets r now = record {
   line = asking x.line r.number sets (class_bit r.class) r.deadline;
   book = add x.book r.number r.class r.owner r.deadline r.limit now;
 }
+
+-- an urgent one keeps the order of all that stand in line, it with them
+abbrev pub ordered : Urgency → LineView → LineView
+ordered Usual line = line
+ordered Urgent line = kept_in_order line
+
+-- so somebody asks
+abbrev pub asked : Core → List ℕ → Request → ℕ → Core
+asked x sets r now = record { line = ordered r.urgency (joined x sets r now).line; book = (joined x sets r now).book }

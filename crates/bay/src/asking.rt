@@ -1,11 +1,11 @@
 //! Somebody asks.
-ghost use Rattle.std.specs.Prelude.{◌≡◌, ◌<◌, ◌≤◌, None, false, length, OnOk, OnErr, IfErr};
+ghost use Rattle.std.specs.Prelude.{◌≡◌, ◌+◌, ◌<◌, ◌≤◌, None, false, length, OnOk, OnErr, IfErr};
 ghost use Rattle.bay_book.specs.Asks.{ask_at};
 ghost use Rattle.bay.specs.Cores.{core, IsTied};
-ghost use Rattle.bay.specs.Requests.{is_of, has_owner, is_no_number, why_not, asked, IsWhyNotTaken};
+ghost use Rattle.bay.specs.Requests.{is_of, has_owner, is_no_number, why_not, joined, ordered, asked, IsWhyNotTaken};
 
 use crate::classes::{Class, class_bit, has_no_set, leaves};
-use crate::request::{NotAsked, Request};
+use crate::request::{NotAsked, Request, Urgency};
 use bay_book::{Book, Stage};
 use bay_line::{Line, NotInLine};
 
@@ -74,7 +74,7 @@ pub(crate) fn why_not(
 }
 
 /// The request is in line, and in the book. It takes memory, and if there is none, nothing changed.
-pub(crate) fn take(
+fn join(
     classes: &[Class],
     line: &mut Line,
     book: &mut Book,
@@ -85,7 +85,7 @@ pub(crate) fn take(
     requires few { length classes.now ≤ 32 }
     requires tied { IsTied classes.now (core line.old book.old) }
     requires fits { why_not classes.now book.old false sets.now request ≡ None }
-    ensures takes { OnOk result (core line.new book.new ≡ asked (core line.old book.old) sets.now request now) }
+    ensures takes { OnOk result (core line.new book.new ≡ joined (core line.old book.old) sets.now request now) }
     ensures room { OnOk result (length line.new.wishes ≤ line.new.limit) }
     ensures tied { IsTied classes.now (core line.new book.new) }
     ensures refused { OnErr result (core line.new book.new ≡ core line.old book.old) }
@@ -116,4 +116,37 @@ pub(crate) fn take(
             Err(NotAsked::NoMemory)
         }
     }
+}
+
+/// An urgent one keeps the order of all that stand in line.
+fn keep_order(line: &mut Line, urgency: Urgency)
+    ensures { line.new ≡ ordered urgency line.old }
+{
+    match urgency {
+        Urgency::Usual => {}
+        Urgency::Urgent => line.keep_order(),
+    }
+}
+
+/// The request is taken: it is in line, and in the book. It takes memory, and if there is none, nothing changed.
+pub(crate) fn take(
+    classes: &[Class],
+    line: &mut Line,
+    book: &mut Book,
+    sets: &[u64],
+    request: Request,
+    now: u64,
+) -> Result<(), NotAsked>
+    requires few { length classes.now ≤ 32 }
+    requires tied { IsTied classes.now (core line.old book.old) }
+    requires fits { why_not classes.now book.old false sets.now request ≡ None }
+    ensures takes { OnOk result (core line.new book.new ≡ asked (core line.old book.old) sets.now request now) }
+    ensures room { OnOk result (length line.old.wishes + length sets.now ≤ line.old.limit) }
+    ensures tied { IsTied classes.now (core line.new book.new) }
+    ensures refused { OnErr result (core line.new book.new ≡ core line.old book.old) }
+    ensures why { IfErr result (λ why. IsWhyNotTaken line.old sets.now why) }
+{
+    join(classes, line, book, sets, request, now)?;
+    keep_order(line, request.urgency);
+    Ok(())
 }

@@ -2,7 +2,7 @@
 ghost use Rattle.bay.specs.Bays.{ToldIsKept, ToldComesBack, LetGoIsKept, PastStaysPast, TokensOutlive, StaysWhole, ComesBack};
 ghost use Rattle.bay.specs.EveryCall.{EveryCallHoldsOn};
 ghost use Rattle.bay.specs.Keepers.{NobodyWaitsForNobody};
-ghost use Rattle.bay.specs.LineLaws.{CallsAreWaited, NobodyWaitsForNothing, NumbersRise, TokensRise};
+ghost use Rattle.bay.specs.LineLaws.{CallsAreWaited, UrgentKeepsOrder, NobodyWaitsForNothing, NumbersRise, TokensRise};
 ghost use Rattle.bay.specs.HeardLaws.{TellsOnce};
 ghost use Rattle.bay.specs.TurnLaws.{TurnsKeep, FilesSayTheSame};
 ghost use Rattle.bay.specs.Laws.{IsWellHeld, WhoHoldsHoldsOn, WhoWaitsWaitsOn, AnswersInTime, WrittenIsInTime, HaveTokens};
@@ -86,6 +86,13 @@ pub fn comes_back(bay: &Bay)
 /// Each call is a time in which whoever is in line behind it waits. So the line's laws say by how many it is passed.
 pub fn calls_are_waited()
     ensures { CallsAreWaited }
+{
+    next_is_let_in();
+}
+
+/// From an urgent ask on, nobody that asked later goes before it, nor before anybody that stands in line with it.
+pub fn urgent_keeps_order()
+    ensures { UrgentKeepsOrder }
 {
     next_is_let_in();
 }

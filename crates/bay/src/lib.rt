@@ -27,7 +27,7 @@ mod writing;
 
 pub use bay::{Bay, NotNoted, NotOpened};
 pub use classes::Class;
-pub use request::{NotAsked, NotHeld, Request};
+pub use request::{NotAsked, NotHeld, Request, Urgency};
 pub use restoring::NotBack;
 pub use telling::Told;
 pub use terms::Terms;

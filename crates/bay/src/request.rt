@@ -1,5 +1,14 @@
 //! What is asked, and why it is refused.
 
+/// Whether somebody who asks may be passed by, once it waits.
+#[derive(Clone, Copy, PartialEq, Eq, Debug)]
+pub enum Urgency {
+    /// As often as may be.
+    Usual,
+    /// Never: nobody that asks later goes before it, nor before anybody that stands in line with it.
+    Urgent,
+}
+
 /// Somebody who asks.
 #[derive(Clone, Copy)]
 pub struct Request {
@@ -13,6 +22,7 @@ pub struct Request {
     pub deadline: Option<u64>,
     /// How long it may hold while somebody waits for what it has.
     pub limit: Option<u64>,
+    pub urgency: Urgency,
 }
 
 /// Why nobody asks. Nothing changed then. Of several reasons the first counts, in this order.

@@ -12,6 +12,8 @@ use Rattle.bay.specs.declared.request.NotAsked.TheVariants.{Stopped, Number, NoC
 use Rattle.bay.specs.declared.request.NotHeld.{NotHeld}
 use Rattle.bay.specs.declared.request.NotHeld.TheVariants.{Over, Waits}
 use Rattle.bay.specs.declared.request.Request.{Request}
+use Rattle.bay.specs.declared.request.Urgency.{Urgency}
+use Rattle.bay.specs.declared.request.Urgency.TheVariants.{Usual, Urgent}
 use Rattle.bay.specs.declared.bay.NotOpened.{NotOpened}
 use Rattle.bay.specs.declared.bay.NotOpened.TheVariants.{Classes, NoMemory as NotOpenedMemory}
 use Rattle.bay.specs.declared.bay.NotNoted.{NotNoted}
@@ -38,6 +40,10 @@ class_of c = record { uses = c.uses; places = c.places }
 abbrev pub terms_of : BayTerms → Terms
 terms_of t = record { grace = moment t.grace; disk = moment t.disk; keeps = not (t.keeps == 0) }
 
+-- urgent, but for 0
+abbrev pub urgency_of : ℕ → Urgency
+urgency_of n = if n == 0 then Usual else Urgent
+
 abbrev pub request_of : BayAsked → Request
 request_of a = record {
   number = a.number;
@@ -45,6 +51,7 @@ request_of a = record {
   owner = a.owner_high * 18446744073709551616 + a.owner_low;
   deadline = moment a.deadline;
   limit = moment a.limit;
+  urgency = urgency_of a.urgent;
 }
 
 -- it holds (0), or how it is over

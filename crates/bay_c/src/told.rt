@@ -1,8 +1,8 @@
 //! What C hands in, and what it is told.
 ghost use Rattle.std.specs.Prelude.{◌≡◌, map, IfOk};
-ghost use Rattle.bay_c.specs.Telling.{moment, class_of, terms_of, request_of, what_of, outcome_of, stage_of, standing_of};
+ghost use Rattle.bay_c.specs.Telling.{moment, class_of, terms_of, urgency_of, request_of, what_of, outcome_of, stage_of, standing_of};
 
-use bay::{Class, Request, Terms, Told};
+use bay::{Class, Request, Terms, Told, Urgency};
 use bay_book::{Ask, End, Outcome, Stage};
 use std::alloc::{AllocError, Global};
 
@@ -35,7 +35,7 @@ pub struct BayTerms {
     pub keeps: u32,
 }
 
-/// What somebody asks. In C: `struct lab_asked { uint64_t number, owner[2], deadline, limit; uint32_t kind, unused; };`
+/// What somebody asks. In C: `struct lab_asked { uint64_t number, owner[2], deadline, limit; uint32_t kind, urgent; };`
 #[repr(C)]
 #[derive(Clone, Copy)]
 pub struct BayAsked {
@@ -48,7 +48,8 @@ pub struct BayAsked {
     /// 18446744073709551615: none.
     pub limit: u64,
     pub class: u32,
-    pub unused: u32,
+    /// 0: it isn't urgent.
+    pub urgent: u32,
 }
 
 /// What an ask is told. In C: `struct lab_outcome { uint64_t serial, number, needs, token; uint32_t what, unused; };`
@@ -129,6 +130,16 @@ pub(crate) fn terms_of(terms: &BayTerms) -> Terms
     }
 }
 
+fn urgency_of(urgent: u32) -> Urgency
+    ensures { result ≡ urgency_of urgent }
+{
+    if urgent == 0 {
+        Urgency::Usual
+    } else {
+        Urgency::Urgent
+    }
+}
+
 pub(crate) fn request_of(asked: &BayAsked) -> Request
     ensures { result ≡ request_of asked.now }
 {
@@ -138,6 +149,7 @@ pub(crate) fn request_of(asked: &BayAsked) -> Request
         owner: asked.owner_high as u128 * 18446744073709551616 + asked.owner_low as u128,
         deadline: moment(asked.deadline),
         limit: moment(asked.limit),
+        urgency: urgency_of(asked.urgent),
     }
 }
 

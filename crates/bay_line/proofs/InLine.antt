@@ -1,9 +1,9 @@
 -- Which asks are in line.
-use Rattle.std.proofs.Common.{◌≡◌, ◌≢◌, ◌⊎◌, ℕ, zero, suc, ◌<◌, List, [], ◌∷◌, ◌++◌, length, Option, Some, refl, sym, ◌∙◌, subst, inl, inr, arith}
+use Rattle.std.proofs.Common.{◌≡◌, ◌≢◌, ◌⊎◌, ℕ, zero, suc, ◌<◌, List, [], ◌∷◌, ◌++◌, map, length, Option, Some, refl, sym, ◌∙◌, subst, inl, inr, arith}
 use Rattle.std.proofs.lemmas.Bool.{cases_eq}
 use Rattle.bay_line.specs.declared.wish.Wish.{Wish}
 use Rattle.bay_line.specs.declared.going_in.Seated.{Seated}
-use Rattle.bay_line.specs.Wishes.{wish_at}
+use Rattle.bay_line.specs.Wishes.{wish_at, passed_most}
 use Rattle.bay_line.specs.Turns.{pass_all, others}
 use Rattle.bay_line.specs.Lines.{LineView, Below, IsNext, GoesIn, LetsIn, TakesLate, wishes_of}
 use Rattle.bay_line.specs.InLine.{InLine, Comes, GoesOut, AreBelow, StaysInLine}
@@ -114,6 +114,18 @@ goes_out_after most free needs ask ws =
           let few = fewer ask all (passed_in most free needs ask ws (is_in ask ws h)) in let many = as_many most free needs ws in omega (arith, few, many);
     }
 
+-- ---- whoever counts as passed by as often as may be
+
+most_in : (most ask : ℕ) (ws : List Wish) → IsIn ask ws → IsIn ask (map (passed_most most) ws)
+most_in most ask [] h = h
+most_in most ask (w ∷ ws) (inl at) = inl at
+most_in most ask (w ∷ ws) (inr h) = inr (most_in most ask ws h)
+
+in_most : (most ask : ℕ) (ws : List Wish) → IsIn ask (map (passed_most most) ws) → IsIn ask ws
+in_most most ask [] h = h
+in_most most ask (w ∷ ws) (inl at) = inl at
+in_most most ask (w ∷ ws) (inr h) = inr (in_most most ask ws h)
+
 -- ---- whoever asks
 
 in_first : (ask : ℕ) (ws more : List Wish) → IsIn ask ws → IsIn ask (ws ++ more)
@@ -195,6 +207,8 @@ stays_in_line = record {
   next = next_in;
   goes = λ x s free. goes_out_after x.most free s.needs s.ask x.wishes;
   let_in = lets_in_goes;
+  keeps_order = λ x ask h. in_line ask (map (passed_most x.most) x.wishes) (most_in x.most ask x.wishes (is_in ask x.wishes h));
+  kept_order = λ x ask h. in_line ask x.wishes (in_most x.most ask x.wishes (is_in ask (map (passed_most x.most) x.wishes) h));
   below = below;
   are_below = are_below;
 }

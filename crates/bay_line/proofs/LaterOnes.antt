@@ -4,11 +4,12 @@ use Rattle.std.proofs.lemmas.Bool.{cases_Bool}
 use Rattle.bay_line.specs.declared.wish.Wish.{Wish}
 use Rattle.bay_line.specs.Wishes.{wish_at, common, passes, counts}
 use Rattle.bay_line.specs.Turns.{MayGoIn}
-use Rattle.bay_line.specs.Lines.{LineView, Above, Rises, Seldom, IsInOrder, GoesIn}
+use Rattle.bay_line.specs.Lines.{LineView, Above, Rises, Seldom, IsInOrder, GoesIn, kept_in_order}
 use Rattle.bay_line.specs.Bounds.{Stands, WaitsOnce, Waits, one_if}
-use Rattle.bay_line.specs.Later.{goes_later, go_later, FewLaterGoBefore}
+use Rattle.bay_line.specs.Later.{goes_later, go_later, FewLaterGoBefore, NobodyLaterGoesBefore}
 use Rattle.bay_line.proofs.Kept.{and_true_first, and_true_second}
 use Rattle.bay_line.proofs.Standing.{lt_is}
+use Rattle.bay_line.proofs.KeptOrder.{in_order_kept, counts_most}
 use Rattle.bay_line.proofs.Overtaken.{at_most_one, is_counted}
 use Rattle.bay_line.proofs.Waiting.{stands_ahead, one_gone, goes_in, once, seldom_at}
 
@@ -128,3 +129,8 @@ few_later_go_before ask n old new w place x is st o =
     let m = later_on ask n old new w place x is st o in
     let few : m.it.passed ≤ new.most = seldom_at new.most m.stands.before m.it m.stands.behind (subst (Seldom new.most) m.stands.is m.in_order.seldom) in
     let counted = m.counted in let same = m.most in omega (arith, few, counted, same)
+
+pub nobody_later_goes_before : NobodyLaterGoesBefore
+nobody_later_goes_before ask n old new w place x is st o =
+    let few = few_later_go_before ask n (kept_in_order old) new w place (in_order_kept old x) is st o in
+    let most = counts_most old.most w place old.wishes st in omega (arith, few, most)

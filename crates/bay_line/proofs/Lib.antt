@@ -4,6 +4,7 @@ pub mod Standing
 pub mod Overtaken
 pub mod Fair
 pub mod InOrder
+pub mod KeptOrder
 pub mod Waiting
 pub mod LaterOnes
 pub mod FirstCome

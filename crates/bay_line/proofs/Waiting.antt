@@ -5,13 +5,14 @@ use Rattle.std.proofs.lemmas.Nat.{and_assoc}
 use Rattle.std.specs.Int.Bits.{and_zero_r}
 use Rattle.bay_line.specs.declared.wish.Wish.{Wish}
 use Rattle.bay_line.specs.declared.going_in.Seated.{Seated}
-use Rattle.bay_line.specs.Wishes.{no_wish, wish_at, common, is_ready, is_kept, passes, counts, WantsNoMore}
+use Rattle.bay_line.specs.Wishes.{no_wish, wish_at, common, is_ready, is_kept, passes, counts, passed_most, WantsNoMore}
 use Rattle.bay_line.specs.Turns.{HasReason, MayGoIn, KeepsFrom, HasElder, pass_all, others}
-use Rattle.bay_line.specs.Lines.{LineView, Seldom, Below, IsInOrder, GoesIn, LetsIn, wishes_of, asking, leaving}
-use Rattle.bay_line.specs.Bounds.{Stands, WaitsOnce, Waits, goes_before, go_before, one_if, HasWaited, WaitsAddUp}
+use Rattle.bay_line.specs.Lines.{LineView, Seldom, Below, IsInOrder, GoesIn, LetsIn, wishes_of, asking, leaving, kept_in_order}
+use Rattle.bay_line.specs.Bounds.{Stands, WaitsOnce, Waits, goes_before, go_before, keeps_order, keep_order, one_if, HasWaited, WaitsAddUp}
 use Rattle.bay_line.proofs.Standing.{rises_more, seldom_more, fewer_others, common_comm}
 use Rattle.bay_line.proofs.Fair.{fair_more}
 use Rattle.bay_line.proofs.InOrder.{in_order_others, in_order_goes}
+use Rattle.bay_line.proofs.KeptOrder.{in_order_kept, stands_kept}
 use Rattle.std.proofs.Math.Seq.{get_or-append_seam}
 use Rattle.bay_line.proofs.Kept.{and_true_second}
 use Rattle.bay_line.proofs.Overtaken.{Goes, one_goes, others_apart}
@@ -66,7 +67,7 @@ with_true true b h = h
 with_true false b h = refl
 
 has_gone : (most free needs ask : ℕ) (w : Wish) (place : ℕ) (new : LineView) → new.most ≡ most → Goes most free needs ask w place new.wishes
-    → HasWaited w place (one_if (passes free needs w)) new
+    → HasWaited w place (one_if (passes free needs w)) 0 new
 has_gone most free needs ask w place new same g = record {
   it = g.it;
   now = g.now;
@@ -75,18 +76,19 @@ has_gone most free needs ask w place new same g = record {
   needs = g.its_needs;
   classes = g.its_classes;
   later = one_if (counts most free needs w);
-  counted = g.counted;
+  counted = let is = g.counted in omega (arith, is);
+  exact = λ none. g.counted;
   each = λ less.
       let more = no_less (counts most free needs w) g.it.passed w.passed g.counted in
       let below : w.passed < most = omega (arith, more, less, same) in
-      sym (ap one_if (with_true (passes free needs w) (nat_lt w.passed most) (lt_is_true w.passed most below)));
+      (sym (ap one_if (with_true (passes free needs w) (nat_lt w.passed most) (lt_is_true w.passed most below))), g.counted);
   bound = g.bound;
 }
 
 -- ---- one thing that happens while it waits
 
-pub record Goes_on (w : Wish) (place all : ℕ) (old new : LineView) : Type 0 where
-  pub waited : HasWaited w place all new
+pub record Goes_on (w : Wish) (place all orders : ℕ) (old new : LineView) : Type 0 where
+  pub waited : HasWaited w place all orders new
   pub in_order : IsInOrder new
   pub most : new.most ≡ old.most
 
@@ -102,7 +104,7 @@ one_gone in_use free s old new w place st other lets =
     subst (Goes old.most free s.needs s.ask w place) (sym then) one
 
 pub goes_in : (in_use free : ℕ) (s : Seated) (old new : LineView) (w : Wish) (place : ℕ) → IsInOrder old → Stands w place old.wishes → s.ask ≢ w.ask
-    → LetsIn in_use free old (Some s) new → Goes_on w place (one_if (passes free s.needs w)) old new
+    → LetsIn in_use free old (Some s) new → Goes_on w place (one_if (passes free s.needs w)) 0 old new
 goes_in in_use free s old new w place x st other lets =
     let most = ap (λ (v : LineView). v.most) lets.same in
     record {
@@ -111,7 +113,7 @@ goes_in in_use free s old new w place x st other lets =
       most = most;
     }
 
-nothing_went : (w : Wish) (place now : ℕ) (new : LineView) → Stands w now new.wishes → now ≤ place → HasWaited w place 0 new
+nothing_went : (w : Wish) (place now : ℕ) (new : LineView) → Stands w now new.wishes → now ≤ place → HasWaited w place 0 0 new
 nothing_went w place now new st less = record {
   it = w;
   now = now;
@@ -121,7 +123,8 @@ nothing_went w place now new st less = record {
   classes = refl;
   later = 0;
   counted = omega arith;
-  each = λ h. refl;
+  exact = λ none. omega arith;
+  each = λ h. (refl, omega arith);
   bound = omega (arith, less);
 }
 
@@ -134,9 +137,9 @@ stands_on w place ws more st = record {
 }
 
 one_asks : (other : ℕ) (sets : List ℕ) (classes : ℕ) (d : Option ℕ) (old new : LineView) (w : Wish) (place : ℕ) → IsInOrder old → Stands w place old.wishes → Below other old.wishes
-    → new ≡ asking old other sets classes d → length new.wishes ≤ new.limit → Goes_on w place 0 old new
+    → new ≡ asking old other sets classes d → length new.wishes ≤ new.limit → Goes_on w place 0 0 old new
 one_asks other sets classes d old new w place x st below is few =
-    let P : LineView → Type 0 = λ v. length v.wishes ≤ v.limit → Goes_on w place 0 old v in
+    let P : LineView → Type 0 = λ v. length v.wishes ≤ v.limit → Goes_on w place 0 0 old v in
     subst P (sym is) (λ f. record {
       waited = nothing_went w place place (asking old other sets classes d) (stands_on w place old.wishes (wishes_of other sets classes d) st) (omega arith);
       in_order = record {
@@ -162,20 +165,46 @@ stands_apart ask ws w place other st =
     )
 
 one_leaves : (other : ℕ) (old new : LineView) (w : Wish) (place : ℕ) → IsInOrder old → Stands w place old.wishes → other ≢ w.ask → new ≡ leaving old other
-    → Goes_on w place 0 old new
+    → Goes_on w place 0 0 old new
 one_leaves other old new w place x st apart is =
     let a = stands_apart other old.wishes w place (λ e. apart (sym e)) st in
-    subst (Goes_on w place 0 old) (sym is) (record {
+    subst (Goes_on w place 0 0 old) (sym is) (record {
       waited = nothing_went w place a.0 (leaving old other) a.1 a.2;
       in_order = in_order_others old.limit old.most other old.wishes x;
       most = refl;
     })
 
+pub seldom_at : (most : ℕ) (xs : List Wish) (w : Wish) (ys : List Wish) → Seldom most (xs ++ w ∷ ys) → w.passed ≤ most
+seldom_at most [] w ys h = h.0
+seldom_at most (x ∷ xs) w ys h = seldom_at most xs w ys h.1
+
+one_keeps : (old new : LineView) (w : Wish) (place : ℕ) → IsInOrder old → Stands w place old.wishes → new ≡ kept_in_order old → Goes_on w place 0 1 old new
+one_keeps old new w place x st is =
+    let few : w.passed ≤ old.most = seldom_at old.most st.before w st.behind (subst (Seldom old.most) st.is x.seldom) in
+    subst (Goes_on w place 0 1 old) (sym is) (record {
+      waited = record {
+        it = passed_most old.most w;
+        now = place;
+        stands = stands_kept old.most w place old.wishes st;
+        ask = refl;
+        needs = refl;
+        classes = refl;
+        later = 0;
+        counted = omega (arith, few);
+        exact = λ none. absurd (omega (arith, none));
+        each = λ less. absurd (omega (arith, less));
+        bound = omega arith;
+      };
+      in_order = in_order_kept old x;
+      most = refl;
+    })
+
 pub once : (ask : ℕ) (old new : LineView) (w : Wish) (place : ℕ) → IsInOrder old → w.ask ≡ ask → Stands w place old.wishes → (o : WaitsOnce ask old new)
-    → Goes_on w place (goes_before ask old new o w) old new
+    → Goes_on w place (goes_before ask old new o w) (keeps_order ask old new o) old new
 once ask old new w place x is st (inl (in_use, free, s, lets, other)) = goes_in in_use free s old new w place x st (λ e. other (e ∙ is)) lets
 once ask old new w place x is st (inr (inl (other, sets, classes, d, below, same, few))) = one_asks other sets classes d old new w place x st below same few
-once ask old new w place x is st (inr (inr (other, apart, same))) = one_leaves other old new w place x st (λ e. apart (e ∙ is)) same
+once ask old new w place x is st (inr (inr (inl (other, apart, same)))) = one_leaves other old new w place x st (λ e. apart (e ∙ is)) same
+once ask old new w place x is st (inr (inr (inr same))) = one_keeps old new w place x st same
 
 -- ---- all that happens
 
@@ -185,8 +214,9 @@ same_go ask old new (inl (in_use, free, s, lets, other)) v w needs classes =
     ap (λ (z : ℕ × ℕ). one_if (common z.0 free && common z.1 s.needs)) (λ i. (classes i, needs i))
 same_go ask old new (inr same) v w needs classes = refl
 
-added : (w : Wish) (place a c : ℕ) (mid new : LineView) (x : HasWaited w place a mid) → new.most ≡ mid.most → HasWaited x.it x.now c new → HasWaited w place (a + c) new
-added w place a c mid new x same y =
+added : (w : Wish) (place a c m n : ℕ) (mid new : LineView) (x : HasWaited w place a m mid) → new.most ≡ mid.most → HasWaited x.it x.now c n new
+    → HasWaited w place (a + c) (m + n) new
+added w place a c m n mid new x same y =
     let p = x.counted in let q = y.counted in let r = x.bound in let s = y.bound in let e = x.each in let f = y.each in
     record {
       it = y.it;
@@ -197,43 +227,42 @@ added w place a c mid new x same y =
       classes = y.classes ∙ x.classes;
       later = x.later + y.later;
       counted = omega (arith, p, q);
-      each = λ less. let one = e (omega (arith, less, q, same)) in let two = f less in omega (arith, one, two);
+      exact = λ none. let one = x.exact (omega (arith, none)) in let two = y.exact (omega (arith, none)) in omega (arith, one, two);
+      each = λ less.
+          let two = f less in let sum = two.1 in let one = e (omega (arith, less, sum, same)) in let its = one.1 in let a_is = one.0 in let c_is = two.0 in
+          (omega (arith, a_is, c_is), omega (arith, its, sum));
       bound = omega (arith, r, s);
     }
 
 pub meanwhile : (ask n : ℕ) (old new : LineView) (w : Wish) (place : ℕ) → IsInOrder old → w.ask ≡ ask → Stands w place old.wishes → (o : Waits ask n old new)
-    → Goes_on w place (go_before ask n old new o w) old new
+    → Goes_on w place (go_before ask n old new o w) (keep_order ask n old new o) old new
 meanwhile ask zero old new w place x is st same =
-    subst (Goes_on w place 0 old) (sym same) (record { waited = nothing_went w place place old st (omega arith); in_order = x; most = refl })
+    subst (Goes_on w place 0 0 old) (sym same) (record { waited = nothing_went w place place old st (omega arith); in_order = x; most = refl })
 meanwhile ask (suc n) old new w place x is st (mid, before, o) =
     let m = meanwhile ask n old mid w place x is st before in
     let v = m.waited.it in
     let one = once ask mid new v m.waited.now m.in_order (m.waited.ask ∙ is) m.waited.stands o in
-    let now : HasWaited v m.waited.now (goes_before ask mid new o w) new =
-    subst (λ z. HasWaited v m.waited.now z new) (same_go ask mid new o v w m.waited.needs m.waited.classes) one.waited in
+    let now : HasWaited v m.waited.now (goes_before ask mid new o w) (keeps_order ask mid new o) new =
+    subst (λ z. HasWaited v m.waited.now z (keeps_order ask mid new o) new) (same_go ask mid new o v w m.waited.needs m.waited.classes) one.waited in
     record {
-      waited = added w place (go_before ask n old mid before w) (goes_before ask mid new o w) mid new m.waited one.most now;
+      waited = added w place (go_before ask n old mid before w) (goes_before ask mid new o w) (keep_order ask n old mid before) (keeps_order ask mid new o) mid new m.waited one.most now;
       in_order = one.in_order;
       most = one.most ∙ m.most;
     }
 
 pub waits_add_up : WaitsAddUp
 waits_add_up ask n zero old mid new first second =
-    let both : (both : Waits ask n old new) × ((w : Wish) → go_before ask n old new both w ≡ go_before ask n old mid first w + 0) =
-    subst (λ (v : LineView). (x : Waits ask n old v) × ((w : Wish) → go_before ask n old v x w ≡ go_before ask n old mid first w + 0)) (sym second)
-    (first, λ w. omega arith) in
-    (n, omega arith, both.0, both.1)
+    let Both : LineView → Type 0 = λ v. (x : Waits ask n old v) × ((w : Wish) → go_before ask n old v x w ≡ go_before ask n old mid first w + 0)
+    × (keep_order ask n old v x ≡ keep_order ask n old mid first + 0) in
+    let both : Both new = subst Both (sym second) (first, (λ w. omega arith), omega arith) in
+    (n, omega arith, both.0, both.1, both.2)
 waits_add_up ask n (suc m) old mid new first (there, before, last) =
     let x = waits_add_up ask n m old mid there first before in
-    (suc x.0, omega (arith, x.1), (there, x.2, last), λ w. let sum = x.3 w in omega (arith, sum))
+    (suc x.0, omega (arith, x.1), (there, x.2, last), (λ w. let sum = x.3 w in omega (arith, sum)), let orders = x.4 in omega (arith, orders))
 
-pub seldom_at : (most : ℕ) (xs : List Wish) (w : Wish) (ys : List Wish) → Seldom most (xs ++ w ∷ ys) → w.passed ≤ most
-seldom_at most [] w ys h = h.0
-seldom_at most (x ∷ xs) w ys h = seldom_at most xs w ys h.1
-
-pub passed_at_most : (most place all : ℕ) (w : Wish) (new : LineView) → (h : HasWaited w place all new) → IsInOrder new → new.most ≡ most
+pub passed_at_most : (most place all orders : ℕ) (w : Wish) (new : LineView) → (h : HasWaited w place all orders new) → IsInOrder new → new.most ≡ most
     → (w.passed + h.later ≤ most) × (all + w.passed ≤ place + most)
-passed_at_most most place all w new h x same =
+passed_at_most most place all orders w new h x same =
     let st = h.stands in
     let few : h.it.passed ≤ new.most = seldom_at new.most st.before h.it st.behind (subst (Seldom new.most) st.is x.seldom) in
     let p = h.counted in let q = h.bound in (omega (arith, few, p, same), omega (arith, few, p, q, same))

@@ -1,10 +1,10 @@
 -- What stays true of the wishes in line.
-use Rattle.std.proofs.Common.{◌≡◌, ℕ, List, [], ◌∷◌, Option, Some, None, not, ◌==◌, refl, sym, subst, true}
+use Rattle.std.proofs.Common.{◌≡◌, ℕ, List, [], ◌∷◌, map, Option, Some, None, not, ◌==◌, refl, sym, subst, true}
 use Rattle.std.specs.List.{All}
 use Rattle.std.proofs.lemmas.List.Elements.{All-nil, All-cons, All-head, All-tail, All-append, All-filter}
 use Rattle.bay_line.specs.declared.wish.Wish.{Wish}
 use Rattle.bay_line.specs.declared.going_in.Seated.{Seated}
-use Rattle.bay_line.specs.Wishes.{no_wish, wish_at, counts, passed_by}
+use Rattle.bay_line.specs.Wishes.{no_wish, wish_at, counts, passed_by, passed_most}
 use Rattle.bay_line.specs.Turns.{pass_all, others}
 use Rattle.bay_line.specs.Lines.{LineView, IsNext, GoIn, TakesLate, wishes_of}
 use Rattle.bay_line.specs.InLine.{as_asked, asked_by, Within, IsSeatedWithin, StaysWithin, WhatWasAskedStays}
@@ -24,6 +24,12 @@ module _ (P : Wish → Type 0) where
       All-cons (λ v. P (as_asked v)) (passed_by most free needs w) (pass_all most free needs ws)
       (subst P (sym (same_asked most free needs w)) (All-head (λ v. P (as_asked v)) w ws h))
       (within_passed most free needs ws (All-tail (λ v. P (as_asked v)) w ws h))
+
+  within_most : (most : ℕ) (ws : List Wish) → Within P ws → Within P (map (passed_most most) ws)
+  within_most most [] h = All-nil (λ w. P (as_asked w))
+  within_most most (w ∷ ws) h =
+      All-cons (λ v. P (as_asked v)) (passed_most most w) (map (passed_most most) ws) (All-head (λ v. P (as_asked v)) w ws h)
+      (within_most most ws (All-tail (λ v. P (as_asked v)) w ws h))
 
   within_new : (ask : ℕ) (sets : List ℕ) (classes : ℕ) (d : Option ℕ) → All P (wishes_of ask sets classes d) → Within P (wishes_of ask sets classes d)
   within_new ask [] classes d h = All-nil (λ w. P (as_asked w))
@@ -59,6 +65,7 @@ module _ (P : Wish → Type 0) where
     asks = λ x ask sets classes d h its.
         All-append (λ w. P (as_asked w)) x.wishes (wishes_of ask sets classes d) h (within_new ask sets classes d its);
     leaves = λ x ask h. within_others ask x.wishes h;
+    keeps_order = λ x h. within_most x.most x.wishes h;
     late = within_late;
     next = within_next;
     goes = λ x s free h. within_others s.ask (pass_all x.most free s.needs x.wishes) (within_passed x.most free s.needs x.wishes h);

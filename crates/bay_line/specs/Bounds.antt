@@ -5,7 +5,7 @@ use Rattle.bay_line.specs.declared.wish.Wish.{Wish}
 use Rattle.bay_line.specs.declared.going_in.Seated.{Seated}
 use Rattle.bay_line.specs.Wishes.{wish_at, common, is_ready, is_kept, passes, WantsNoMore}
 use Rattle.bay_line.specs.Turns.{KeepsFrom, HasElder, MayGoIn}
-use Rattle.bay_line.specs.Lines.{LineView, IsInOrder, Below, IsNext, IsChosen, GoIn, LetsIn, asking, leaving}
+use Rattle.bay_line.specs.Lines.{LineView, IsInOrder, Below, IsNext, IsChosen, GoIn, LetsIn, asking, leaving, kept_in_order}
 
 -- so many wishes stand before this one
 pub record Stands (w : Wish) (place : ℕ) (wishes : List Wish) : Type 0 where
@@ -14,13 +14,14 @@ pub record Stands (w : Wish) (place : ℕ) (wishes : List Wish) : Type 0 where
   pub is : wishes ≡ before ++ w ∷ behind
   pub place_is : length before ≡ place
 
--- what happens while an ask waits: another one is let in; another one asks; or another one leaves
+-- what happens while an ask waits: another one is let in; another one asks; another one leaves; or the order is kept of all that stand in line
 abbrev pub WaitsOnce : ℕ → LineView → LineView → Type 0
 WaitsOnce ask old new =
     ((in_use : ℕ) × (free : ℕ) × (s : Seated) × LetsIn in_use free old (Some s) new × (s.ask ≢ ask))
     ⊎ ((other : ℕ) × (sets : List ℕ) × (classes : ℕ) × (deadline : Option ℕ) × Below other old.wishes
     × (new ≡ asking old other sets classes deadline) × (length new.wishes ≤ new.limit))
     ⊎ ((other : ℕ) × (other ≢ ask) × (new ≡ leaving old other))
+    ⊎ (new ≡ kept_in_order old)
 
 -- so many of these, one after another
 abbrev pub Waits : ℕ → ℕ → LineView → LineView → Type 0
@@ -40,16 +41,29 @@ abbrev pub go_before : (ask n : ℕ) (old new : LineView) → Waits ask n old ne
 go_before ask zero old new same w = 0
 go_before ask (suc n) old new (mid, before, once) w = go_before ask n old mid before w + goes_before ask mid new once w
 
--- what happens in one time and then in another happens in both together; and so do those that go before it
+-- one more, if the order was kept
+abbrev pub keeps_order : (ask : ℕ) (old new : LineView) → WaitsOnce ask old new → ℕ
+keeps_order ask old new (inl lets) = 0
+keeps_order ask old new (inr (inl asks)) = 0
+keeps_order ask old new (inr (inr (inl leaves))) = 0
+keeps_order ask old new (inr (inr (inr keeps))) = 1
+
+-- how often that was so
+abbrev pub keep_order : (ask n : ℕ) (old new : LineView) → Waits ask n old new → ℕ
+keep_order ask zero old new same = 0
+keep_order ask (suc n) old new (mid, before, once) = keep_order ask n old mid before + keeps_order ask mid new once
+
+-- what happens in one time and then in another happens in both together; and so do those that go before it, and how often the order was kept
 abbrev pub WaitsAddUp : Type 0
 WaitsAddUp =
     (ask n m : ℕ) (old mid new : LineView) (first : Waits ask n old mid) (second : Waits ask m mid new)
     → (all : ℕ) × (all ≡ n + m) × (both : Waits ask all old new)
     × ((w : Wish) → go_before ask all old new both w ≡ go_before ask n old mid first w + go_before ask m mid new second w)
+    × (keep_order ask all old new both ≡ keep_order ask n old mid first + keep_order ask m mid new second)
 
--- The wish is in line still. It counts those that went before it, until it was passed by as often as may be; and all that went before it are no more than it
--- counted and stand before it no more
-pub record HasWaited (w : Wish) (place all : ℕ) (new : LineView) : Type 0 where
+-- The wish is in line still. It counts those that went before it, until it was passed by as often as may be, or counts as if; and all that went before it are
+-- no more than it counted and stand before it no more. It counts them alone, if the order was never kept meanwhile
+pub record HasWaited (w : Wish) (place all orders : ℕ) (new : LineView) : Type 0 where
   pub it : Wish
   pub now : ℕ
   pub stands : Stands it now new.wishes
@@ -57,8 +71,9 @@ pub record HasWaited (w : Wish) (place all : ℕ) (new : LineView) : Type 0 wher
   pub needs : it.needs ≡ w.needs
   pub classes : it.classes ≡ w.classes
   pub later : ℕ
-  pub counted : it.passed ≡ w.passed + later
-  pub each : it.passed < new.most → all ≡ later
+  pub counted : w.passed + later ≤ it.passed
+  pub exact : orders ≡ 0 → it.passed ≡ w.passed + later
+  pub each : it.passed < new.most → (all ≡ later) × (it.passed ≡ w.passed + later)
   pub bound : all + now ≤ place + later
 
 -- As long as a wish waits: each that needs one of its instruments and is let in while a place is free for it is counted, until it was passed by as often as may
@@ -66,7 +81,7 @@ pub record HasWaited (w : Wish) (place all : ℕ) (new : LineView) : Type 0 wher
 abbrev pub IsPassedAtMost : Type 0
 IsPassedAtMost =
     (ask n : ℕ) (old new : LineView) (w : Wish) (place : ℕ) → IsInOrder old → w.ask ≡ ask → Stands w place old.wishes → (waits : Waits ask n old new)
-    → (h : HasWaited w place (go_before ask n old new waits w) new) × (w.passed + h.later ≤ old.most)
+    → (h : HasWaited w place (go_before ask n old new waits w) (keep_order ask n old new waits) new) × (w.passed + h.later ≤ old.most)
     × (go_before ask n old new waits w + w.passed ≤ place + old.most) × (new.most ≡ old.most) × IsInOrder new
 
 -- ---- first come, first served

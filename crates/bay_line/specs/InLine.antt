@@ -5,7 +5,7 @@ use Rattle.bay_line.specs.declared.wish.Wish.{Wish}
 use Rattle.bay_line.specs.declared.going_in.Seated.{Seated}
 use Rattle.bay_line.specs.Wishes.{wish_at}
 use Rattle.bay_line.specs.Turns.{IsFreeClass}
-use Rattle.bay_line.specs.Lines.{LineView, Below, IsNext, LetsIn, TakesLate, nobody, wishes_of, asking, leaving, gone}
+use Rattle.bay_line.specs.Lines.{LineView, Below, IsNext, LetsIn, TakesLate, nobody, wishes_of, asking, leaving, gone, kept_in_order}
 
 -- a wish of this ask is in line
 abbrev pub InLine : List Wish → ℕ → Type 0
@@ -47,6 +47,8 @@ pub record StaysInLine : Type 0 where
   pub goes : (x : LineView) (s : Seated) (free : ℕ) → GoesOut s.ask x.wishes (gone x s free).wishes
   pub let_in : (in_use free : ℕ) (old : LineView) (s : Seated) (new : LineView) → LetsIn in_use free old (Some s) new
       → InLine old.wishes s.ask × GoesOut s.ask old.wishes new.wishes
+  pub keeps_order : (x : LineView) (ask : ℕ) → InLine x.wishes ask → InLine (kept_in_order x).wishes ask
+  pub kept_order : (x : LineView) (ask : ℕ) → InLine (kept_in_order x).wishes ask → InLine x.wishes ask
   -- so whoever's number is above those of all asks in line may ask
   pub below : (next : ℕ) (wishes : List Wish) → AreBelow next wishes → Below next wishes
   pub are_below : (next : ℕ) (wishes : List Wish) → Below next wishes → AreBelow next wishes
@@ -77,6 +79,7 @@ pub record StaysWithin (P : Wish → Type 0) : Type 0 where
   pub asks : (x : LineView) (ask : ℕ) (sets : List ℕ) (classes : ℕ) (deadline : Option ℕ) → Within P x.wishes → All P (wishes_of ask sets classes deadline)
       → Within P (asking x ask sets classes deadline).wishes
   pub leaves : (x : LineView) (ask : ℕ) → Within P x.wishes → Within P (leaving x ask).wishes
+  pub keeps_order : (x : LineView) → Within P x.wishes → Within P (kept_in_order x).wishes
   pub late : (now : ℕ) (old : LineView) (ask : Option ℕ) (new : LineView) → TakesLate now old ask new → Within P old.wishes → Within P new.wishes
   pub next : (most in_use free : ℕ) (wishes : List Wish) (place : ℕ) (s : Seated) → IsNext most in_use free wishes place s → Within P wishes
       → IsSeatedWithin P free s

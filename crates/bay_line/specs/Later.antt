@@ -3,7 +3,7 @@ use Rattle.std.specs.Prelude.{◌≡◌, ℕ, zero, suc, ◌+◌, ◌≤◌, ◌
 use Rattle.std.proofs.Common.{inl, inr}
 use Rattle.bay_line.specs.declared.wish.Wish.{Wish}
 use Rattle.bay_line.specs.Wishes.{passes}
-use Rattle.bay_line.specs.Lines.{LineView, IsInOrder}
+use Rattle.bay_line.specs.Lines.{LineView, IsInOrder, kept_in_order}
 use Rattle.bay_line.specs.Bounds.{Stands, WaitsOnce, Waits, one_if}
 
 -- one more, if somebody was let in that asked later and needs one of the instruments of the wish, while a place was free for it
@@ -22,3 +22,10 @@ abbrev pub FewLaterGoBefore : Type 0
 FewLaterGoBefore =
     (ask n : ℕ) (old new : LineView) (w : Wish) (place : ℕ) → IsInOrder old → w.ask ≡ ask → Stands w place old.wishes → (waits : Waits ask n old new)
     → go_later ask n old new waits w + w.passed ≤ old.most
+
+-- Once the order was kept: as long as a wish waits that stood in line then, nobody that asked later and needs one of its instruments is let in while a place
+-- is free for it
+abbrev pub NobodyLaterGoesBefore : Type 0
+NobodyLaterGoesBefore =
+    (ask n : ℕ) (old new : LineView) (w : Wish) (place : ℕ) → IsInOrder old → w.ask ≡ ask → Stands w place (kept_in_order old).wishes
+    → (waits : Waits ask n (kept_in_order old) new) → go_later ask n (kept_in_order old) new waits w ≡ 0

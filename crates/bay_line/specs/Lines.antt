@@ -4,7 +4,7 @@ use Rattle.bay_line.specs.declared.wish.Wish.{Wish}
 use Rattle.bay_line.specs.declared.line.NotInLine.{NotInLine}
 use Rattle.bay_line.specs.declared.line.NotInLine.TheVariants.{Full, NoMemory}
 use Rattle.bay_line.specs.declared.going_in.Seated.{Seated}
-use Rattle.bay_line.specs.Wishes.{wish_at, is_late}
+use Rattle.bay_line.specs.Wishes.{wish_at, is_late, passed_most}
 use Rattle.bay_line.specs.Turns.{IsFirst, HasReason, IsFreeClass, others, pass_all, after}
 
 -- the wishes in the order of asking; for how many there is room; and how often one is passed by at most
@@ -73,6 +73,10 @@ IsWhyNot x sets NoMemory = length x.wishes + length sets ≤ x.limit
 -- it isn't in line, and all others stand as they stood
 abbrev pub leaving : LineView → ℕ → LineView
 leaving x ask = with_wishes x (others ask x.wishes)
+
+-- each that stands in line counts as passed by as often as may be: so nobody that comes later goes before it
+abbrev pub kept_in_order : LineView → LineView
+kept_in_order x = with_wishes x (map (passed_most x.most) x.wishes)
 
 -- an ask in line whose time is over; or no ask's is
 abbrev pub IsLate : ℕ → List Wish → Option ℕ → Type 0

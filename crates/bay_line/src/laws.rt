@@ -4,7 +4,7 @@ ghost use Rattle.bay_line.specs.Lines.{NextIsLetIn};
 ghost use Rattle.bay_line.specs.Wanted.{IsLateFromFirst};
 ghost use Rattle.bay_line.specs.InLine.{StaysInLine, WhatWasAskedStays};
 ghost use Rattle.bay_line.specs.Keepers.{EachLacksSomething};
-ghost use Rattle.bay_line.specs.Later.{FewLaterGoBefore};
+ghost use Rattle.bay_line.specs.Later.{FewLaterGoBefore, NobodyLaterGoesBefore};
 ghost use Rattle.bay_line.specs.Bounds.{IsPassedAtMost, WaitsAddUp, IsFirstComeFirstServed, IsServedBefore, NobodyWaitsForNothing, NobodyWaitsForItself};
 
 /// Once nobody is let in any more, nobody waits whose instruments are all free, kept for nobody before it, and for whom a place is free.
@@ -38,6 +38,11 @@ pub fn is_passed_at_most()
 /// Of those that asked later, and need one of its instruments, at most `most` are let in before it while a place is free for it.
 pub fn few_later_go_before()
     ensures { FewLaterGoBefore }
+{}
+
+/// Whoever stands in line when the order is kept is passed by nobody that asked later, from then on, while a place is free for it.
+pub fn nobody_later_goes_before()
+    ensures { NobodyLaterGoesBefore }
 {}
 
 /// What happens in one time and then in another happens in both together.

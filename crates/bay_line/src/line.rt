@@ -1,7 +1,7 @@
 //! The line.
 ghost use Rattle.std.specs.Prelude.{◌≡◌, ◌<◌, ◌≤◌, length, OnErr, OnOk, IfErr};
 ghost use Rattle.std.specs.List.{list_any};
-ghost use Rattle.bay_line.specs.Lines.{nobody, Below, IsInOrder, asking, IsWhyNot, leaving, gone, TakesLate, IsChosen, LetsIn};
+ghost use Rattle.bay_line.specs.Lines.{nobody, Below, IsInOrder, asking, IsWhyNot, leaving, kept_in_order, gone, TakesLate, IsChosen, LetsIn};
 ghost use Rattle.bay_line.specs.InLine.{SaysInLine};
 ghost use Rattle.bay_line.specs.Wanted.{AreWanted, AreClasses, IsFirstDeadline, leaves};
 ghost use Rattle.bay_line.specs.Keepers.{IsKeeper, IsWishFor};
@@ -9,7 +9,7 @@ ghost use Rattle.bay_line.specs.Keepers.{IsKeeper, IsWishFor};
 use crate::appending::append;
 use crate::going_in::{Seated, choose, go_at, go_in};
 use crate::late::first_late;
-use crate::passing::remove;
+use crate::passing::{keep_order, remove};
 use crate::wish::Wish;
 use crate::{keeper, wanting};
 use std::alloc::Global;
@@ -142,6 +142,13 @@ impl Line {
         ensures { self.new ≡ leaving self.old ask }
     {
         remove(&mut self.wishes, ask);
+    }
+
+    /// From now on nobody that comes later goes before anybody that stands in line.
+    pub fn keep_order(&mut self)
+        ensures { self.new ≡ kept_in_order self.old }
+    {
+        keep_order(&mut self.wishes, self.most);
     }
 
     /// One whose time is over at this moment, if there is one: it isn't in line any more. Call it until it answers none.

@@ -1,6 +1,6 @@
 //! What somebody in line waits for.
 ghost use Rattle.std.specs.Prelude.{◌≡◌, ◌<◌, true};
-ghost use Rattle.bay_line.specs.Wishes.{is_ready, is_kept, is_late, passes, passed_by};
+ghost use Rattle.bay_line.specs.Wishes.{is_ready, is_kept, is_late, passes, passed_by, passed_most};
 
 /// A set of instruments, and the ask that wants it. An ask that takes one of several sets has several wishes, which stand next to one another.
 #[derive(Clone, Copy)]
@@ -62,5 +62,18 @@ pub(crate) fn passed_by(wish: Wish, most: u32, free: u32, needs: u64) -> Wish
         }
     } else {
         wish
+    }
+}
+
+/// The same wish, as if it was passed by as often as may be.
+pub(crate) fn passed_most(wish: Wish, most: u32) -> Wish
+    ensures { result ≡ passed_most most wish }
+{
+    Wish {
+        ask: wish.ask,
+        needs: wish.needs,
+        classes: wish.classes,
+        deadline: wish.deadline,
+        passed: most,
     }
 }

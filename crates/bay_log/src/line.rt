@@ -18,7 +18,7 @@ pub struct Entry {
     pub limit: Option<u64>,
     /// Since when it asked.
     pub asked: u64,
-    /// Its token: larger than that of each ask that came to hold before it.
+    /// Its token: larger than that of each ask that was told before that it holds.
     pub token: u64,
 }
 

@@ -1,7 +1,7 @@
 //! The bay.
 use crate::logs::{BAY, FILE, OWNER};
 use crate::rows::check;
-use bay::{Bay, Class, NotAsked, NotHeld, NotNoted, Request, Terms};
+use bay::{Bay, Class, NotAsked, NotHeld, NotNoted, Request, Terms, Urgency};
 use bay_book::{End, Outcome, Stage};
 use std::alloc::Global;
 use std::process::Abort;
@@ -22,6 +22,7 @@ fn request(number: u64, owner: u128, deadline: Option<u64>) -> Request {
         owner,
         deadline,
         limit: None,
+        urgency: Urgency::Usual,
     }
 }
 
@@ -175,6 +176,47 @@ fn bays(rt: HostRuntime) {
             go(&rt, &mut bay);
             end(&rt, &mut bay);
         }
+        Err(_) => panic!(rt; "no bay"),
+    }
+}
+
+/// 5 holds 1; 6 waits for 0 and 1; and 7, which is urgent, for 0 behind 6, though it is free.
+fn hurry(rt: &impl Abort, bay: &mut Bay) {
+    let urgent = Request {
+        number: 7,
+        class: 0,
+        owner: 0,
+        deadline: None,
+        limit: None,
+        urgency: Urgency::Urgent,
+    };
+    check(rt, "holds", bay.ask(&[2], request(5, 0, None), 0), Ok(()));
+    check(rt, "waits", bay.ask(&[3], request(6, 0, None), 0), Ok(()));
+    check(rt, "is urgent", bay.ask(&[1], urgent, 0), Ok(()));
+    check(
+        rt,
+        "first",
+        bay.wish_for(6, 0).map(|wish| (wish.needs, wish.passed)),
+        Some((3, 1)),
+    );
+    check(
+        rt,
+        "itself",
+        bay.wish_for(7, 0).map(|wish| (wish.needs, wish.passed)),
+        Some((1, 1)),
+    );
+    check(
+        rt,
+        "for whom",
+        bay.keeper(7, 0).map(|ask| ask.number),
+        Some(6),
+    );
+}
+
+#[test]
+fn urgent(rt: HostRuntime) {
+    match Bay::open(rt.alloc(), classes(&rt, rt.alloc()), TERMS, 4, 1, BAY) {
+        Ok(mut bay) => hurry(&rt, &mut bay),
         Err(_) => panic!(rt; "no bay"),
     }
 }

@@ -154,3 +154,27 @@ fn leave(rt: HostRuntime) {
     line.leave(0);
     check(&rt, "nobody", line.len(), 0);
 }
+
+/// The first wants 0 and 1, the second 1 alone, the third 0 alone. From the moment at which the order is kept, the third doesn't go before the first, though 0
+/// is free.
+#[test]
+fn kept_order(rt: HostRuntime) {
+    let mut line = Line::nobody(rt.alloc(), 3, 64);
+    comes(&rt, &mut line, 1, &[3], 1, None);
+    comes(&rt, &mut line, 2, &[2], 1, None);
+    comes(&rt, &mut line, 3, &[1], 1, None);
+    line.keep_order();
+    check(
+        &rt,
+        "as often as may be",
+        line.wish_for(3, 0).map(|wish| (wish.needs, wish.passed)),
+        Some((1, 64)),
+    );
+    check(&rt, "0 is free", line.let_in(2, 1).map(parts), None);
+    check(
+        &rt,
+        "all is free",
+        line.let_in(0, 1).map(parts),
+        Some((1, 3, 0, None)),
+    );
+}

@@ -1,7 +1,7 @@
 //! A bay that goes on in a new file, and with other classes.
 use crate::logs::BAY;
 use crate::rows::check;
-use bay::{Bay, Class, NotTurned, Request, Terms};
+use bay::{Bay, Class, NotTurned, Request, Terms, Urgency};
 use bay_book::{Outcome, Stage};
 use std::alloc::Global;
 use std::process::Abort;
@@ -28,6 +28,7 @@ fn request(number: u64, owner: u128) -> Request {
         owner,
         deadline: None,
         limit: None,
+        urgency: Urgency::Usual,
     }
 }
 

@@ -1,7 +1,6 @@
 -- The two ways of saying that a job is in a set.
-use Rattle.std.proofs.Common.{◌≡◌, ◌⊎◌, bit_or, max, inl, inr, ℕ, ◌*◌, ◌^◌, ◌%◌, ◌<◌, Bool, true, false, ◌==◌, arith, sym, ◌∙◌}
+use Rattle.std.proofs.Common.{◌≡◌, ◌⊎◌, bit_or, max, inl, inr, ℕ, ◌<◌, Bool, true, false, ◌==◌, arith, sym, ◌∙◌}
 use Rattle.std.specs.Int.{bit_at}
-use Rattle.std.proofs.Math.Pow.{pow-lt}
 use Rattle.std.proofs.lemmas.Bool.{cases_eq, eq-eqb, false≢true}
 use Rattle.std.proofs.lemmas.Nat.Bits.{bit_at_or, bit_at-lt}
 use Rattle.std.proofs.lemmas.Bool.Decides.{nat_tests}
@@ -31,9 +30,6 @@ same_test true true f g = λ i. true
 same_test false false f g = λ i. false
 same_test true false f g = sym (f (λ i. true))
 same_test false true f g = g (λ i. true)
-
-pub shifted : (k : ℕ) → k < 32 → 1 * 2 ^ k % 2 ^ 32 ≡ 2 ^ k
-shifted k small = let below : 2 ^ k < 2 ^ 32 = pow-lt small in omega (arith, below)
 
 -- a set of all that are in either of two
 bit_or_of : (a b : ℕ) → max a b ≡ 1 → a < 2 → b < 2 → (a ≡ 1) ⊎ (b ≡ 1)

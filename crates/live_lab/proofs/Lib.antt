@@ -7,7 +7,6 @@ mod Sayings
 mod Clocks
 mod Tests
 mod Sessions
-mod Calls
 mod Reported
 mod Asked
 mod Admitted

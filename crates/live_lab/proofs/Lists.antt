@@ -13,7 +13,6 @@ use Rattle.turns.specs.Lists.{Each}
 use Rattle.turns.specs.Acts.{AreActs}
 use Rattle.turns.specs.Turn.{Visit, visit_events, visits_events}
 use Rattle.settling.specs.Left.{IsBy, IsBySelf}
-use Rattle.live_lab.specs.Calls.{IsMealDue}
 use Rattle.live_lab.specs.Ends.{in_hand, commands_by, rest_of_session}
 
 abbrev pub AreBy : ℕ → List Event → Type 0
@@ -69,15 +68,6 @@ acts_by plan s j waited events due = elim due [
         ]
       ]
     ]
-  ]
-]
-
-pub meal_by : (plan : LabPlan) (s : State) (j : ℕ) (events : List Event) → IsMealDue plan s j events → AreBy j events
-meal_by plan s j events due = elim due [
-  | inl a ↦ subst (AreBy j) (sym a.1) (refl, tt)
-  | inr b ↦ elim b [
-    | inl a ↦ subst (AreBy j) (sym a.2) (refl, tt)
-    | inr c ↦ subst (AreBy j) (sym c.2) tt
   ]
 ]
 

@@ -15,7 +15,6 @@ use Rattle.interleaving.specs.World.{WorldView, LeadsTo, IsReachedWith}
 use Rattle.edge_word.specs.Moves.{on}
 use Rattle.reasons.specs.Deeds.{AreBetween}
 use Rattle.session_layer.specs.declared.turning.Turned.{Turned}
-use Rattle.live_lab.specs.declared.stage.Aim.TheVariants.{Retire}
 use Rattle.live_lab.specs.declared.stage.Stage.{Stage}
 use Rattle.live_lab.specs.declared.stage.Stage.TheVariants.{There, OnTheWay, Barred}
 use Rattle.live_lab.specs.Labs.{LabView}
@@ -43,7 +42,7 @@ still_tranquil p q (s, inr (u, v)) t = absurd (let e : Tranquil ≡ Thirsty = sy
 not_thirsty : (d : Drinking) → d ≡ Tranquil → d ≡ Thirsty → ⊥
 not_thirsty d a b = let e : Tranquil ≡ Thirsty = sym a ∙ b in let no : ⊥ = cc in no
 
-is_there : (w : WorldView) (j : ℕ) (stage : Stage) → IsStage Retire w j stage → drinking w.state j ≡ Retired → stage ≡ There
+is_there : (w : WorldView) (j : ℕ) (stage : Stage) → IsStage w j stage → drinking w.state j ≡ Retired → stage ≡ There
 is_there w j There s r = refl
 is_there w j OnTheWay s r = absurd (s.0 r)
 is_there w j Barred s r = absurd (s.0 r)
@@ -65,7 +64,7 @@ goes_to old events new j l b =
     subst (λ (s : State). Goes (phase old.state j) (phase s j)) (sym l.run.leads) (goes_all old.plan old.state events j l.run.legal b)
 
 did_retire : (job : ℕ) (old : LabView) (r : Turned) (stage : Stage) (new : LabView) (x : RestsAndRetires job old r new)
-    → IsReachedWith old.world.plan old.world.state old.world.counts → IsJob old.world.plan job → IsStage Retire new.world job stage → x.did ≡ true
+    → IsReachedWith old.world.plan old.world.state old.world.counts → IsJob old.world.plan job → IsStage new.world job stage → x.did ≡ true
     → OwesOrRetires job old stage new
 did_retire job old r stage new x reached is_job s did =
     let mid = x.mid in
@@ -77,7 +76,7 @@ did_retire job old r stage new x reached is_job s did =
     retired job old stage new (is_there new.world job stage s (ap (λ (p : JobState). p.drinking) now))
 
 didnt_retire : (job : ℕ) (old : LabView) (r : Turned) (stage : Stage) (new : LabView) (x : RestsAndRetires job old r new) → IsJob old.world.plan job
-    → IsStage Retire old.world job OnTheWay → x.did ≡ false → OwesOrRetires job old stage new
+    → IsStage old.world job OnTheWay → x.did ≡ false → OwesOrRetires job old stage new
 didnt_retire job old r stage new x is_job w did =
     let mid = x.mid in let o = old.world in
     let leads : LeadsTo mid [] new.world = subst (λ (b : Bool). LeadsTo mid (on b (Retires job) []) new.world) did x.leads in
@@ -102,12 +101,12 @@ didnt_retire job old r stage new x is_job w did =
       retires = λ n. absurd (n now);
     }
 
-nothing_done : (job most : ℕ) (old : LabView) (stage : Stage) (new : LabView) → most ≢ 0 → IsStage Retire old.world job OnTheWay
-    → IsStage Retire new.world job stage → (stage ≡ OnTheWay → most ≡ 0) → new ≡ old → ⊥
+nothing_done : (job most : ℕ) (old : LabView) (stage : Stage) (new : LabView) → most ≢ 0 → IsStage old.world job OnTheWay
+    → IsStage new.world job stage → (stage ≡ OnTheWay → most ≡ 0) → new ≡ old → ⊥
 nothing_done job most old There new some w s none same = w.0 (subst (λ (l : LabView). drinking l.world.state job ≡ Retired) same s)
 nothing_done job most old OnTheWay new some w s none same = some (none refl)
 nothing_done job most old Barred new some w s none same =
-    let b = subst (λ (l : LabView). IsStage Retire l.world job Barred) same s in b.1 w.1
+    let b = subst (λ (l : LabView). IsStage l.world job Barred) same s in b.1 w.1
 
 pub who_owes : WhoOwesAMealRetiresLater
 who_owes most job old a new reached is_job some w (s, inl (on_way, more, x)) = elim (cases_Bool x.did) [

@@ -1,5 +1,5 @@
 -- Who holds goes on to hold, in the same session, unless it is its own session that ends.
-use Rattle.std.proofs.Common.{◌≡◌, ◌≢◌, ℕ, zero, suc, ◌^◌, Bool, true, false, if◌then◌else◌, List, [], ◌∷◌, ◌++◌, length, Result, Ok, Err, refl, sym, ap, ◌∙◌, subst, inl, inr, arith}
+use Rattle.std.proofs.Common.{◌≡◌, ◌≢◌, ℕ, zero, suc, Bool, true, false, if◌then◌else◌, List, [], ◌∷◌, ◌++◌, length, Result, Ok, Err, refl, sym, ap, ◌∙◌, subst, inl, inr, arith}
 use Rattle.std.proofs.lemmas.Bool.{cases_eq}
 use Rattle.std.proofs.lemmas.List.{get_or_past}
 use Rattle.lab_plan.specs.LabPlan.{LabPlan, SessionPlan}
@@ -31,7 +31,6 @@ use Rattle.live_lab.specs.declared.additions.NotAdded.TheVariants.{HasRetired as
 use Rattle.live_lab.specs.declared.settle.Came.{Came}
 use Rattle.live_lab.specs.declared.end.Release.{Release}
 use Rattle.live_lab.specs.declared.end.Release.TheVariants.{NotHeld, LetGo}
-use Rattle.live_lab.specs.declared.stage.Stage.{Stage}
 use Rattle.live_lab.specs.Labs.{LabView}
 use Rattle.live_lab.specs.Sets.{events_below}
 use Rattle.live_lab.specs.Rests.{DoAndRest}
@@ -40,7 +39,6 @@ use Rattle.live_lab.specs.Ends.{in_hand, commands_by, rest_of_session, EndsHeld,
 use Rattle.live_lab.specs.Adding.{LabAdds, AddsText}
 use Rattle.live_lab.specs.Admitting.{Admits}
 use Rattle.live_lab.specs.Settles.{Settles}
-use Rattle.live_lab.specs.Stages.{SettlesFor, Begins}
 use Rattle.live_lab.specs.Staying.{HoldsOn, HoldersStay}
 use Rattle.live_lab.proofs.Frames.{below_or}
 
@@ -119,9 +117,6 @@ stays_all plan s (event ∷ events) j legal n =
 
 pub holds_same : (j : ℕ) (old new : LabView) → new.world.state ≡ old.world.state → HoldsOn j old new
 holds_same j old new is h = (subst (λ (s : State). IsDrinking (phase s j)) (sym is) h, ap (λ (s : State). session s j) is)
-
-pub holds_both : (j : ℕ) (a b c : LabView) → HoldsOn j a b → HoldsOn j b c → HoldsOn j a c
-holds_both j a b c f g h = let x = f h in let y = g x.0 in (y.0, y.1 ∙ x.1)
 
 leads_on : (j : ℕ) (old : WorldView) (events : List Event) (new : WorldView) → LeadsTo old events new → AllEndOther j events → Stays (phase old.state j) (phase new.state j)
 leads_on j old events new l n = subst (λ (s : State). Stays (phase old.state j) (phase s j)) (sym l.run.leads) (stays_all old.plan old.state events j l.run.legal n)
@@ -248,19 +243,11 @@ turn_stays j k old r new other t =
     (first_others j old.world.plan _ k _ (order k) t.acts
     ((other, tt), ((tt, (tt, tt)), ((tt, tt), ((tt, tt), ((tt, tt), ((tt, tt), ((tt, tt), ((tt, tt), ((tt, tt), tt))))))))) t.turn.acts_due)))
 
--- ---- sessions that are skipped, begin or come
+-- ---- sessions that are skipped or come
 
 skip_stays : (j k : ℕ) (old : LabView) (r : Bool) (new : LabView) → Skips k old r new → HoldsOn j old new
 skip_stays j k old true new d = leads_on j old.world (Thirst k ∷ Withdraw k ∷ []) new.world d.leads (tt, (tt, tt))
 skip_stays j k old false new (none, is) = holds_same j old new (ap (λ (x : LabView). x.world.state) is)
-
-settle_for_stays : (j k n : ℕ) (old : LabView) (deeds : ℕ) (busy : Bool) (new : LabView) → SettlesFor k n old deeds busy new → HoldsOn j old new
-settle_for_stays j k zero old deeds busy new (none, is_busy, is) = holds_same j old new (ap (λ (x : LabView). x.world.state) is)
-settle_for_stays j k (suc n) old deeds busy new (so_far, mid, came, earlier, stage, s, sum, was) =
-    holds_both j old mid new (settle_for_stays j k n old so_far true mid earlier) (settle_stays j (2 ^ k) mid came new s)
-
-begin_stays : (j most k : ℕ) (old : LabView) (a : Stage × Turned) (new : LabView) → Begins most k old a new → HoldsOn j old new
-begin_stays j most k old a new (n, deeds, busy, few, settles, says, stage, over) = settle_for_stays j k n old deeds busy new settles
 
 world_adds : (plan : SessionPlan) (k : ℕ) (old : WorldView) (answer : Result (Unit {0}) AddRefusal) (new : WorldView) → WorldAdds old k plan answer new → new.state ≡ old.state
 world_adds plan k old (Ok done) new (stays, adds, is) = ap (λ (w : WorldView). w.state) is
@@ -282,7 +269,6 @@ holders_stay j = record {
   settles = settle_stays j;
   comes = comes_stays j;
   come = λ text k old answer new adds. holds_same j old new (text_state text k old answer new adds);
-  begins = begin_stays j;
   withdraws = withdraw_stays j;
   skips = skip_stays j;
   ends = end_stays j;

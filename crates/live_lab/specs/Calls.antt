@@ -1,18 +1,16 @@
 -- For readers: what the calls do that are steps of one job.
-use Rattle.std.specs.Prelude.{◌≡◌, ◌≢◌, ◌⊎◌, ℕ, zero, suc, ◌+◌, min, ◌<◌, ◌≤◌, Bool, true, false, List, [], ◌∷◌, ◌++◌, length, map}
+use Rattle.std.specs.Prelude.{◌≡◌, ◌⊎◌, ℕ, ◌+◌, ◌<◌, ◌≤◌, Bool, true, false, List, [], ◌∷◌, length}
 use Rattle.std.specs.Prelude.{Option, None, Some, IsSome, slice_set}
-use Rattle.lab_plan.specs.LabPlan.{LabPlan, sessions, edges_of, patience}
+use Rattle.lab_plan.specs.LabPlan.{LabPlan, sessions, patience}
 use Rattle.instrument_log.specs.declared.entry.Entry.{Entry}
 use Rattle.legal_steps.specs.declared.event.Event.{Event}
-use Rattle.legal_steps.specs.declared.event.Event.TheVariants.{Leave, Sit, Thirst, Reach, Act, Withdraw}
+use Rattle.legal_steps.specs.declared.event.Event.TheVariants.{Thirst, Reach, Act, Withdraw}
 use Rattle.legal_steps.specs.State.{State, phase, drinking, session}
 use Rattle.legal_steps.specs.Legal.{May, IsJob, next_entry}
-use Rattle.legal_steps.specs.Run.{after_all}
 use Rattle.interleaving.specs.World.{LeadsTo}
 use Rattle.turns.specs.Patience.{is_waiting}
-use Rattle.turns.specs.Turn.{Visit, is_done, is_lost, count, once, AreVisits, visits_events, IsTurnBy}
+use Rattle.turns.specs.Turn.{Visit, is_done, is_lost, count, once, IsTurnBy}
 use Rattle.session_layer.specs.declared.turning.Turned.{Turned}
-use Rattle.session_layer.specs.declared.turning.Turned.TheVariants.{Acted, Moved, Idle}
 use Rattle.session_layer.specs.Turn.{Says}
 use Rattle.live_lab.specs.Clocks.{after_turn}
 use Rattle.late_thirst.specs.declared.asker.Asker.{Asker}
@@ -43,47 +41,6 @@ pub record TakesTurn (j : ℕ) (old : LabView) (r : Turned) (new : LabView) : Ty
   pub leads : LeadsTo old.world events new.world
   pub clocks : new.clocks ≡ slice_set old.clocks j (after_turn (is_waiting (drinking old.world.state j)) (phase new.world.state j) (clock_at old j))
   pub line : new.line ≡ old.line
-
--- ---- service
-
--- the meal ends; or else it starts; or neither is legal
-abbrev pub IsMealDue : LabPlan → State → ℕ → List Event → Type 0
-IsMealDue plan s j events =
-    (May plan s (Leave j) × (events ≡ Leave j ∷ []))
-    ⊎ ((May plan s (Leave j) → ⊥) × May plan s (Sit j) × (events ≡ Sit j ∷ []))
-    ⊎ ((May plan s (Leave j) → ⊥) × (May plan s (Sit j) → ⊥) × (events ≡ []))
-
--- each edge of the job was visited, in ascending order, and then the meal was ended or started, if that was due
-pub record Serves (j : ℕ) (old : LabView) (r : Turned) (new : LabView) : Type 0 where
-  pub visits : List Visit
-  pub edges : map (λ (v : Visit). v.edge) visits ≡ edges_of old.world.plan j
-  pub due : AreVisits old.world.plan j old.world.state visits
-  pub none_lost : count is_lost visits ≡ 0
-  pub acts : List Event
-  pub meal : IsMealDue old.world.plan (after_all old.world.plan old.world.state (visits_events j visits)) j acts
-  pub says : Says r (count is_done visits + once acts) 0
-  pub does : Does old (visits_events j visits ++ acts) new
-
--- what two answers say together: all acts that were done, as far as 32 bits go
-abbrev pub both : Turned → Turned → Turned
-both (Acted m) (Acted n) = Acted (min (m + n) 4294967295)
-both (Acted m) Moved = Acted m
-both (Acted m) Idle = Acted m
-both Moved (Acted n) = Acted n
-both Moved Moved = Moved
-both Moved Idle = Moved
-both Idle second = second
-
--- each of the first this many jobs but this one was served, in ascending order, and nothing else was done
-abbrev pub ServesAllBut : ℕ → ℕ → LabView → Turned → LabView → Type 0
-ServesAllBut job zero old r new = (r ≡ Idle) × (new ≡ old)
-ServesAllBut job (suc k) old r new =
-    (s : Turned) × (mid : LabView) × ServesAllBut job k old s mid
-    × (((k ≡ job) × (r ≡ s) × (new ≡ mid)) ⊎ ((k ≢ job) × (t : Turned) × Serves k mid t new × (r ≡ both s t)))
-
--- each job but this one was served
-abbrev pub ServesOthers : ℕ → LabView → Turned → LabView → Type 0
-ServesOthers job old r new = ServesAllBut job (length old.world.plan.jobs) old r new
 
 -- ---- single steps
 

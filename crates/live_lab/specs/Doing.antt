@@ -1,21 +1,18 @@
--- What is done in a world: acts, turns and service of one job, and words of owners.
-use Rattle.std.specs.Prelude.{◌≡◌, ℕ, ◌+◌, ◌≤◌, Bool, true, ◌↔◌, List, [], ◌++◌, length, map}
+-- What is done in a world: acts and turns of one job, and words of owners.
+use Rattle.std.specs.Prelude.{◌≡◌, ℕ, ◌+◌, ◌≤◌, Bool, true, ◌↔◌, List, [], ◌++◌, length}
 use Rattle.std.specs.List.{count_by}
-use Rattle.lab_plan.specs.LabPlan.{edges_of}
 use Rattle.legal_steps.specs.declared.event.Event.{Event}
 use Rattle.legal_steps.specs.declared.event.Event.TheVariants.{Thirst, Withdraw}
 use Rattle.legal_steps.specs.declared.phase.Drinking.TheVariants.{Drinking as Drinks}
 use Rattle.legal_steps.specs.State.{IsDrinking, phase, drinking}
 use Rattle.legal_steps.specs.Legal.{May, IsJob}
-use Rattle.legal_steps.specs.Run.{after_all}
 use Rattle.interleaving.specs.World.{WorldView, LeadsTo}
 use Rattle.edge_word.specs.Moves.{on}
 use Rattle.turns.specs.Acts.{AreActs}
-use Rattle.turns.specs.Turn.{Visit, count, once, is_done, is_lost, AreVisits, visits_events, IsTurnBy}
+use Rattle.turns.specs.Turn.{Visit, count, once, is_done, is_lost, visits_events, IsTurnBy}
 use Rattle.reasons.specs.Deeds.{is_deed}
 use Rattle.live_lab.specs.declared.words.Word.{Word}
 use Rattle.live_lab.specs.declared.words.Word.TheVariants.{Begins, GivesUp}
-use Rattle.live_lab.specs.Calls.{IsMealDue}
 use Rattle.late_thirst.specs.Outside.{LineView}
 use Rattle.live_lab.specs.Labs.{IsLineOf}
 use Rattle.live_lab.specs.Rests.{IsAtRest, ComesToRest, DoAndRest}
@@ -35,24 +32,6 @@ pub record TurnsIn (old : WorldView) (j waited n : ℕ) (new : WorldView) : Type
   pub acts : List Event
   pub turn : IsTurnBy old.plan j waited old.state visits acts (visits_events j visits ++ acts)
   pub none_lost : count is_lost visits ≡ 0
-  pub says : n ≡ count is_done visits + once acts
-  pub leads : LeadsTo old (visits_events j visits ++ acts) new
-
--- the meal was ended or started, if that was due, and it is said whether it was
-pub record MealIn (old : WorldView) (j n : ℕ) (new : WorldView) : Type 0 where
-  pub acts : List Event
-  pub due : IsMealDue old.plan old.state j acts
-  pub says : n ≡ once acts
-  pub leads : LeadsTo old acts new
-
--- the job served its neighbours, and so many things were done
-pub record ServesIn (old : WorldView) (j n : ℕ) (new : WorldView) : Type 0 where
-  pub visits : List Visit
-  pub edges : map (λ (v : Visit). v.edge) visits ≡ edges_of old.plan j
-  pub due : AreVisits old.plan j old.state visits
-  pub none_lost : count is_lost visits ≡ 0
-  pub acts : List Event
-  pub meal : IsMealDue old.plan (after_all old.plan old.state (visits_events j visits)) j acts
   pub says : n ≡ count is_done visits + once acts
   pub leads : LeadsTo old (visits_events j visits ++ acts) new
 

@@ -5,7 +5,6 @@ use Rattle.legal_steps.specs.State.{dining, drinking, session}
 use Rattle.legal_steps.specs.Legal.{IsJob}
 use Rattle.interleaving.specs.World.{IsReachedWith}
 use Rattle.session_layer.specs.declared.turning.Turned.{Turned}
-use Rattle.live_lab.specs.declared.stage.Aim.TheVariants.{Retire}
 use Rattle.live_lab.specs.declared.stage.Stage.{Stage}
 use Rattle.live_lab.specs.declared.stage.Stage.TheVariants.{There, OnTheWay}
 use Rattle.live_lab.specs.Labs.{LabView}
@@ -23,4 +22,4 @@ pub record OwesOrRetires (job : ℕ) (old : LabView) (stage : Stage) (new : LabV
 abbrev pub WhoOwesAMealRetiresLater : Type 0
 WhoOwesAMealRetiresLater =
     (most job : ℕ) (old : LabView) (a : Stage × Turned) (new : LabView) → IsReachedWith old.world.plan old.world.state old.world.counts
-    → IsJob old.world.plan job → most ≢ 0 → IsStage Retire old.world job OnTheWay → GoesToRetire most job old a new → OwesOrRetires job old a.0 new
+    → IsJob old.world.plan job → most ≢ 0 → IsStage old.world job OnTheWay → GoesToRetire most job old a new → OwesOrRetires job old a.0 new

@@ -7,13 +7,11 @@ use Rattle.session_layer.specs.declared.turning.Turned.{Turned}
 use Rattle.live_lab.specs.declared.additions.NotAdded.{NotAdded}
 use Rattle.live_lab.specs.declared.end.Release.{Release}
 use Rattle.live_lab.specs.declared.settle.Came.{Came}
-use Rattle.live_lab.specs.declared.stage.Stage.{Stage}
 use Rattle.live_lab.specs.Labs.{LabView}
 use Rattle.live_lab.specs.Adding.{LabAdds, AddsText}
 use Rattle.live_lab.specs.Calls.{TakesTurn, Withdraws, Skips}
 use Rattle.live_lab.specs.Ends.{EndsSession}
 use Rattle.live_lab.specs.Settles.{Settles}
-use Rattle.live_lab.specs.Stages.{Begins}
 
 -- the job goes on to hold, if it holds, in the same session
 abbrev pub HoldsOn : ℕ → LabView → LabView → Type 0
@@ -26,7 +24,6 @@ pub record HoldsOver (j : ℕ) : Type 0 where
   pub comes : (plan : SessionPlan) (k : ℕ) (old : LabView) (answer : Result (Unit {0}) AddRefusal) (new : LabView) → LabAdds plan k old answer new
       → HoldsOn j old new
   pub come : (text : List ℕ) (k : ℕ) (old : LabView) (answer : Result (Unit {0}) NotAdded) (new : LabView) → AddsText text k old answer new → HoldsOn j old new
-  pub begins : (most k : ℕ) (old : LabView) (answer : Stage × Turned) (new : LabView) → Begins most k old answer new → HoldsOn j old new
   pub withdraws : (k : ℕ) (old : LabView) (answer : Bool) (new : LabView) → Withdraws k old answer new → HoldsOn j old new
   pub skips : (k : ℕ) (old : LabView) (answer : Bool) (new : LabView) → Skips k old answer new → HoldsOn j old new
   pub ends : (k : ℕ) (old : LabView) (answer : Release) (new : LabView) → k ≢ j → EndsSession k old answer new → HoldsOn j old new

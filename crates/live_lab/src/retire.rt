@@ -5,7 +5,7 @@ ghost use Rattle.live_lab.specs.Stages.{GoesToRetire, RestsAndRetires};
 
 use crate::lab::Lab;
 use crate::rest::come_to_rest;
-use crate::stage::{Aim, Stage};
+use crate::stage::Stage;
 use crate::steps::attempt;
 use lab_plan::JobNo;
 use legal_steps::Event;
@@ -29,12 +29,12 @@ impl Lab {
         requires { IsJob self.old.world.plan job }
         ensures { GoesToRetire most job self.old result self.new }
     {
-        let stage = self.stage(Aim::Retire, job);
+        let stage = self.stage(job);
         if stage != Stage::OnTheWay || most == 0 {
             return (stage, Turned::Idle);
         }
         let done = self.retire_of(job);
-        (self.stage(Aim::Retire, job), done)
+        (self.stage(job), done)
     }
 
     /// Does all that can be done without a word from an owner, and then retires a job, if there is such a job, it has no session left and may retire.

@@ -10,7 +10,7 @@ pub(crate) const NEVER: u64 = u64::MAX;
 structures! {
     struct Class { uses: u64, places: u32, unused: u32 }
     struct Terms { bay: [u8; 32], line: u64, grace: u64, disk: u64, overtakes: u32, keeps: u32 }
-    struct Asked { number: u64, owner: [u64; 2], deadline: u64, limit: u64, kind: u32, unused: u32 }
+    struct Asked { number: u64, owner: [u64; 2], deadline: u64, limit: u64, kind: u32, urgent: u32 }
     struct Outcome { serial: u64, number: u64, needs: u64, token: u64, what: u32, unused: u32 }
     struct Standing { number: u64, owner: [u64; 2], needs: u64, since: u64, token: u64, kind: u32, what: u32 }
 }
