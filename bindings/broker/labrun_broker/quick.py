@@ -182,6 +182,7 @@ def _fault(of: Fields) -> Exception:
 
 def _wish(it: Wish, ticket: str, wants_waits: bool) -> bytes:
     parts = [text_field(1, name) for name in it.instruments] + [field(2, b"".join(text_field(1, name) for name in names)) for names in it.any_of]
-    parts += [text_field(3, it.station), text_field(4, it.by), text_field(6, ticket), bytes([8 << 3, wants_waits, 9 << 3, 1, 11 << 3, 1, 12 << 3, it.urgent])]
+    flags = bytes([8 << 3, wants_waits, 9 << 3, 1, 11 << 3, 1, 12 << 3, it.urgent])
+    parts += [text_field(3, it.station), text_field(4, it.by), text_field(6, ticket), flags]
     parts += [bytes([at << 3 | 1]) + struct.pack("<d", span) for at, span in ((5, it.timeout), (10, it.limit)) if span is not None]
     return b"".join(parts)

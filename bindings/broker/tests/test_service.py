@@ -193,7 +193,7 @@ class Clients(OnBroker):
     def test_who_waits_while_brokers_come_and_go(self) -> None:
         """It tries for a while to reach each of them, however long ago it lost the first."""
         broker = self.broker(BAY, "--state", "FOLDER/state")
-        self.enterContext(unittest.mock.patch.object(coming, "GRACE", 12.0))
+        self.enterContext(unittest.mock.patch.object(coming, "GRACE", 25.0))
         lab, got = self.lab(broker), list[str]()
         held = lab.hold("scope")
         held.acquire()
@@ -204,7 +204,7 @@ class Clients(OnBroker):
 
         thread = threading.Thread(target=waits)
         thread.start()
-        for pause in (12.5, 0.0):
+        for pause in (25.5, 0.0):
             until(lambda: station(lab, "radio")["state"] == "waiting")
             broker.kill()
             time.sleep(0.5)

@@ -83,8 +83,10 @@ class Stopped(OnBroker):
                     if has_held:
                         with lab.hold("scope", timeout=LIMIT):
                             pass
-                    with stopped(broker):
+                    with stopped(broker), mock.patch.object(stream.Stream, "asks", autospec=True, side_effect=stream.Stream.asks) as asks:
                         self.assertRegex(self.ends(lab, timeout), f"{TOLD}$")
+                    # (of one that is stopped nothing is wished that it could read later)
+                    self.assertEqual([it.kwargs for it in asks.call_args_list if "wish" in it.kwargs], [])
                     with lab.hold("scope", timeout=LIMIT):
                         pass
                     until(lambda: not self.left(broker), "that nothing is left")

@@ -257,7 +257,7 @@ WRONG = {
         "test_certificates.Certificates.test_a_guard_reads_it_again", "guard_command.py", (("            await lab._reads_again(args.certificate, args.token_file)\n", ""),)
     ),
     "a program that asks before it knows that its broker goes on": Wrong(
-        "test_stopped.Stopped.test_a_program_that_ends_meanwhile", "coming.py", (("await self._in_time(stream.is_answered())", "pass"),)
+        "test_stopped.Stopped.test_a_time_limit_is_kept", "coming.py", (("await self._in_time(stream.is_answered())", "pass"),)
     ),
     "a time limit that a broker which is stopped doesn't end": Wrong(
         "test_stopped.Stopped.test_stopped_as_it_is_asked", "stream.py", (("                    raise Silent\n", "                    pass\n"),)
