@@ -191,8 +191,8 @@ uint32_t lab_bay_look(struct lab_bay *bay, size_t place, struct lab_standing *st
    before. 0; 7; 8 if nobody keeps it, or there is no such instrument. */
 uint32_t lab_bay_keeper(struct lab_bay *bay, uint64_t number, uint32_t instrument, struct lab_standing *keeper);
 
-/* The instruments of a set that an ask waits for, and how often it was passed there. Its sets are counted from 0, as it asked for them. 0; 7; 8 if
-   it doesn't wait, or asked for no such set. */
+/* The instruments of a set that an ask waits for, and how often it was passed there; as often as may be, once it or one that asked after it is
+   urgent. Its sets are counted from 0, as it asked for them. 0; 7; 8 if it doesn't wait, or asked for no such set. */
 uint32_t lab_bay_waits(struct lab_bay *bay, uint64_t number, size_t set, uint64_t *needs, uint32_t *passed);
 
 /* Frees the bay. The handle is empty then. 0; 7. */

@@ -568,13 +568,33 @@ static enum outcome asks(struct talk *it, bool is_new, double wait, double left)
     return how;
 }
 
-static void gives_up(void) {
+/* The broker is told until it answers, or another signal comes, and no longer than so many seconds. A wish that is still on its way is to be
+   answered before: else the broker, which has much to do, might read it later, and hold for nobody. */
+static void gives_up(struct talk *wish_sent, double span) {
     struct talk it = {.socket = -1};
     struct text rest = {0};
+    int first = came;
+    double end = now() + span, says = now() + UNTOLD;
+    bool is_told = false;
     putf(&rest, "/%s", ticket);
-    enum outcome how = call(&it, "DELETE", rest.at, "", 0.5);
-    for (; how == PENDING; how = goes_on(&it))
-        wait_until(&it, it.until);
+    for (came = 0; !is_told && !came && now() < end;) {
+        struct talk *open = wish_sent->socket >= 0 ? wish_sent : &it;
+        enum outcome how = open->socket >= 0 ? goes_on(open) : call(&it, "DELETE", rest.at, "", end - now());
+        int answer = how == ANSWERED ? status_of(open) : 0;
+        if (open == &it)
+            is_told = answer != 0 && answer != 429 && answer != 503;
+        else /* (what was refused isn't asked for) */
+            is_told = answer >= 400 && answer != 503;
+        if (how != PENDING)
+            hang_up(open);
+        if (!is_told)
+            wait_until(how == PENDING ? open : NULL, fmin(fmin(end, says), how == PENDING ? end : open == &it ? now() + PAUSE : now()));
+        if (!is_told && now() > says) {
+            say("the broker doesn't answer, and is told for some seconds that this waits no longer, unless another signal comes");
+            says = INFINITY;
+        }
+    }
+    came = first;
     hang_up(&it);
     free(rest.at);
 }
@@ -663,6 +683,7 @@ static int hears(struct line *its, const struct talk *it) {
 
 /* Nobody answers: it may be just being started, or come back. (If a wish was lost, it may be known all the same.) -1: it is tried again. */
 static int hears_nothing(struct line *its, const struct talk *it, enum outcome how) {
+    struct talk none = {.socket = -1};
     double time = now();
     bool is_first = how == ABSENT && !its->was_there;
     if (how == LOST && it->heard.length > 0 && strncmp(it->heard.at, "HTTP/", 5) != 0) {
@@ -677,12 +698,12 @@ static int hears_nothing(struct line *its, const struct talk *it, enum outcome h
     its->is_new = its->is_new && how == ABSENT;
     its->lost = isnan(its->lost) ? time : its->lost;
     if (!its->is_told && is_first && !(time >= its->end)) {
-        say("waits for the broker: it doesn't listen yet at %s", path);
+        say("waits for the broker: it doesn't listen yet at unix:%s", path);
         its->is_told = true;
     }
     if (time > its->lost + (its->was_there ? AWAY : STARTING) || time > its->end + LATE_END || (is_first && time >= its->end)) {
         say("the broker at unix:%s %s", path, how == ABSENT ? "can't be reached: nobody listens there" : "doesn't answer");
-        gives_up();
+        gives_up(&none, 0.5);
         return UNREACHABLE;
     }
     wait_until(NULL, time + (is_first ? 0.1 : PAUSE));
@@ -710,13 +731,14 @@ static int holds(void) {
         if (!came)
             found = how == ANSWERED && status_of(&it) != 503 ? hears(&its, &it) : hears_nothing(&its, &it, how);
     }
-    hang_up(&it);
     free(its.said.at);
-    if (found < 0 || (found == 0 && came)) {
-        gives_up();
-        return 128 + came;
-    }
-    return found;
+    bool is_over = found < 0 || (found == 0 && came);
+    if (!is_over || !its.is_new)
+        hang_up(&it);
+    if (is_over)
+        gives_up(&it, LATE);
+    hang_up(&it);
+    return is_over ? 128 + came : found;
 }
 
 /* ---- while it holds */

@@ -1,7 +1,17 @@
-"""python3 -m labrun_broker is labrun-broker."""
+"""labrun-broker, also as python3 -m labrun_broker."""
 
 import sys
 
-from .command import main
 
-sys.exit(main())
+def main() -> int:
+    """Ctrl-C ends it at any time, also while it is being read."""
+    try:
+        from .command import main as command
+
+        return command()
+    except KeyboardInterrupt:
+        return 130
+
+
+if __name__ == "__main__":
+    sys.exit(main())

@@ -19,8 +19,9 @@ from .crossing import Crossing
 from .errors import BadWish
 from .folder import JOURNAL
 from .journals import sessions_of
-from .keeping import ANOTHER, Keeping
+from .keeping import Keeping
 from .labs import Lab, whole
+from .leases import ANOTHER
 from .records import News, Record
 from .standing import Owner, Session
 from .together import all_of, no_bay, status_of

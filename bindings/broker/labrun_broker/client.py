@@ -25,10 +25,11 @@ import labrun
 from labrun import picks
 
 from . import broker_pb2 as pb
+from .credentials import CERTIFICATE_FILE, DEFAULT, certificate_in, token_in, user
 from .errors import AnswerLost, BadWish, why_lost
 from .finding import Brokers
 from .held import Held
-from .quick import CERTIFICATE_FILE, DEFAULT, Quick, certificate_in, token_in, user
+from .quick import Quick
 from .stream import Stream
 from .texts import addresses_of
 from .work import Result, Work, loop_of_this_process
@@ -61,10 +62,12 @@ class Lab:
     def __init__(self, address: str, station: str, token: Optional[str], certificate: Optional[bytes], by: str) -> None:
         self.address, self.station, self.by = address, station, by
         self._certificate = certificate
-        self._metadata = (("authorization", f"Bearer {token}"),) if token else ()
+        self._metadata = _as_metadata(token)
         self._idle: list[Stream] = []
         self._held: set[Held] = set()
+        # who waits, and who is leaving the line
         self._waiting: set[asyncio.Task[Any]] = set()
+        self._leaving: set[asyncio.Task[None]] = set()
         self._loop = loop_of_this_process()
         self._process = os.getpid()
         self._was_there = self._is_closed = self._has_left = False
@@ -73,6 +76,18 @@ class Lab:
 
     async def _open(self) -> None:
         self._brokers = Brokers(addresses_of(self.address), self._certificate, OPTIONS, methods_of)
+
+    async def _reads_again(self, certificate_file: Optional[str], token_file: Optional[str]) -> None:
+        """The files may have another certificate, and another token, by now. (What is no certificate is still being written.)"""
+        try:
+            certificate, token = certificate_in(certificate_file), token_in(token_file)
+        except (OSError, BadWish):
+            return
+        self._metadata = _as_metadata(token)
+        if certificate != self._certificate and (certificate is None or _is_certificate(certificate)):
+            before, self._certificate = self._brokers, certificate
+            await self._open()
+            await before.close()
 
     @property
     def _methods(self) -> dict[str, Any]:
@@ -340,6 +355,10 @@ def connect(
     if certificate is not None and not _is_certificate(certificate):
         raise BadWish(f"{certificate_file or os.environ[CERTIFICATE_FILE]}: there is no certificate in it (as PEM)")
     return Lab(address or os.environ.get("LABRUN_BROKER") or DEFAULT, station, token, certificate, by or _who())
+
+
+def _as_metadata(token: Optional[str]) -> tuple[tuple[str, str], ...]:
+    return (("authorization", f"Bearer {token}"),) if token else ()
 
 
 def _is_certificate(pem: bytes) -> bool:

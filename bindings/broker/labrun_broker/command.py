@@ -9,15 +9,18 @@ import contextlib
 import importlib
 import json
 import os
+import re
 import sys
 import time
-from typing import Any, Callable, NoReturn, Optional, Sequence
+from typing import TYPE_CHECKING, Any, Callable, NoReturn, Optional, Sequence
 
-from .quick import user
+from .credentials import user
 from .run import add_hold, run_hold
 from .texts import aligned, counted, last, plain, session, span
 from .words import ABOUT, INTERRUPTED, MAY_NOT, NO_BAY, NOT_WRITTEN, PROGRAM, STATUSES, TAKEN, TIMED_OUT, UNREACHABLE, USAGE, Word, add_client, lab_of, say
 
+if TYPE_CHECKING:
+    from .bay import Bay
 
 # the status of each error, by its name, or by that of the first of its kinds: it is looked up without importing what has it
 ENDS = {"TimeoutError": TIMED_OUT, "TakenAway": TAKEN, "MayNotUse": MAY_NOT, "NotAllowed": MAY_NOT, "Unreachable": UNREACHABLE, "JournalError": NOT_WRITTEN}
@@ -75,10 +78,8 @@ def lines_of_bay(status: dict[str, Any]) -> list[str]:
     at, since = status["at"], time.strftime("%Y-%m-%d %H:%M", time.localtime(status["since"]))
     rows = [["INSTRUMENT", "HELD BY", "FOR", "WAITING", "LABEL" if any(one.get("label") for one in status["instruments"]) else ""]]
     for one in status["instruments"]:
-        safe_since = one.get("being_made_safe")
-        held_for = span(at - (safe_since or one["since"])) if one["holder"] else ""
-        nobody = "-" if one.get("out") is None else "(out of order)"
-        rows.append([one["name"], "(being made safe)" if safe_since else one["holder"] or nobody, held_for, " ".join(one["waiting"]), plain(one.get("label", ""))])
+        holder, held_for = holder_of(one, status)
+        rows.append([one["name"], holder, held_for, " ".join(one["waiting"]), plain(one.get("label", ""))])
     outs = [out_of(it, at) for it in status["instruments"] if it.get("out") is not None]
     lines = [f"bay {plain(status['bay'])}, {counted(status['sessions'], 'session')} since {since}", *brokers_of(status), *disk_of(status), *outs, "", *aligned(rows), ""]
     rows = [["STATION", "", "FOR", "INSTRUMENTS", "BY"]]
@@ -90,19 +91,29 @@ def lines_of_bay(status: dict[str, Any]) -> list[str]:
     for one in status["in_line"]:
         rows.append([one["station"] or "a guest", "in line", span(at - one["since"]), " ".join(one["instruments"]), plain(one["by"] or "")])
         place = f"{one['station']} is in one session at a time" if one["station"] else "all places for guests are taken (guests.count says how many hold at once)"
-        # (who went first counts only while there is a place)
-        rows += [["", "", "", text] for text in (*line_of({**one, "passed": 0}, status), place)]
+        # (who goes first counts only while there is a place)
+        rows += [["", "", "", text] for text in (*line_of({**one, "passed": 0, "keeps_place": False}, status), place)]
     return [*lines, *(aligned(rows) if len(rows) > 1 else ["nobody holds or waits"])]
+
+
+def holder_of(one: dict[str, Any], status: dict[str, Any]) -> tuple[str, str]:
+    """Who holds an instrument, and for how long."""
+    if not one["holder"]:
+        return "-" if one.get("out") is None else "(out of order)", ""
+    if any(it["name"] == one["holder"] and it["state"] == "waiting" for it in status["stations"]):
+        return f"({one['holder']}, once that is written)", ""
+    safe_since = one.get("being_made_safe")
+    return "(being made safe)" if safe_since else one["holder"], span(status["at"] - (safe_since or one["since"]))
 
 
 def line_of(it: dict[str, Any], status: dict[str, Any]) -> list[str]:
     """Where somebody who waits stands, and how often others went before."""
     if not it.get("place"):
         return []
+    said = f"number {it['place']} in line{', urgent' if it.get('urgent') else ''}"
     if it.get("keeps_place"):
-        why = "urgent" if it["urgent"] else "before one that is urgent"
-        return [f"number {it['place']} in line, {why}: nobody who asks later goes before it"]
-    return [f"number {it['place']} in line" + (f"; {counted(it['passed'], 'other')} went first, and after {status['overtakes']} what it needs is kept for it" if it["passed"] else "")]
+        return [f"{said}{'' if it['urgent'] else ', and an urgent one asked after it'}: nobody who asks later goes before it"]
+    return [said + (f"; {counted(it['passed'], 'other')} went first, and after {status['overtakes']} what it needs is kept for it" if it["passed"] else "")]
 
 
 def out_of(it: dict[str, Any], at: float) -> str:
@@ -188,9 +199,9 @@ def run_bay(args: argparse.Namespace) -> int:
     if args.what == "apply":
         return apply_bay(args, isinstance(read, Lab))
     if isinstance(read, Lab):
-        print(f"ok lab {read.name}: {counted(len(read.bays), 'bay')}")
-    for bay in read.bays.values() if isinstance(read, Lab) else (read,):
-        print(f"ok bay {bay.name}: {counted(len(bay.instruments), 'instrument')}, {counted(len(bay.stations), 'station')}, {counted(bay.guests, 'guest')}, gone = {bay.its_gone.told()}")
+        print(f"ok {args.bay}: lab {read.name}, {counted(len(read.bays), 'bay')}, {counts_of(read.whole)}")
+    for path, bay in ((read.paths[name], bay) for name, bay in read.bays.items()) if isinstance(read, Lab) else ((args.bay, read),):
+        print(f"ok {path}: bay {bay.name}, {counts_of(bay)}, gone = {bay.its_gone.told()}")
     return 0
 
 
@@ -199,6 +210,10 @@ def split_bay(args: argparse.Namespace) -> int:
 
     print("\n".join(told(args.bay, args.most)))
     return 0
+
+
+def counts_of(bay: Bay) -> str:
+    return f"{counted(len(bay.instruments), 'instrument')}, {counted(len(bay.stations), 'station')}, {counted(bay.guests, 'guest')}"
 
 
 def apply_bay(args: argparse.Namespace, is_lab: bool) -> int:
@@ -294,7 +309,11 @@ WORDS = (
 
 
 class Parser(argparse.ArgumentParser):
-    """It names its own help."""
+    """It names its own help. What begins as a number below zero is what an option has, as in `--limit -2h`, and no option."""
+
+    def __init__(self, *given: Any, **more: Any) -> None:
+        super().__init__(*given, **more)
+        self._negative_number_matcher = re.compile(r"-\.?\d")
 
     def error(self, message: str) -> NoReturn:
         self.print_usage(sys.stderr)

@@ -15,7 +15,8 @@ from labrun import NotHeld
 from labrun.machine import TAKEN
 
 from . import lasting, making_safe
-from .keeping import ANOTHER, UNTOLD, Keeping
+from .keeping import UNTOLD, Keeping
+from .leases import ANOTHER
 from .standing import Owner, Session
 from .together import all_of
 from .wishes import Ended, Wish

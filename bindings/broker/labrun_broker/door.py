@@ -17,7 +17,7 @@ from typing import Any, Optional
 import grpc
 
 from .bay import BadAddress, is_here
-from .quick import is_token
+from .credentials import is_token
 from .sockets import check_group, clear, family_of, parsed, tls_of
 
 
@@ -111,11 +111,11 @@ class Complaints:
                 loop.default_exception_handler({**context, "message": text})
 
 
-def check_free(address: str) -> None:
-    """Nobody listens there. A socket that a broker left which is gone is taken away."""
+def check_free(address: str, told: Optional[str] = None) -> None:
+    """Nobody listens there. A socket that a broker left which is gone is taken away. `told` is the address that people know it by."""
     at = parsed(address)
     if isinstance(at, str):
-        return clear(at)
+        return clear(at, told)
     try:
         socket.create_server(at, family=family_of(at[0])).close()
     except OSError as fault:

@@ -97,20 +97,26 @@ def raised(fault: Any) -> Exception:
 
 
 CLOSED = "it closed the connection"
-# what gRPC says where it can't connect, and what that means; first where somebody listens
-IS_THERE = {
-    "Socket closed": CLOSED,
-    "Connection reset by peer": CLOSED,
+# of whom no word comes
+SILENT = "(it is stopped, or the network is cut)"
+# what gRPC says where it can't connect, and what that means; first what is so however often it is tried, then where somebody listens
+FOR_GOOD = {
     "wrong version number": "it has no TLS: come without --certificate",
     "not in peer certificate": "its certificate is for another name: call it by that",
     "certificate verify failed": "it has another certificate than --certificate says",
 }
+IS_THERE = {"Socket closed": CLOSED, "Connection reset by peer": CLOSED, **FOR_GOOD}
 HINTS = IS_THERE | {
     "Broken pipe": CLOSED,
     "Permission denied": "permission denied",
-    "before receiving SETTINGS frame": "it doesn't answer",
+    **dict.fromkeys(("before receiving SETTINGS frame", "keepalive watchdog timeout", "ping timeout"), f"it doesn't answer {SILENT}"),
     "C-ares status is not ARES_SUCCESS": "no machine of that name is known here",
 }
+
+
+def is_for_good(text: str) -> bool:
+    """Whether what gRPC says is so however often it is tried."""
+    return any(it in text for it in FOR_GOOD)
 
 
 def plainly(address: str, text: str, may_want_tls: bool) -> str:
@@ -121,6 +127,9 @@ def plainly(address: str, text: str, may_want_tls: bool) -> str:
         return "unix:PATH or HOST:PORT is wanted, with a port of up to 65535"
     text = re.sub(r"^failed to connect to all addresses; last error: \w+: (?:ipv[46]|unix):\S+: ", "", text)
     text = next((hint for told, hint in HINTS.items() if told in text), text)
+    if text.startswith("recvmsg:"):
+        # (there was a connection)
+        return NO_MORE
     if text == CLOSED and may_want_tls and not address.startswith("unix:"):
         return f"{text} (a broker with TLS wants --certificate FILE)"
     if text == "permission denied" and address.startswith("unix:"):
@@ -132,13 +141,16 @@ def plainly(address: str, text: str, may_want_tls: bool) -> str:
     return text
 
 
+NO_MORE = "it doesn't answer any more"
+
+
 def why_lost(address: str, code: Any, text: str, may_want_tls: bool = False) -> Exception:
     """`may_want_tls`: it was never reached, and without a certificate."""
     if code is grpc.StatusCode.DEADLINE_EXCEEDED:
-        return AnswerLost(f"the broker at {address} doesn't answer")
+        return AnswerLost(f"the broker at {address} doesn't answer {SILENT}")
     if code in (grpc.StatusCode.UNAVAILABLE, grpc.StatusCode.UNKNOWN, grpc.StatusCode.CANCELLED):
         why = plainly(address, text, may_want_tls)
-        return (AnswerLost if why == CLOSED else Unreachable)(f"the broker at {address} can't be reached: {why}")
+        return (AnswerLost if why in (CLOSED, NO_MORE) else Unreachable)(f"the broker at {address} can't be reached: {why}")
     if code in (grpc.StatusCode.UNAUTHENTICATED, grpc.StatusCode.RESOURCE_EXHAUSTED):
         return Unreachable(f"the broker at {address} doesn't let this client in: {text}")
     if code is grpc.StatusCode.PERMISSION_DENIED:

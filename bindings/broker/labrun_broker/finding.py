@@ -7,7 +7,7 @@ from typing import Any, Callable, Optional, Sequence
 
 import grpc
 
-from .errors import IS_THERE
+from .errors import IS_THERE, is_for_good
 
 READY, FAILS = grpc.ChannelConnectivity.READY, (grpc.ChannelConnectivity.TRANSIENT_FAILURE, grpc.ChannelConnectivity.SHUTDOWN)
 LOOKS, PAUSE = 2.0, 0.1  # seconds: for so long at most all are tried at once; and between two such tries
@@ -57,8 +57,8 @@ class Brokers:
         """Another is asked if that of now isn't there, and one is. It tries for so long."""
         until = asyncio.get_running_loop().time() + patience
         while self.is_list and self._channels[self._at].get_state() is not READY:
-            if not await self._tries_all():
-                await self._finds_why()
+            if not await self._tries_all() and await self._finds_why():
+                return
             if asyncio.get_running_loop().time() >= until:
                 return
             await asyncio.sleep(PAUSE)
@@ -81,12 +81,15 @@ class Brokers:
                 it.cancel()
         return False
 
-    async def _finds_why(self) -> None:
-        """Whoever is told why none can be asked is told of the one that leads, if there is one that only this client can't speak to."""
+    async def _finds_why(self) -> bool:
+        """Whoever is told why none can be asked is told of the one that leads, if there is one that only this client can't speak to. Whether
+        another try changes nothing."""
         for at, channel in enumerate(self._channels):
-            if channel.get_state() in FAILS and await _is_there(channel):
+            why = await _why_not(channel) if channel.get_state() in FAILS else ""
+            if why is None or any(it in why for it in IS_THERE):
                 self._at = at
-                return
+                return why is not None and is_for_good(why)
+        return False
 
     async def _is_ready(self, at: int) -> tuple[int, bool]:
         channel = self._channels[at]
@@ -100,10 +103,10 @@ class Brokers:
         await asyncio.gather(*(it.close() for it in self._channels))
 
 
-async def _is_there(channel: Any) -> bool:
-    """Of one that can't be connected to: whether somebody listens there."""
+async def _why_not(channel: Any) -> Optional[str]:
+    """Why one can't be connected to, as gRPC says it; None: it can by now."""
     try:
         await channel.unary_unary("/there")(b"", timeout=PAUSE)
     except grpc.RpcError as fault:
-        return any(it in str(fault.details()) for it in IS_THERE)
-    return True
+        return str(fault.details())
+    return None

@@ -10,7 +10,7 @@ import ssl
 from typing import Any, Callable, Iterator, Mapping, Optional
 
 from .bay import is_here
-from .quick import certificate_in
+from .credentials import certificate_in
 from .relay import End, joins
 from .texts import plain
 from .ways import Way, variable_of, way_of

@@ -12,7 +12,7 @@ import itertools
 import os
 import secrets
 import socket
-from typing import Iterator, Optional
+from typing import Optional
 
 from .bay import BadAddress
 from .relay import End, joins
@@ -20,16 +20,6 @@ from .sockets import bound
 from .users import user_of
 
 WITHIN = ".in"  # behind the path of the socket: gRPC's own
-
-
-@contextlib.contextmanager
-def for_its_user() -> Iterator[None]:
-    """To a socket that is made meanwhile nobody else may connect."""
-    before = os.umask(0o177)
-    try:
-        yield
-    finally:
-        os.umask(before)
 
 
 class Fronts:

@@ -14,7 +14,7 @@ from __future__ import annotations
 
 import argparse
 import asyncio
-import os
+import functools
 import signal
 import socket
 import ssl
@@ -25,7 +25,7 @@ from typing import TYPE_CHECKING, Any, Callable, Optional
 from labrun.picks import near
 
 from .bay import BadAddress, is_here
-from .sockets import family_of, parsed, tls_of
+from .sockets import family_of, listens, parsed, tls_of, written
 from .texts import plain, seconds
 from .words import add_client, lab_of, say
 
@@ -133,14 +133,16 @@ def run_guard(args: argparse.Namespace) -> int:
 
 async def guards(table: dict[str, dict[str, Any]], args: argparse.Namespace, lab: Lab, context: Optional[ssl.SSLContext]) -> int:
     """Goes on until it is ended. Then its connections are reset with this process."""
-    from .guard import Guard, Way
+    from .guard import FIRST_LINE, Caller, Guard, Way
     from .words import tell_systemd
 
-    where, its = Where(lambda: lab._brokers.address), dict[str, Guard]()
+    where, its, servers = Where(lambda: lab._brokers.address), dict[str, Guard](), list[asyncio.Server]()
     for name, row in table.items():
         host, port = host_and_port(row["instrument"])
         its[name] = Guard(Way(name, host, port, row["by_host"], row["settle"], row["clear"]), where.addresses)
-    servers = [await listens(its[name], row["listen"], None if row["by_host"] or is_here(host_and_port(row["listen"])[0]) else context) for name, row in table.items()]
+    for name, row in table.items():
+        at = host_and_port(row["listen"])
+        servers.append(await listens(at, functools.partial(Caller, its[name]), None if row["by_host"] or is_here(at[0]) else context, FIRST_LINE))
     web = None
     try:
         if args.metrics is not None:
@@ -148,9 +150,9 @@ async def guards(table: dict[str, dict[str, Any]], args: argparse.Namespace, lab
 
             web = await serve_metrics(list(its.values()), args.metrics)
         for (name, row), server in zip(table.items(), servers):
-            say(f"guards {name} at {row['instrument']}: clients come to {address_of(server)}")
+            say(f"guards {name} at {row['instrument']}: clients come to {written(*server.sockets[0].getsockname()[:2])}")
         tell_systemd("READY=1")
-        await hears(its, lab)
+        await hears(its, lab, args)
     finally:
         for guard in its.values():
             guard.told(None)
@@ -161,25 +163,9 @@ async def guards(table: dict[str, dict[str, Any]], args: argparse.Namespace, lab
     return 0
 
 
-def address_of(server: asyncio.Server) -> str:
-    host, port = server.sockets[0].getsockname()[:2]
-    return f"[{host}]:{port}" if ":" in host else f"{host}:{port}"
-
-
-async def listens(guard: Guard, at: str, context: Optional[ssl.SSLContext]) -> asyncio.Server:
-    from .guard import FIRST_LINE, Caller
-
-    host, port = host_and_port(at)
-    how: dict[str, Any] = {} if context is None else {"ssl": context, "ssl_handshake_timeout": FIRST_LINE}
-    try:
-        return await asyncio.get_running_loop().create_server(lambda: Caller(guard), host, port, family=family_of(host), **how)
-    except OSError as fault:
-        why = os.strerror(fault.errno) if fault.errno and fault.errno > 0 else fault.strerror or fault
-        raise BadAddress(f"{at}: it can't listen there: {why}") from None
-
-
-async def hears(its: dict[str, Guard], lab: Lab) -> None:
-    """Goes on to hear who holds. While the broker is away who is let through stays so, and no other session is."""
+async def hears(its: dict[str, Guard], lab: Lab, args: argparse.Namespace) -> None:
+    """Goes on to hear who holds. While the broker is away who is let through stays so, and no other session is. One that is back may have
+    another certificate."""
     import grpc
 
     from . import broker_pb2 as pb
@@ -190,6 +176,7 @@ async def hears(its: dict[str, Guard], lab: Lab) -> None:
     seldom = Seldom(SELDOM)
     while True:
         try:
+            await lab._reads_again(args.certificate, args.token_file)
             # (of several the one that leads now)
             await lab._brokers.looks()
             async for told in lab._methods["Guard"](pb.GuardWish(instruments=list(its)), metadata=lab._metadata):

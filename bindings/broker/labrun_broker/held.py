@@ -12,6 +12,7 @@ import grpc
 import labrun
 
 from . import broker_pb2 as pb
+from .coming import BEATS, GRACE, PAUSE, Coming
 from .errors import BadWish, NotHeld, TakenAway, Unreachable, raised
 from .forward import Ways
 from .stream import AGAIN, Lost, Stream
@@ -20,12 +21,6 @@ from .work import clock
 if TYPE_CHECKING:
     from .client import Lab
 
-# for how long a client tries to reach a broker again that it waits for
-GRACE = 60.0
-PAUSE = 0.1  # between such tries
-MOMENT = 0.001  # what is left of a time limit that is over
-# so many pings in the time for which a session is held after one
-BEATS = 6
 MOST_FAILED = 10000  # characters that are told of work that failed
 
 
@@ -55,8 +50,6 @@ class Held:
         # what its owner asks now, and since when; and who looks for another stream
         self._asked: dict[str, Any] = {}
         self._asked_at = 0.0
-        # since when the broker can't be reached, while it waits
-        self._lost_at: Optional[float] = None
         self._returns: Optional[asyncio.Task[None]] = None
         # where the guards of its instruments are, and the ports that lead there
         self.guards: dict[str, str] = {}
@@ -154,12 +147,13 @@ class Held:
         self.lab._may_go_on()
         if self.state in ("waiting", "held"):
             raise Entered(f"the session is {self.state} already: it is entered once")
-        loop = asyncio.get_running_loop()
         self._wish.ticket, self._ticket = self._ticket or secrets.token_urlsafe(), ""
         self._taken, self.state = None, "waiting"
-        until = None if self.timeout is None else loop.time() + self.timeout
-        self._lost_at = None
-        await self._waits_until(until, loop)
+        try:
+            self._holds(*await Coming(self).holds())
+        except BaseException:
+            self.state = "withdrawn"
+            raise
         # (it may have been taken away, or the stream have ended, just now)
         self._raises_taken()
         self.state = "held"
@@ -168,66 +162,6 @@ class Held:
             self._beats = asyncio.create_task(self._stays_sure(self._lease))
         if self._stream is not None and self._stream.is_lost:
             self._is_cut()
-
-    async def _waits_until(self, until: Optional[float], loop: asyncio.AbstractEventLoop) -> None:
-        """Returns once it holds."""
-        task = asyncio.current_task()
-        assert task is not None
-        self.lab._waiting.add(task)
-        try:
-            while not await self._comes_to_hold(loop, until):
-                self._lost_at = self._lost_at or loop.time()
-        except BaseException as fault:
-            self.state = "withdrawn"
-            if isinstance(fault, asyncio.CancelledError):
-                # (it may be the lab's end that ended it)
-                self.lab._may_go_on()
-            raise
-        finally:
-            self.lab._waiting.discard(task)
-
-    async def _comes_to_hold(self, loop: asyncio.AbstractEventLoop, until: Optional[float]) -> bool:
-        """Whether it holds; if not, the stream ended, and it is worth another try."""
-        lab = self.lab
-        if is_new := not lab._idle:
-            await lab._brokers.looks()
-        stream = Stream(lab) if is_new else lab._idle.pop()
-        stream.session = self
-        try:
-            if is_new:
-                await stream.opens()
-                lab._was_there, self._lost_at = True, None
-            if until is not None:
-                # (0 says that it never wanted to wait)
-                self._wish.timeout = max(MOMENT if self.timeout else 0.0, until - loop.time())
-            sent = clock()
-            kind, told = await stream.asks(wish=self._wish)
-            if kind == "held" and told.HasField("lease") and clock() > sent + told.lease / BEATS:
-                # (the wish is old: what was told may be, too)
-                sent = await stream.keeps()
-        except Lost as lost:
-            self._raises_taken()
-            # (one that was idle may be of a broker that is gone)
-            patience = GRACE if lab._was_there else lab._brokers.patience
-            is_over = self._lost_at is not None and loop.time() > self._lost_at + patience or until is not None and loop.time() > until
-            if is_new and (lost.code not in AGAIN or not patience or is_over):
-                raise lab._why_lost(lost.code, str(lost)) from None
-            if is_new and self._lost_at is None and lab._brokers.is_list:
-                self._waits_for(f"no broker of {lab.address} answers")
-            if is_new:
-                await asyncio.sleep(PAUSE)
-            return False
-        except asyncio.CancelledError:
-            await stream.gives_up()
-            raise
-        except BaseException:
-            stream.cancel()
-            raise
-        if kind == "fault":
-            stream.is_idle()
-            raise raised(told)
-        self._holds(stream, told, sent)
-        return True
 
     def _holds(self, stream: Stream, told: Any, sent: float) -> None:
         """The broker said so in answer to what was sent then."""

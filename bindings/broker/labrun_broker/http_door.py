@@ -135,18 +135,17 @@ class HttpDoor:
     # ---- sessions
 
     async def _asks(self, request: web.Request) -> web.Response:
-        span, caller = request[QUERY].get("wait", 0.0), request[CALLER]
+        caller = request[CALLER]
         visit = await self.visits.asks(replace(http_words.wish_of_body(await self._body(request)), person=caller.person), caller)
         visit.host = request.remote or "here"
-        with visit.asking(lambda: is_there(request)):
-            await visit.outlasts(WAITING, span, lambda: is_there(request))
-        return shown(visit)
+        return await self._outlasts(visit, request)
 
     async def _waits(self, request: web.Request) -> web.Response:
-        span, state = request[QUERY].get("wait", 0.0), request[QUERY].get("while", WAITING)
-        visit = await self._visit(request)
+        return await self._outlasts(await self._visit(request), request)
+
+    async def _outlasts(self, visit: Visit, request: web.Request) -> web.Response:
         with visit.asking(lambda: is_there(request)):
-            await visit.outlasts(state, span, lambda: is_there(request))
+            await visit.outlasts(request[QUERY].get("while", WAITING), request[QUERY].get("wait", 0.0), lambda: is_there(request))
         return shown(visit)
 
     async def _pings(self, request: web.Request) -> web.Response:

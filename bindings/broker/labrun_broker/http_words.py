@@ -95,7 +95,7 @@ def whole(key: str, given: Any) -> int:
     return given
 
 
-WISH: Fields = {"instruments": names, "any_of": choices, "station": text, "by": text, "timeout": number, "limit": number, "ticket": text, "urgent": yes_or_no}
+WISH: Fields = {"instruments": names, "any_of": choices, "station": text, "by": text, "timeout": number, "limit": number, "urgent": yes_or_no, "ticket": text}
 NOTE: Fields = {"text": text}
 RELEASE: Fields = {"station": text, "session": whole, "by": text, "bay": text}
 

@@ -11,12 +11,11 @@ import time
 from typing import TYPE_CHECKING, Any, AsyncIterator, Callable, Optional, Sequence
 
 import labrun
-from labrun import LabrunError, NotHeld
-from labrun.machine import GRACE, HOLDS, LAPSED, NEVER, NOT_WRITTEN, TAKEN, WAS_STOPPED, Machine, Refusal, Told
+from labrun import LabrunError
+from labrun.machine import GRACE, HOLDS, LAPSED, NEVER, NOT_WRITTEN, WAS_STOPPED, Machine, Refusal, Told
 
-from . import lasting, leases, making_safe, outage, people, rights, turning, wishes
+from . import ending, lasting, leases, making_safe, outage, people, rights, turning, wishes
 from .bay import Bay
-from .errors import BadWish
 from .errors import TimeoutError as TimedOut
 from .folder import Folder, State
 from .journals import PART, notes_of
@@ -33,7 +32,6 @@ if TYPE_CHECKING:
     from .entrance import Entrance
 
 UNTOLD = "the session was taken away before its client was told that it holds"
-ANOTHER = "another connection came for the session"
 NO_WAIT = "was refused, because it doesn't wait (-n, or a timeout of 0)"
 NOT_AT_ONCE = "can't have all that it asks for at once"
 
@@ -141,11 +139,12 @@ class Keeping:
                 await self.settling.leads()
             if not wish.comes_back:
                 wish = await making_safe.is_over(self, key, wish)
-            held = await self._session_of(key)
+            await leases.pauses(self, key)
+            held = self._by_key.get(key)
             rights.check_ticket(self.bay, wish.person, held)
             if held is not None and held.holds:
                 wishes.check_asked_again(wish, held.instruments, self.bay)
-                return self._comes_back(held, wish, owner)
+                return leases.comes_back(self, held, wish, owner)
             if wish.comes_back:
                 raise self._ends.why(key)
             wishes.check(wish, self.bay)
@@ -183,16 +182,6 @@ class Keeping:
         if (session := self._by_key.get(key)) is not None:
             self._is_another(session)
 
-    async def _session_of(self, key: tuple[int, int]) -> Optional[Session]:
-        """The session of this ticket. Who came back for it just now waits here."""
-        while (session := self._by_key.get(key)) is not None:
-            pause = leases.pause_of(math.inf if self.keeps(session) else self.its_grace)
-            span = session.back_at + pause - asyncio.get_running_loop().time()
-            if span <= 0:
-                return session
-            await asyncio.sleep(span)
-        return None
-
     def _asks(self, wish: Wish, key: tuple[int, int], owner: Owner, before: Optional[Session]) -> Session:
         if self._is_closed:
             raise labrun.Stopped("the broker ends")
@@ -211,7 +200,7 @@ class Keeping:
     def _is_another(self, before: Session) -> None:
         """Whoever waits has come once more, and that its stream has ended isn't seen here yet."""
         before.owner = None
-        self._leaves(before, Ended("TakenAway", ANOTHER))
+        self._leaves(before, Ended("TakenAway", leases.ANOTHER))
 
     def free_label(self) -> str:
         """The name of the next guest."""
@@ -231,9 +220,10 @@ class Keeping:
             raise LabrunError(f"the bay doesn't take it: {it}") from None
         session.number, session.wish, session.sets, session.instruments = number, wish, sets, wish.names
         self.by_number[number] = self._by_key[session.key] = session
+        more = dict[str, Any](urgent=True) if wish.urgent else {}
         if wish.urgent:
             self.urgent, self.last_urgent = self.urgent + 1, number
-        self._record("asked", session, **({"urgent": True} if wish.urgent else {}))
+        self._record("asked", session, **more)
         self._shell.pump()
         lasting.looks(self)
 
@@ -311,43 +301,18 @@ class Keeping:
         self._record(what, session, text=text, after=self._span(session))
         session.owner = session.gone_at = None
 
-    def _is_of(self, session: Session, owner: Owner) -> None:
-        if session.owner is not owner or not session.holds:
-            raise NotHeld("the session is over, or another connection came for it")
-
-    @settled
     async def let_go(self, session: Session, owner: Owner, failed: Optional[str] = None) -> None:
         """Who waits comes to hold, and is told once both are on the disk. `failed` is what the client says of work that failed."""
-        await self._shell.turns.may_go_on()
-        self._is_of(session, owner)
-        if failed is not None:
-            self._notes(session, "failed", failed)
-        try:
-            if not session.is_followed:
-                self._shell.machine.let_go(session.number, self.now())
-        except Refusal:
-            raise NotHeld("the session is over") from None
-        self._over(session, "let_go" if failed is None else "failed", failed or "")
-        self._ends.add(session.key)
-        if session.is_followed:
-            making_safe.begins(self, session, making_safe.LET_GO)
-        self._shell.pump()
-        self._news.write()
-        await self._shell.turns.stands()
-        await self.settling.kept()
+        await ending.lets_go(self, session, owner, failed)
 
-    @settled
     async def note(self, session: Session, owner: Owner, text: str) -> None:
         """It is on the disk then."""
-        await self._shell.turns.may_go_on()
-        self._is_of(session, owner)
-        wishes.check_note(text, self.bay)
-        position = self._notes(session, "note", text)
-        session.note = text
-        self._record("note", session, text=text)
-        self._news.write()
-        self._shell.pump()
-        await self._shell.durable(position, takes_all=True)
+        await ending.notes(self, session, owner, text)
+
+    async def release(self, station: str, by: str, number: int = 0, person: str = "", bay: str = "") -> tuple[str, ...]:
+        """Ends the session that a station holds, for its owner; its instruments. With its number, no other session of the station. Where the bay
+        names people, its own person may, and operators."""
+        return await ending.releases(self, station, by, number, person, bay)
 
     def _notes(self, session: Session, word: str, text: str) -> int:
         """A text in the journal, and how far that has to be durable."""
@@ -355,33 +320,6 @@ class Keeping:
         for it in notes_of(word, text) if self._opened.state is not None else ():
             position = self._shell.machine.note(session.number, it)
         return position
-
-    @settled
-    async def release(self, station: str, by: str, number: int = 0, person: str = "", bay: str = "") -> tuple[str, ...]:
-        """Ends the session that a station holds, for its owner; its instruments. With its number, no other session of the station. Where the bay
-        names people, its own person may, and operators."""
-        self.in_bay(bay)
-        await self._shell.turns.may_go_on()
-        if station not in self.bay.jobs and all(it.name != station for it in self.by_number.values()):
-            raise wishes.no_station(station, self.bay)
-        standings = Standings(self)
-        session, needs = next(((it, bits) for it, bits, _ in standings.holders if it.name == station), (None, 0))
-        if session is None or session.state == ENDING:
-            raise NotHeld(f"{station} holds nothing{standings.instead(station) if session is None else ': what it had is being made safe'}")
-        if number and session.number != number:
-            raise NotHeld(f"{station} is in session {session.number} now, and not in {number}")
-        rights.check_release(self.bay, person, session)
-        instruments, session.taken_by = session.chosen(needs), people.told(person, by)
-        if session.holds:
-            self._notes(session, "taken", by)
-        if session.holds and session.is_followed:
-            making_safe.takes(self, session, TAKEN)
-        else:
-            self._shell.machine.take_away(session.number, self.now())
-            self._shell.pump()
-        self._news.write()
-        await self._shell.durable(takes_all=True)
-        return instruments
 
     # ---- clients that are gone
 
@@ -400,6 +338,15 @@ class Keeping:
     def grace_of(self, session: Session) -> float:
         return self.its_grace
 
+    def heard(self, session: Session, owner: Owner, says_so: bool = False) -> bool:
+        """A word of a client came now. Whether the session is its own, and holds. `says_so`: that it is there, as it will again and
+        again."""
+        return leases.heard(self, session, owner, says_so)
+
+    def gone(self, session: Session, owner: Owner) -> None:
+        """The stream of a client that holds has ended. It goes on to hold."""
+        leases.gone(self, session, owner)
+
     def for_whom(self, session: Session) -> tuple[list[dict[str, Any]], str, tuple[Any, ...]]:
         """Whom one waits for (standing.py)."""
         return Standings(self).for_whom(session)
@@ -416,77 +363,6 @@ class Keeping:
         if name not in ("", self.bay.name):
             raise no_bay(name, (self.bay.name,))
         return self
-
-    def heard(self, session: Session, owner: Owner, says_so: bool = False) -> bool:
-        """A word of a client came now. Whether the session is its own, and holds. `says_so`: that it is there, as it will again and
-        again."""
-        if session.owner is not owner or not session.holds:
-            return False
-        if session.state == "gone" and not self._is_back(session):
-            return False
-        if says_so or session.heard_at is not None:
-            session.heard_at = self.now()
-            if session.timer is None:
-                self._looks_at(session)
-        return True
-
-    def _is_back(self, session: Session) -> bool:
-        try:
-            self._shell.machine.back(session.number, session.key, self.now())
-        except Refusal:
-            return False  # (its time is over, and that is told just now)
-        # (another connection may come before the broker has seen that the first one ended)
-        was_gone, session.state, session.gone_at = session.state == "gone", "holding", None
-        if was_gone:
-            session.stops_looking()
-            self._record("back", session)
-        self._shell.pump()
-        return session.holds
-
-    def gone(self, session: Session, owner: Owner) -> None:
-        """The stream of a client that holds has ended. It goes on to hold."""
-        if session.owner is not owner or not session.holds or self._is_closed:
-            return
-        session.owner = None
-        session.stops_looking()
-        self._is_gone(session)
-
-    def _is_gone(self, session: Session) -> None:
-        if session.state == "gone":
-            return
-        session.state, session.gone_at = "gone", self.now()
-        # (of one that is kept the machine isn't told; and if it began without a grace, it has none)
-        if session.is_followed or math.isinf(self.grace):
-            making_safe.is_gone(self, session)
-        elif not session.is_kept:
-            self._shell.machine.gone(session.number, self.now())
-        self._record("gone", session)
-        self._shell.pump()
-
-    def _looks_at(self, session: Session) -> None:
-        """Whether the client has been silent for long, now or later."""
-        session.timer = None
-        if session.heard_at is None or session.is_kept or session.state != "holding":
-            return
-        if (span := leases.patience_of(self.its_grace, session.heard_at, self.now())) > 0:
-            session.timer = asyncio.get_running_loop().call_later(span, self._looks_at, session)
-        else:
-            self._is_gone(session)
-
-    def _comes_back(self, session: Session, wish: Wish, owner: Owner) -> Session:
-        if not self._is_back(session):
-            raise self._ends.why(session.key)
-        if session.owner is not None and session.owner is not owner:
-            session.owner.taken(ANOTHER)
-        if wish.person and not session.person:
-            # (the bay names people only since then)
-            session.person, session.by = wish.person, people.told(wish.person, session.by or "")
-            self._notes(session, "person", session.person)
-        session.stops_looking()
-        session.owner, session.heard_at, session.back_at = owner, None, asyncio.get_running_loop().time()
-        self.heard(session, owner, wish.pings)
-        lasting.begins(self, session, wish.wants_warning)
-        return session
 
     # ---- what is told
 
@@ -511,20 +387,6 @@ class Keeping:
     def status(self) -> dict[str, Any]:
         leads, stands_by = ("", ()) if self._opened.state is None else self._opened.state.brokers()
         return {**Standings(self).status(), "leads": leads, "stands_by": list(stands_by)}
-
-    @property
-    def overtakes(self) -> int:
-        """Once so many were let in before somebody who waits, nobody is who came later."""
-        return self._opened.overtakes
-
-    @property
-    def kept_where(self) -> str:
-        """Where what is told has to be before: on the disk, or in etcd."""
-        return self._shell.where
-
-    def disk_fault(self) -> tuple[str, Optional[int]]:
-        """What is wrong with the disk, mostly nothing, and since when."""
-        return self._shell.is_wrong(), self._shell.wrong_since
 
     @property
     def write_failures(self) -> int:

@@ -1,4 +1,4 @@
-"""A wish whose instruments lie in several bays: in which order these are asked. (crossing.py has the session that comes of it; docs/bays.md says
+"""A wish whose instruments lie in several bays: in which order these are asked. (crossing.py has the session that comes of it; docs/broker.md says
 why nobody waits for ever.)
 
 First all bays are asked at once, and none is waited for: so who could hold at once does. Else what was given goes back, and the bays are asked
@@ -52,13 +52,14 @@ class Over:
 
     async def hold(self, _: Wish, owner: Owner, waits: Optional[Callable[[Session], None]] = None) -> Session:
         """Each choice is tried, and then the first one waited for, with all others that lie in the same bays."""
-        wish = self._wish
+        # (a try that fails keeps nobody's order)
+        wish, trial = self._wish, replace(self._wish, urgent=False)
         until = None if wish.timeout is None else asyncio.get_running_loop().time() + wish.timeout
         fault: Optional[TimedOut] = None
         for way in self._ways:
             if wish.timeout == 0 or not any(_is_held(home, names) for home, names in way.items()):
                 try:
-                    return await self._tries(way, wish, owner)
+                    return await self._tries(way, trial, owner)
                 except TimedOut as it:
                     fault = fault or it
         if wish.timeout == 0 and fault is not None:

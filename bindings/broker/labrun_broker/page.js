@@ -100,7 +100,7 @@ function rowOf(it, long) {
   const row = make("div", `row ${kind}${it.holder ? " held" : ""}${long && it.holder === long.name && it.waiting.length ? " worst" : ""}`, make("span", "name", named(it.name)));
   row.dataset.instrument = it.name;
   const ending = it.being_made_safe == null ? ["free soon, after "] : ["is being made safe after "];
-  const state = make("span", "state", ...(it.holder ? [...(isEnding ? ending : []), named(it.holder), isGone ? " is gone" : ""] : [isOut ? "out of order" : "free"]));
+  const state = make("span", "state", ...(it.holder ? [...(isEnding ? ending : []), named(it.holder), isGone ? " is gone" : holder && holder.state === "waiting" ? ", once that is written" : ""] : [isOut ? "out of order" : "free"]));
   if (WALL && it.bay) row.title = it.bay;
   if (holder && holder.by) state.append(make("span", "soft", " by ", named(holder.by)));
   row.append(state, make("span", "since", since(isEnding ? holder.since : it.holder ? it.since : null)));
@@ -132,19 +132,20 @@ function overtakesOf(it) {
 }
 function lineOf(it) {
   if (!it.place) return "";
-  if (it.keeps_place) return `, number ${it.place} in line, ${it.urgent ? "urgent" : "before one that is urgent"}: nobody who asks later goes before it`;
-  return `, number ${it.place} in line${it.passed ? `; ${it.passed} ${it.passed === 1 ? "other" : "others"} went first, and after ${overtakesOf(it)} what it needs is kept for it` : ""}`;
+  const said = `, number ${it.place} in line${it.urgent ? ", urgent" : ""}`;
+  if (it.keeps_place) return `${said}${it.urgent ? "" : ", and an urgent one asked after it"}: nobody who asks later goes before it`;
+  return `${said}${it.passed ? `; ${it.passed} ${it.passed === 1 ? "other" : "others"} went first, and after ${overtakesOf(it)} what it needs is kept for it` : ""}`;
 }
 function chainOf(it) {
   // (a line is too short for all of it: for what it waits stands beside the instruments, too)
-  const box = WALL ? make("div", "chain", bold(it.name), " ", since(it.since)) : make("div", "chain", bold(it.name), " waits for ", ...list(it.instruments), ": ", since(it.since), make("span", "soft", lineOf(it)));
+  const box = WALL ? make("div", "chain", bold(it.name), it.urgent ? ", urgent, " : " ", since(it.since)) : make("div", "chain", bold(it.name), " waits for ", ...list(it.instruments), ": ", since(it.since), make("span", "soft", lineOf(it)));
   for (const why of it.waits_for.slice(0, WALL ? 1 : MOST_CHAINS)) box.append(make("div", "links", ...(WALL ? [] : [named(it.name)]), ...links(why, new Set([it.name]))));
   if (!it.waits_for.length) box.append(make("div", "links", status.disk ? "it waits for the disk" : "nobody keeps it waiting at this moment"));
   return box;
 }
 function inLineOf(it) {
   const whose = it.station ? ["for ", bold(it.station), " to be idle"] : ["until a guest goes home"];
-  return make("div", "chain", bold(it.by || "somebody"), " waits ", ...whose, ", and then for ", ...list(it.instruments), ": ", since(it.since), make("span", "soft", lineOf({...it, passed: 0})));
+  return make("div", "chain", bold(it.by || "somebody"), " waits ", ...whose, ", and then for ", ...list(it.instruments), ": ", since(it.since), make("span", "soft", lineOf({...it, passed: 0, keeps_place: false})));
 }
 function drawNow() {
   const long = worst(), waiting = status.stations.filter(it => it.state === "waiting").sort((a, b) => a.since - b.since);

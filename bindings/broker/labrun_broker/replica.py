@@ -68,6 +68,12 @@ class Waiting:
         with self._lock:
             return self.at + len(self._text)
 
+    def all_goes(self, sends: Callable[[], None]) -> None:
+        """What waits now, by as many of these as it takes."""
+        end = self.end
+        while self.at < end:
+            sends()
+
 
 class Batch(NamedTuple):
     """What one transaction writes: so much of the journal and of the records."""
@@ -123,9 +129,7 @@ class EtcdStore:
         self._waiting.add(text[known:])
 
     def sync(self) -> None:
-        end = self._waiting.end
-        while self._waiting.at < end:
-            self.sends()
+        self._waiting.all_goes(self.sends)
 
     def sends(self) -> None:
         """A batch is there, if anything waits."""
@@ -219,9 +223,7 @@ class EtcdRecords:
             self.syncs()
 
     def syncs(self) -> None:
-        end = self._waiting.end
-        while self._waiting.at < end:
-            self.sends()
+        self._waiting.all_goes(self.sends)
 
     def close(self) -> None:
         if self._file is not None:

@@ -4,6 +4,7 @@ from __future__ import annotations
 
 import argparse
 import contextlib
+import errno
 import os
 import re
 import signal
@@ -12,9 +13,11 @@ import threading
 import time
 from typing import TYPE_CHECKING, Callable, Iterator, Optional, TypeVar, Union
 
+from .credentials import DEFAULT, token_in, user
 from .family import TELLING, Family, adopting, ends
-from .quick import DEFAULT, Absent, Odd, Quick, Silent, Wish, token_in, user
+from .quick import Quick, Wish
 from .texts import addresses_of, last, plain, seconds
+from .wire import Absent, Odd, Silent
 from .words import CANT_RUN, NOT_FOUND, PROGRAM, TAKEN, USAGE, add_client, lab_of, say
 
 if TYPE_CHECKING:
@@ -225,7 +228,7 @@ def runs(command: list[str], held: Union[Quick, Held], signals: Signals, address
     try:
         signals.starts(command, environment, held.is_released_if_gone)
     except OSError as fault:
-        say(f"{command[0]}: {fault.strerror}")
+        say(f"{fault.filename or command[0]}: {fault.strerror}")
         return NOT_FOUND if isinstance(fault, FileNotFoundError) else CANT_RUN
 
     def is_taken(fault: object) -> None:
@@ -240,21 +243,20 @@ def runs(command: list[str], held: Union[Quick, Held], signals: Signals, address
     return TAKEN if taken else status if status >= 0 else 128 - status
 
 
-PR_SET_PDEATHSIG = 1
+# Becomes a command, which has SIGTERM once this process is dead, however that died. (Popen's `preexec_fn` would do it, too, but it forks this
+# process, and one of gRPC's threads may crash of that.)
+ENDS_TOO = ("setpriv", "--pdeathsig", "TERM", "--", "sh", "-c", 'test "$PPID" = "$0" || kill -TERM $$; exec "$@"')
 
 
-def ends_with(parent: int) -> Callable[[], None]:
-    """What a child does before it becomes the command: it asks for SIGTERM once its parent is dead, however that died."""
-    import ctypes
-
-    prctl = ctypes.CDLL(None).prctl
-
-    def asks() -> None:
-        prctl(PR_SET_PDEATHSIG, int(signal.SIGTERM), 0, 0, 0)
-        if os.getppid() != parent:
-            os.kill(os.getpid(), signal.SIGTERM)
-
-    return asks
+def ending_too(command: list[str], environment: dict[str, str]) -> list[str]:
+    """OSError: there is no such program, or it can't be run."""
+    name = command[0]
+    found = [it for it in ([name] if "/" in name else [f"{it}/{name}" for it in os.get_exec_path(environment)]) if os.path.exists(it)]
+    if not found:
+        raise FileNotFoundError(errno.ENOENT, os.strerror(errno.ENOENT), name)
+    if not any(os.access(it, os.X_OK) and not os.path.isdir(it) for it in found):
+        raise PermissionError(errno.EACCES, os.strerror(errno.EACCES), name)
+    return [*ENDS_TOO, str(os.getpid()), *command]
 
 
 LATE = 1.5  # seconds, after which it is said that the broker doesn't answer
@@ -280,7 +282,7 @@ class Signals:
 
     def starts(self, command: list[str], environment: dict[str, str], ends_with_this: bool = False) -> subprocess.Popen[bytes]:
         self.is_starting = True
-        process = subprocess.Popen(command, env=environment, preexec_fn=ends_with(os.getpid()) if ends_with_this else None)
+        process = subprocess.Popen(ending_too(command, environment) if ends_with_this else command, env=environment)
         self.family = Family(process)
         for number in self.came:
             self.send(number)

@@ -14,8 +14,8 @@ from typing import TYPE_CHECKING, Any, Awaitable, Callable, Optional
 import labrun
 
 from .bay import BadAddress
+from .credentials import DEFAULT
 from .labs import Lab, read_any, texts_of
-from .quick import DEFAULT
 from .standby import add_etcd, until_it_leads
 from .texts import counted, mebibytes, plain, seconds
 from .words import USAGE, say, tell_systemd

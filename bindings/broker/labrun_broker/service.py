@@ -21,10 +21,10 @@ from .bays import Kept
 from .door import Complaints, Door, check_free
 from .entrance import Caller, Entrance, NotLetIn, Pace
 from .errors import KINDS, BadWish, NoInstrument, NotAllowed
-from .front import WITHIN, Fronts, for_its_user
+from .front import WITHIN, Fronts
 from .outage import disable, enable
 from .rights import check_operator
-from .sockets import for_the_group, give
+from .sockets import ITS_USER, THE_GROUP, give, made_for
 from .standing import Session
 from .wishes import Ended, Wish, check_form, wish_of
 
@@ -47,6 +47,14 @@ OPTIONS = [
     ("grpc.so_reuseport", 0),
 ]
 
+# how faults are told of what is no session (`why_lost` reads that)
+CODES: tuple[tuple[type[BaseException], Any], ...] = (
+    (NotAllowed, grpc.StatusCode.PERMISSION_DENIED),
+    (labrun.NotHeld, grpc.StatusCode.FAILED_PRECONDITION),
+    (NoInstrument, grpc.StatusCode.INVALID_ARGUMENT),
+    (BadWish, grpc.StatusCode.NOT_FOUND),
+    (labrun.JournalError, grpc.StatusCode.DATA_LOSS),
+)
 GONE = pb.Told(gone=pb.Gone())
 AN_OPERATOR = "an operator"
 
@@ -300,18 +308,9 @@ class Service:
 async def _answer(context: Any, work: Awaitable[Any], unwritten: Any = grpc.StatusCode.DATA_LOSS) -> Any:
     try:
         return await work
-    except NotAllowed as fault:
-        await context.abort(grpc.StatusCode.PERMISSION_DENIED, str(fault))
-    except labrun.NotHeld as fault:
-        await context.abort(grpc.StatusCode.FAILED_PRECONDITION, str(fault))
-    except NoInstrument as fault:
-        await context.abort(grpc.StatusCode.INVALID_ARGUMENT, str(fault))
-    except BadWish as fault:
-        await context.abort(grpc.StatusCode.NOT_FOUND, str(fault))
-    except labrun.JournalError as fault:
-        await context.abort(unwritten, str(fault))
     except (labrun.LabrunError, OSError) as fault:
-        await context.abort(grpc.StatusCode.INTERNAL, str(fault))
+        code = next((code for kind, code in CODES if isinstance(fault, kind)), grpc.StatusCode.INTERNAL)
+        await context.abort(unwritten if code is grpc.StatusCode.DATA_LOSS else code, str(fault))
 
 
 class Running:
@@ -335,12 +334,14 @@ async def start(keeping: Kept, door: Door, entrance: Optional[Entrance] = None) 
     service, credentials = Service(keeping, entrance or Entrance(keeping, door.token()), fronts), door.credentials()
     within = {it: it + WITHIN if fronts is not None and it.startswith("unix:") else it for it in door.addresses}
     # (a server of gRPC that is made and not started may keep the program from ending, so all is looked at before)
-    for address in {*within, *within.values()}:
+    for address, inner in within.items():
         check_free(address)
+        if inner != address:
+            check_free(inner, address)
     asyncio.get_running_loop().set_exception_handler(Complaints())
     server = grpc.aio.server(options=OPTIONS)
     server.add_generic_rpc_handlers((_methods(service),))
-    with for_the_group() if fronts is None else for_its_user():
+    with made_for(THE_GROUP if fronts is None else ITS_USER):
         for address in within.values():
             is_socket = address.startswith("unix:")
             bound = server.add_secure_port(address, credentials) if credentials and not is_socket else server.add_insecure_port(address)

@@ -11,7 +11,7 @@ import ssl
 from typing import Any, AsyncIterator, Awaitable, Callable, Coroutine, Optional, Union
 
 from .bay import BadAddress, is_here
-from .sockets import bound, family_of, parsed
+from .sockets import bound, listens, parsed
 
 
 class Lacking(BadAddress, ImportError):
@@ -163,12 +163,6 @@ async def served(app: web.Application, at: Address, group: Optional[str], tls: O
 async def listener_at(
     at: Address, group: Optional[str], new: Callable[[], asyncio.BaseProtocol], tls: Optional[ssl.SSLContext]
 ) -> asyncio.AbstractServer:
-    loop = asyncio.get_running_loop()
     if isinstance(at, str):
-        return await loop.create_unix_server(new, sock=bound(at, group))
-    try:
-        return await loop.create_server(new, *at, family=family_of(at[0]), ssl=tls, ssl_handshake_timeout=SLOW if tls else None)
-    except OSError as fault:
-        # (the loop's own text has the address once more)
-        why = os.strerror(fault.errno) if fault.errno and fault.errno > 0 else fault.strerror or fault
-        raise BadAddress(f"{at[0]}:{at[1]}: it can't listen there: {why}") from None
+        return await asyncio.get_running_loop().create_unix_server(new, sock=bound(at, group))
+    return await listens(at, new, tls, SLOW)

@@ -2,6 +2,7 @@
 
 from __future__ import annotations
 
+import asyncio
 import contextlib
 import grp
 import os
@@ -9,9 +10,13 @@ import shutil
 import socket
 import ssl
 import stat
-from typing import Iterator, Optional, Union
+from typing import Callable, Iterator, Optional, Union
 
 from .bay import BadAddress
+
+
+# its owner and the group, or its owner alone
+THE_GROUP, ITS_USER = 0o117, 0o177
 
 
 def parsed(text: str) -> Union[str, tuple[str, int]]:
@@ -24,6 +29,21 @@ def parsed(text: str) -> Union[str, tuple[str, int]]:
     if int(port) > 65535:
         raise BadAddress(f"{text}: it can't listen there: a port is 65535 at most")
     return host.strip("[]"), int(port)
+
+
+def written(host: str, port: int) -> str:
+    return f"[{host}]:{port}" if ":" in host else f"{host}:{port}"
+
+
+async def listens(at: tuple[str, int], new: Callable[[], asyncio.BaseProtocol], tls: Optional[ssl.SSLContext], patience: float) -> asyncio.Server:
+    """By the network; who comes has so many seconds for TLS. BadAddress says why it can't."""
+    try:
+        loop = asyncio.get_running_loop()
+        return await loop.create_server(new, *at, family=family_of(at[0]), ssl=tls, ssl_handshake_timeout=patience if tls else None)
+    except OSError as fault:
+        # (the loop's own text has the address once more)
+        why = os.strerror(fault.errno) if fault.errno and fault.errno > 0 else fault.strerror or fault
+        raise BadAddress(f"{written(*at)}: it can't listen there: {why}") from None
 
 
 def tls_of(certificate: str, key: str) -> ssl.SSLContext:
@@ -40,8 +60,8 @@ def family_of(host: str) -> socket.AddressFamily:
     return socket.AF_INET6 if ":" in host else socket.AF_INET
 
 
-def clear(path: str) -> None:
-    """Nobody listens there. A socket that a broker left which is gone is taken away."""
+def clear(path: str, told: Optional[str] = None) -> None:
+    """Nobody listens there. A socket that a broker left which is gone is taken away. `told` is the address that people know it by."""
     folder = os.path.dirname(os.path.abspath(path))
     if not os.access(folder, os.W_OK):
         raise BadAddress(f"unix:{path}: no socket can be made in {folder}")
@@ -57,13 +77,13 @@ def clear(path: str) -> None:
             return
         except OSError as fault:
             raise BadAddress(f"unix:{path}: {fault.strerror or fault}") from None
-    raise BadAddress(f"unix:{path}: another broker listens there")
+    raise BadAddress(f"{told or f'unix:{path}'}: another broker listens there")
 
 
 @contextlib.contextmanager
-def for_the_group() -> Iterator[None]:
-    """A socket that is made meanwhile is for its owner and the group alone."""
-    before = os.umask(0o117)
+def made_for(mask: int) -> Iterator[None]:
+    """A socket that is made meanwhile is for nobody else."""
+    before = os.umask(mask)
     try:
         yield
     finally:
@@ -93,7 +113,7 @@ def bound(path: str, group: Optional[str]) -> socket.socket:
     clear(path)
     made = socket.socket(socket.AF_UNIX)
     try:
-        with for_the_group():
+        with made_for(THE_GROUP):
             made.bind(path)
         give(path, group)
     except BaseException as fault:

@@ -139,7 +139,8 @@ class Standings:
 
     def __init__(self, keeping: Keeping) -> None:
         self._keeping, self._now, self._at = keeping, keeping.now(), time.time()
-        self._wrong, self._wrong_since = keeping.disk_fault()
+        # what is wrong with the disk, mostly nothing
+        self._wrong, self._shell = keeping._shell.is_wrong(), keeping._shell
         self.holders, self.waiters = list[tuple[Session, int, int]](), list[tuple[Session, int]]()
         for it in keeping.machine.standings():
             if (session := keeping.by_number.get(it.number)) is None:
@@ -226,14 +227,14 @@ class Standings:
         return f"{name} is free once {' and '.join(of.unsafe) or 'that is written'} is made safe {after}"
 
     def _once_written(self) -> str:
-        return f"{ONCE} {self._keeping.kept_where}" + (f" ({self._wrong})" if self._wrong else "")
+        return f"{ONCE} {self._shell.where}" + (f" ({self._wrong})" if self._wrong else "")
 
     def _is_kept(self, bit: int, other: Session) -> str:
         """Also why, and until when: and for what that one waits, down to the one that holds it."""
         its = self._line(other)
         first = f"{counted(its['passed'], 'other')} went before it" if its["passed"] else "it asked first"
         if its["keeps_place"]:
-            first = "it is urgent" if its["urgent"] else "one that asked after it is urgent"
+            first = "it is urgent" if its["urgent"] else "an urgent one asked after it"
         text = f"{self._name(bit)} is kept for {other.name} until it holds, since {first}"
         return text + (f" and it waits for {' and '.join(ends)}" if (ends := self._ends(other)) else "")
 
@@ -263,7 +264,8 @@ class Standings:
         if holder.crossing is not None and (waits := holder.crossing.waits_where()):
             parts.append(waits)
         if holder.gone_at is not None:
-            see = f"see to it, and then run labrun-broker release {holder.name} --session {holder.number}"
+            people = self._keeping.bay.people
+            see = f"see to it, and then run labrun-broker release {holder.name} --session {holder.number}{f'; {people.to_ask()}' if people else ''}"
             does = see if holder.is_kept else f"it is released after {self._keeping.its_grace:g} s"
             parts.append(f"{GONE} {self._for(holder.gone_at)}: {does}")
         return f" ({', '.join(parts)})" if parts else ""
@@ -294,8 +296,8 @@ class Standings:
             "refusals": keeping.refusals,
             "version": 2,
             "disk": self._wrong,
-            "disk_since": self.when(self._wrong_since),
-            "overtakes": keeping.overtakes,
+            "disk_since": self.when(self._shell.wrong_since),
+            "overtakes": keeping._opened.overtakes,
         }
 
     def _instrument(self, name: str, waiting: dict[int, list[str]]) -> dict[str, Any]:

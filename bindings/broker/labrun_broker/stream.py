@@ -3,7 +3,7 @@
 from __future__ import annotations
 
 import asyncio
-import builtins
+import contextlib
 from typing import TYPE_CHECKING, Any, Optional, Union
 
 import grpc
@@ -17,6 +17,7 @@ if TYPE_CHECKING:
     from .held import Held
 
 GIVING_UP = 0.5
+LATE = 1.0  # seconds without a word once a time limit is over: then the broker is asked whether it is there, and has as many to say so
 # the bytes of a message that a broker takes
 MOST_BYTES = 1 << 16
 
@@ -27,6 +28,10 @@ class Lost(Exception):
     def __init__(self, code: Any, why: str) -> None:
         super().__init__(why)
         self.code = code
+
+
+class Silent(Exception):
+    """A time limit is over, and the broker says nothing."""
 
 
 # a broker that begins again, or a network that comes back, is worth another try
@@ -40,6 +45,8 @@ class Stream:
         self._lab, self._call = lab, lab._methods["Hold"](metadata=lab._metadata)
         self.session: Optional[Held] = None
         self.is_open = False
+        # how many came
+        self._words = 0
         self._lost: Optional[Lost] = None
         self._answers: asyncio.Queue[Union[tuple[str, Any], Exception]] = asyncio.Queue()
         self._writing, self._asked_at = asyncio.Lock(), -1.0
@@ -67,6 +74,21 @@ class Stream:
         await self._writes(ask)
         return await self._answer()
 
+    async def asks_until(self, moment: Optional[float], **what: Any) -> tuple[str, Any]:
+        """The same, but Silent soon after that moment, unless the broker says that it is there."""
+        span = None if moment is None else max(0.0, moment - asyncio.get_running_loop().time()) + LATE
+        asked = asyncio.create_task(self.asks(**what))
+        asked.add_done_callback(lambda it: it.cancelled() or it.exception())
+        try:
+            while not (await asyncio.wait({asked}, timeout=span))[0]:
+                words, question, span = self._words, asyncio.create_task(self.pings()), LATE
+                await asyncio.wait({asked, question}, timeout=LATE)
+                if not asked.done() and self._words == words:
+                    raise Silent
+            return asked.result()
+        finally:
+            asked.cancel()
+
     async def _writes(self, ask: Any) -> None:
         async with self._writing:
             try:
@@ -83,10 +105,15 @@ class Stream:
         """Says that the client is there; the session is told of the answer."""
         await self._writes(pb.Ask(ping=pb.Ping(at=clock())))
 
-    async def keeps(self) -> float:
-        """Asks whether the broker still keeps the session, and waits for the answer; when that was asked."""
+    async def is_answered(self) -> None:
+        """Returns once the broker says that it is there."""
+        self._asked_at = clock()
+        await self.asks(ping=pb.Ping(at=self._asked_at))
+
+    async def keeps(self, moment: Optional[float]) -> float:
+        """Asks whether the broker still keeps the session, and waits for the answer; when that was asked. Silent: as above."""
         at = self._asked_at = clock()
-        kind, told = await self.asks(ping=pb.Ping(at=at))
+        kind, told = await self.asks_until(moment, ping=pb.Ping(at=at))
         if kind != "pong" or not told.holds:
             raise TakenAway("the session was taken away just as it came to hold")
         return at
@@ -99,16 +126,24 @@ class Stream:
             raise answer
         return answer
 
-    async def gives_up(self) -> None:
-        """The session waits no longer. If it came to hold just now, it lets go."""
-        try:
-            async with asyncio.timeout(GIVING_UP if self.is_open else 0):
-                kind, _ = await self.asks(let_go=pb.LetGo())
-                while kind != "gone":
-                    kind, _ = await self._answer()
-            self.is_idle()
-        except (Lost, builtins.TimeoutError):
-            self.cancel()
+    async def gives_up(self, span: float = GIVING_UP) -> None:
+        """The session waits no longer. If it came to hold just now, or does once a broker goes on that is stopped, it lets go."""
+        self.session = None
+        if not self.is_open:
+            return self.cancel()
+        leaves = asyncio.create_task(self._leaves())
+        self._lab._leaving.add(leaves)
+        leaves.add_done_callback(self._lab._leaving.discard)
+        await asyncio.wait({leaves}, timeout=span)
+
+    async def _leaves(self) -> None:
+        with contextlib.suppress(Lost):
+            kind, _ = await self.asks(let_go=pb.LetGo())
+            while kind not in ("gone", "fault"):
+                kind, _ = await self._answer()
+            if kind == "gone":
+                return self.is_idle()
+        self.cancel()
 
     def is_idle(self) -> None:
         self.session = None
@@ -121,6 +156,7 @@ class Stream:
     async def _reads(self) -> None:
         try:
             while (told := await self._call.read()) is not grpc.aio.EOF:
+                self._words += 1
                 self.is_open, kind = True, told.WhichOneof("told")
                 self._is_told(kind, getattr(told, kind))
         except (grpc.RpcError, asyncio.CancelledError):  # (the latter if the call was cancelled here)

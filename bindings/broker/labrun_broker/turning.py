@@ -113,7 +113,7 @@ class Turns:
 
     def _gives_up(self, gate: asyncio.Event) -> None:
         if self._gate is gate:
-            self._opens(f"the bay has no quiet moment, or {self._shell.what} doesn't answer: nothing has changed")
+            self._opens(f"there was always something to be written, or {self._shell.what} doesn't answer: nothing has changed; try again")
 
     def _opens(self, why: str = "") -> None:
         gate, self._gate = self._gate, None

@@ -9,7 +9,7 @@ import socket
 import sys
 from typing import TYPE_CHECKING, Any, Callable, NamedTuple
 
-from .quick import CERTIFICATE_FILE, DEFAULT, TOKEN_FILE
+from .credentials import CERTIFICATE_FILE, DEFAULT, TOKEN_FILE
 from .texts import address
 
 if TYPE_CHECKING:
@@ -66,7 +66,7 @@ def add_client(parser: argparse.ArgumentParser) -> None:
 def lab_of(args: argparse.Namespace, **more: Any) -> Lab:
     # (what a `hold` does without; gRPC's own lines say no more than ours)
     os.environ.setdefault("GRPC_VERBOSITY", "NONE")
-    # (a command is begun by a fork, in the midst of gRPC's threads; and nothing of gRPC goes on in it)
+    # (a command is begun in the midst of gRPC's threads; and nothing of gRPC goes on in it)
     os.environ.setdefault("GRPC_ENABLE_FORK_SUPPORT", "0")
     from .client import connect
 

@@ -3,6 +3,7 @@
 from __future__ import annotations
 
 import contextlib
+import glob
 import os
 import random
 import signal
@@ -61,6 +62,14 @@ def free_port() -> int:
             return port
 
 
+def certificate(folder: str, name: str = "certificate", key: str = "key", of: str = "DNS:localhost") -> tuple[str, str]:
+    """A certificate and its key, made anew: their files."""
+    words = ["openssl", "req", "-x509", "-newkey", "ec", "-pkeyopt", "ec_paramgen_curve:prime256v1", "-nodes", "-days", "2", "-subj", "/CN=it"]
+    words += ["-addext", f"subjectAltName={of}", "-keyout", f"{folder}/{key}", "-out", f"{folder}/{name}"]
+    subprocess.run(words, check=True, capture_output=True)
+    return f"{folder}/{name}", f"{folder}/{key}"
+
+
 class Broker:
     """`labrun-broker serve`, begun anew as often as wanted."""
 
@@ -116,6 +125,26 @@ class Broker:
     def started(self, *words: str) -> subprocess.Popen[str]:
         environment = {**os.environ, "LABRUN_BROKER": self.address}
         return subprocess.Popen([*COMMAND, *words], env=environment, stdout=subprocess.PIPE, stderr=subprocess.PIPE, text=True)
+
+
+def is_stopped(process: int) -> bool:
+    """Each of its threads is: on a busy machine that takes a while."""
+    states = set[str]()
+    for path in glob.glob(f"/proc/{process}/task/*/stat"):
+        with open(path, encoding="ascii") as file:
+            states.add(file.read().rsplit(")", 1)[1].split()[0])
+    return states == {"T"}
+
+
+@contextlib.contextmanager
+def stopped(broker: Broker) -> Iterator[None]:
+    assert (process := broker.process) is not None
+    process.send_signal(signal.SIGSTOP)
+    try:
+        until(lambda: is_stopped(process.pid), "that it is stopped")
+        yield
+    finally:
+        process.send_signal(signal.SIGCONT)
 
 
 @contextlib.contextmanager

@@ -134,7 +134,8 @@ class Machine:
     def _begins(self, what: str) -> subprocess.Popen[bytes]:
         with open(f"{self.folder}/{what}-{self.at}.out", "ab") as out:
             words = self._etcd if what == "etcd" else self._serve
-            return subprocess.Popen([*self._in, *words], stdout=out, stderr=out, stdin=subprocess.DEVNULL)
+            # (in a session of its own: Linux shares out the processors by sessions, and these are machines of their own)
+            return subprocess.Popen([*self._in, *words], stdout=out, stderr=out, stdin=subprocess.DEVNULL, start_new_session=True)
 
     def _watches(self) -> None:
         while not self.is_over:

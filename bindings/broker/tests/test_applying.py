@@ -206,7 +206,7 @@ class Applied(OnApplied):
         with mock.patch("os.fdatasync", lambda file: may.wait(SOON)), mock.patch("labrun_broker.turning.QUIET", 0.1):
             holds = asyncio.create_task(keeping.hold(Wish(("scope",)), owner))
             await asyncio.sleep(0.05)
-            with self.assertRaisesRegex(JournalError, "the bay has no quiet moment, or the disk doesn't answer: nothing has changed"):
+            with self.assertRaisesRegex(JournalError, "there was always something to be written, or the disk doesn't answer: nothing has changed; try again"):
                 await apply(keeping, BAY.replace("count = 4", "count = 5"), "eve", False)
             with mock.patch("labrun_broker.applying.STANDS", 0.1), self.assertRaisesRegex(JournalError, "the disk doesn't answer for 0.1 s"):
                 await apply(keeping, MORE, "eve", False)
@@ -254,7 +254,7 @@ class Commands(OnBroker):
 
     def unless_busy(self, done: "subprocess.CompletedProcess[str]") -> "Optional[subprocess.CompletedProcess[str]]":
         """None: the disk wasn't quiet within a second, as it may be on a busy machine, and nothing has changed."""
-        return None if "the bay has no quiet moment" in done.stderr else done
+        return None if "there was always something to be written" in done.stderr else done
 
     def test_applied(self) -> None:
         folder = self.enterContext(tempfile.TemporaryDirectory())

@@ -85,7 +85,9 @@ class Doors(OnLab):
         at.process.send_signal(signal.SIGHUP)
         with at.lab() as lab:
             until(lambda: sum(it["bay"] == "south" and it["name"].startswith("guest-") for it in lab.status()["stations"]) == 0, "south has two guests, whose names north has")
-        self.assertIn("ok lab physics: 2 bays\nok bay north: 3 instruments, 1 station, 2 guests", self.ran(at, "bay", "check", path))
+        north = f"{self.folder}/north.toml"
+        told = f"ok {path}: lab physics, 2 bays, 6 instruments, 2 stations, 4 guests\nok {north}: bay north, 3 instruments, 1 station, 2 guests, gone = keep\nok {self.folder}/more/south.toml: bay south, "
+        self.assertEqual(self.ran(at, "bay", "check", path)[: len(told)], told)
 
     def test_the_page_and_the_numbers_have_both(self) -> None:
         at = self.broker("--page", f"127.0.0.1:{self.port}", "--http", f"unix:{self.folder}/http.sock")

@@ -202,6 +202,14 @@ class Browser(unittest.TestCase):
         self.seen("body", lambda _: "tall" in self.browser.execute_script("return document.body.className"))
         self.assertGreater(self.browser.execute_script("return document.documentElement.scrollHeight"), 800)
 
+    def test_a_wall_says_who_is_urgent(self) -> None:
+        self.do("hold", "board", "scope")
+        self.do("ask", "radio", "scope")
+        self.web.do(lambda it: it.stations["radio"].update(urgent=True), self.web.keeping)
+        self.width_at(1280, 800)
+        self.browser.get(f"http://127.0.0.1:{self.web.port}/?wall")
+        self.seen("#waits", lambda text: "radio, urgent, " in text)
+
     def test_a_wall_shows_what_its_colours_mean(self) -> None:
         """All of it, and where the picture and the rows beside it go on."""
         keys = ["done", "holds now", "failed", "taken away", "client gone", "somebody waits", "gave up"]
@@ -303,6 +311,9 @@ class Browser(unittest.TestCase):
         self.assertEqual(self.browser.execute_script(order), ["north", "scope", "supply", "south", "oven"])
         passed = "return [{bay: 'south', place: 1, passed: 2}, {bay: '', place: 1, passed: 2}].map(lineOf)"
         self.assertEqual([it.split("; ")[1] for it in self.browser.execute_script(passed)], [f"2 others went first, and after {most} what it needs is kept for it" for most in (8, 9)])
+        keeps = "return [[1, false, true], [2, true, true], [3, true, false]].map(([place, urgent, keeps_place]) => lineOf({place, urgent, keeps_place}))"
+        said = [", number 1 in line, and an urgent one asked after it", ", number 2 in line, urgent", ", number 3 in line, urgent"]
+        self.assertEqual(self.browser.execute_script(keeps), [*(f"{it}: nobody who asks later goes before it" for it in said[:2]), said[2]])
 
     def test_light_and_dark(self) -> None:
         colours = []

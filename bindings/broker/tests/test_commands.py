@@ -19,10 +19,11 @@ from typing import Any
 from unittest import mock
 
 import labrun
+from labrun_broker.__main__ import main as begins
 from labrun_broker.client import _who
 from labrun_broker.command import lines_of, main
 from labrun_broker.run import Signals
-from tests.brokers import BAY, COMMAND, LIMIT, SOON, Broker, OnBroker, station, until
+from tests.brokers import BAY, COMMAND, LIMIT, SOON, TOP, Broker, OnBroker, station, until
 
 # (two runs of these tests at once look for the sleeps of their own)
 SPAN = os.getpid()
@@ -68,7 +69,7 @@ class WithoutBroker(unittest.TestCase):
         outside = ["serve", bay, "--listen", "0.0.0.0:0"]
         wanted = "unix:PATH or HOST:PORT is wanted, with a port of up to 65535"
         rows = (
-            (["bay", "check", bay], 0, "ok bay north: 4 instruments, 2 stations, 4 guests, gone = keep\n", ""),
+            (["bay", "check", bay], 0, f"ok {bay}: bay north, 4 instruments, 2 stations, 4 guests, gone = keep\n", ""),
             (["bay", "check", f"{self.folder}/bad.toml"], 1, "", "bad.toml: colour: there is no such key"),
             (["bay", "check", f"{self.folder}/bad.toml"], 1, "", "bad.toml: instruments: scope is there twice"),
             (["bay", "check", f"{self.folder}/no.toml"], 1, "", "no.toml: No such file or directory"),
@@ -78,6 +79,7 @@ class WithoutBroker(unittest.TestCase):
             (["hold", "scope"], 2, "", "say what to run, behind `--`"),
             (["hold", "--", "true"], 2, "", "required: INSTRUMENT"),
             (["hold", "scope", "--timeout", "soon", "--", "true"], 2, "", "argument --timeout: 'soon' is no number of seconds, 0 or more and below 1000000000; labrun-broker hold --help\n"),
+            (["hold", "scope", "--limit", "-2h", "--", "true"], 2, "", "argument --limit: '-2h' is no span of more than 0 and below 1000000000 s: write 90, 30s, 15min, 4h or 2d; labrun-broker"),
             (["status", "--", "true"], 2, "", "only hold runs something"),
             (["status", "--broker", nowhere], 69, "", "no.sock can't be reached"),
             (["hold", "scope", "--broker", nowhere, "--", "true"], 69, "", "no.sock can't be reached"),
@@ -167,6 +169,21 @@ class WithoutBroker(unittest.TestCase):
         # (of one for which there is no place nothing bounds who goes first)
         self.assertEqual(said, ["ann", "number 3 in line; 2 others went first, and after 16 what it needs is kept for it", "ann", "number 4 in line", full])
 
+    def test_ctrl_c_while_it_begins(self) -> None:
+        """Also before anything of its own is there: by each program that begins it."""
+
+        class Interrupts:
+            def find_spec(self, name: str, *_: object) -> None:
+                if name == "labrun_broker.command":
+                    raise KeyboardInterrupt
+
+        with mock.patch.dict(sys.modules), mock.patch.object(sys, "meta_path", [Interrupts(), *sys.meta_path]):
+            del sys.modules["labrun_broker.command"]
+            self.assertEqual(begins(), 130)
+        for path, wanted in (("bindings/broker/pyproject.toml", 'labrun-broker = "labrun_broker.__main__:main"'), ("scripts/install", "from labrun_broker.__main__ import main")):
+            with open(f"{TOP}/{path}", encoding="utf-8") as file:
+                self.assertIn(wanted, file.read())
+
     def test_manual(self) -> None:
         """Each word and option of the help is in the man page and in both completions."""
         texts = {kind: ran("manual", kind).stdout for kind in ("man", "bash", "zsh")}
@@ -208,7 +225,7 @@ class WithBroker(OnBroker):
                     self.assertNotIn("Traceback", done.stderr)
 
     def test_a_command_is_begun_beside_grpc(self) -> None:
-        """Where `gone` is "release" that is a fork, which gRPC is to keep out of; and the command has nothing of that."""
+        """gRPC is to keep out of whatever is begun; and the command has nothing of that."""
         broker = self.broker(f'gone = "release"\n{BAY}')
         done = broker.ran("hold", "load-1", "--", "sh", "-c", "echo ${GRPC_ENABLE_FORK_SUPPORT-none} ${GRPC_VERBOSITY-none}")
         self.assertEqual((done.returncode, done.stdout), (0, "none none\n"), done.stderr)

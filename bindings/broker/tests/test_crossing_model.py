@@ -1,5 +1,5 @@
 """Sessions over two bays as a model: every interleaving of small labs, in pure Python. It has the rule of a bay (docs/BAY.md, *Who is let in*)
-and the order in which a session asks its bays (docs/bays.md), each written anew here, and nothing of the broker.
+and the order in which a session asks its bays (docs/broker.md), each written anew here, and nothing of the broker.
 
 Between any two steps of one session the others may do any of theirs: try a bay, ask, be let in, be told, let go of one bay, run out of time."""
 

@@ -10,7 +10,7 @@ import tempfile
 import unittest
 from typing import Any
 
-from tests.brokers import BAY, COMMAND, LIMIT, TOP
+from tests.brokers import BAY, COMMAND, LIMIT, TOP, certificate
 from tests.test_two_machines import ip
 
 NAME, HOST = f"labrun-guard-{os.getpid()}", "10.78.0.1"
@@ -45,9 +45,7 @@ class Beyond(unittest.TestCase):
     def test_with_tls(self) -> None:
         folder = self.folder
         for name in ("guard", "other"):
-            words = ["openssl", "req", "-x509", "-newkey", "ec", "-pkeyopt", "ec_paramgen_curve:prime256v1", "-nodes", "-days", "2", "-subj", "/CN=it"]
-            words += ["-addext", f"subjectAltName=IP:{HOST}", "-keyout", f"{folder}/{name}.key", "-out", f"{folder}/{name}.crt"]
-            subprocess.run(words, check=True, capture_output=True)
+            certificate(folder, f"{name}.crt", f"{name}.key", f"IP:{HOST}")
         port = self.begins("scope ", sys.executable, f"{TOP}/examples/broker/instruments.py", "scope", stream="stdout").split()[1]
         for path, text in (
             ("bay.toml", f'{BAY}[guards]\nscope = "{HOST}:5025"\n'),

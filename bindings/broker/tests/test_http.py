@@ -375,7 +375,7 @@ class Refused(OnHttp):
             ({"instruments": ["scop"]}, (400, "NoInstrument", "did you mean scope?")),
             ({"instruments": ["supply"], "station": "radio"}, (403, "MayNotUse", "radio may not use supply")),
             ({"instruments": ["scope"], "station": "bord"}, (400, "BadWish", "bord is no station of this bay")),
-            ({"instrument": ["scope"]}, (400, "BadWish", "there is no field 'instrument': there are instruments, any_of, station, by, timeout, limit, ticket (did you mean instruments?)")),
+            ({"instrument": ["scope"]}, (400, "BadWish", "there is no field 'instrument': there are instruments, any_of, station, by, timeout, limit, urgent, ticket (did you mean instruments?)")),
             ({"instruments": []}, (400, "BadWish", "say which instruments")),
             ({}, (400, "BadWish", "say which instruments")),
             ({"instruments": ["scope"], "any_of": [["scope"]]}, (400, "BadWish", "say either which instruments, or which sets of them to choose from (any_of), and not both")),
@@ -573,7 +573,8 @@ class Described(OnHttp):
 
 
 def is_like(schema: Any, value: Any) -> bool:
-    if not isinstance(value, KINDS[schema["type"]]) or isinstance(value, bool) or value == -1 and "minimum" in schema:
+    is_another = isinstance(value, bool) != (schema["type"] == "boolean")
+    if not isinstance(value, KINDS[schema["type"]]) or is_another or value == -1 and "minimum" in schema:
         return False
     return all(is_like(schema["items"], it) for it in value) if isinstance(value, list) else True
 

@@ -5,8 +5,10 @@ from __future__ import annotations
 
 import json
 import os
+import select
 import shutil
 import signal
+import socket
 import subprocess
 import tempfile
 import time
@@ -73,6 +75,14 @@ class Held(OnBroker):
             records = [json.loads(it) for it in file]
         self.assertEqual([(it["what"], it["text"]) for it in records if it["what"] in ("held", "failed", "let_go")], [("held", ""), ("failed", "status 3")])
         self.assertRegex(records[1]["by"], r"^ann@\S+ \d+ sh$")
+
+    def test_it_asks_urgently(self) -> None:
+        broker, _ = self.at(BAY, "--state", "FOLDER/state")
+        for words in (("scope", "--urgent"), ("scope",)):
+            self.assertEqual(self.ran(broker, *words, "--", "true").returncode, 0)
+        with open(f"{broker.folder}/state/records.jsonl", encoding="utf-8") as file:
+            records = [json.loads(it) for it in file]
+        self.assertEqual([it.get("urgent", False) for it in records if it["what"] == "asked"], [True, False])
 
     def test_who_it_is(self) -> None:
         """By the token in a file; one that isn't let in any more ends its command, and holds no longer."""
@@ -307,6 +317,33 @@ class Held(OnBroker):
                     pass
                 broker.process.send_signal(signal.SIGCONT)
                 self.assertEqual((asks.wait(LIMIT), waits.wait(LIMIT), holder.wait(LIMIT)), (0, 0, 0))
+
+    def test_a_signal_while_its_wish_is_on_its_way(self) -> None:
+        """To a broker that has much to do. It is told that this waits no longer once it has read the wish, and again if it didn't answer."""
+        path = f"{self.room}/busy.sock"
+        with socket.socket(socket.AF_UNIX) as listens:
+            listens.bind(path)
+            listens.listen()
+            listens.settimeout(LIMIT)
+            one = subprocess.Popen([self.program, "scope", "--broker", f"unix:{path}", "--", "true"], stderr=subprocess.PIPE, text=True)
+            self.addCleanup(one.communicate)
+            self.addCleanup(one.kill)
+            wish, _ = listens.accept()
+            asked = wish.recv(4096)
+            self.assertTrue(asked.startswith(b"POST /v1/sessions?"))
+            one.terminate()
+            assert one.stderr is not None
+            self.assertIn("the broker doesn't answer, and is told for some seconds", one.stderr.readline())
+            self.assertEqual(select.select([listens], [], [], 0)[0], [])
+            body = b'{"state": "holding", "station": "guest-1", "instruments": ["scope"], "token": 1}'
+            wish.sendall(b"HTTP/1.1 200 OK\r\nContent-Length: %d\r\n\r\n%s" % (len(body), body))
+            for answer in (b"", b"HTTP/1.1 200 OK\r\nContent-Length: 2\r\n\r\n{}"):
+                tells, _ = listens.accept()
+                self.assertTrue(tells.recv(4096).startswith(b"DELETE /v1/sessions/"))
+                tells.sendall(answer)
+                tells.close()
+            wish.close()
+            self.ends(one, 128 + signal.SIGTERM)
 
     def waits(self, broker: Broker, *words: str) -> "subprocess.Popen[str]":
         one = subprocess.Popen([self.program, *words], env=self.environment(broker), stderr=subprocess.PIPE, text=True)

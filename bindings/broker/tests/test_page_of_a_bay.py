@@ -75,7 +75,7 @@ class OfABay(unittest.IsolatedAsyncioTestCase):
         parts = [status["instruments"][0], status["stations"][0], next(it["waits_for"][0] for it in status["stations"] if it["waits_for"])]
         for it in (name for part in parts for name in part):
             self.assertIn(f"`{it}`", tables["How a bay stands"])
-        self.assertEqual({*self.keeping._news.history[-1], "ticket", "after"}, rows["The broker's records"])
+        self.assertEqual({*self.keeping._news.history[-1], "ticket", "urgent", "after"}, rows["The broker's records"])
         waits.cancel()
 
     async def told(self, events: Any, count: int = 1) -> Any:

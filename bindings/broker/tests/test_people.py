@@ -331,6 +331,15 @@ class Brokers(OnPeople):
             with self.assertRaisesRegex(NotLetIn, f"^{why}$"):
                 service._caller(context, False)
 
+    def test_one_that_listens_already(self) -> None:
+        """Another is told of the socket that people know, also while the first one ends, and only its own is left."""
+        broker = self.at()
+        for ends in (False, True):
+            if ends:
+                os.unlink(f"{broker.folder}/bay.sock")
+            ran = broker.ran("serve", f"{broker.folder}/bay.toml", "--listen", broker.address)
+            self.assertEqual((ran.returncode, ran.stderr), (78, f"labrun-broker: {broker.address}: another broker listens there\n"))
+
     def test_a_user_who_is_nobody(self) -> None:
         """May look, and nothing else."""
         broker = self.at(PEOPLE.replace(f"unix = {os.getuid()}", "unix = 4242"))
@@ -370,6 +379,10 @@ class Brokers(OnPeople):
         until(lambda: station(ana, held.station)["state"] == "gone", "it is gone")
         row = station(ana, held.station)
         self.assertEqual((row["state"], row["by"], row["instruments"]), ("gone", "bob: tester", ["load-1"]))
+        # (who waits for it is told who may end it)
+        see = f"see to it, and then run labrun-broker release {held.station} --session {held.number}; operators: ana"
+        with self.assertRaisesRegex(labrun.TimeoutError, see):
+            ana.hold("load-1", timeout=0.1).acquire()
         self.assertFalse([it for it in ana.status()["stations"] if it["state"] == "waiting"])
         hers.note("on")
         with self.assertRaisesRegex(Unreachable, "nobody's token"):

@@ -12,8 +12,9 @@ from unittest import mock
 import labrun_broker
 from labrun_broker import quick, run
 from labrun_broker.command import main
-from labrun_broker.quick import HELD, Odd, Wire, _field, _fields, _number, _text
-from tests.brokers import BAY, LIMIT, SOON, Broker, OnBroker, station, until
+from labrun_broker.quick import HELD
+from labrun_broker.wire import Odd, Wire, _number, field, fields_of, text_field
+from tests.brokers import BAY, LIMIT, SOON, Broker, OnBroker, station, stopped, until
 
 RELEASES = BAY.replace('bay = "north"', 'bay = "north"\ngone = "release"')
 
@@ -229,20 +230,16 @@ class Quick(OnBroker):
 
     def test_a_broker_that_is_stopped(self) -> None:
         """A time limit is kept all the same, and nothing is held once the broker goes on. (Without one it would wait for a word.)"""
-        program = f"import sys; from labrun_broker import command, quick; quick.SILENT = {10 * LIMIT}; sys.exit(command.main())"
-        for bay in (BAY, RELEASES):
+        program = f"import sys; from labrun_broker import command, run, wire; wire.SILENT = run.SILENCE = {10 * LIMIT}; sys.exit(command.main())"
+        for bay, *state in ((BAY,), (BAY, "--state", "FOLDER/state"), (RELEASES, "--state", "FOLDER/state")):
             for limit, seconds in ((["-n"], 0.0), (["--timeout", "2"], 2.0)):
-                with self.subTest(bay, limit=limit):
-                    broker = self.broker(bay, "--state", "FOLDER/state")
-                    assert broker.process is not None
-                    broker.process.send_signal(signal.SIGSTOP)
-                    try:
+                with self.subTest(bay, state=state, limit=limit):
+                    broker = self.broker(bay, *state)
+                    with stopped(broker):
                         begun = time.monotonic()
                         words = [sys.executable, "-c", program, "hold", "scope", *limit, "--", "echo", "ran"]
                         done = subprocess.run(words, env={**os.environ, "LABRUN_BROKER": broker.address}, capture_output=True, text=True, timeout=LIMIT)
                         took = time.monotonic() - begun
-                    finally:
-                        broker.process.send_signal(signal.SIGCONT)
                     told = f"labrun-broker: the broker at {broker.address} doesn't answer\n"
                     self.assertEqual((done.returncode, done.stdout, done.stderr), (69, "", told))
                     self.assertGreaterEqual(took, seconds)
@@ -309,9 +306,9 @@ class Numbers(unittest.TestCase):
     def test_protobuf(self) -> None:
         """By the encoding's own examples: 150 is 96 01, and field 2 with `testing` is 12 07 and its letters."""
         self.assertEqual((_number(150), _number(1), _number(300)), (b"\x96\x01", b"\x01", b"\xac\x02"))
-        self.assertEqual(_text(2, "testing"), b"\x12\x07testing")
-        told = b"\x08\x96\x01" + _text(2, "testing") + _field(2, b"") + b"\x19" + bytes(8)
-        self.assertEqual(_fields(told), {1: [150], 2: [b"testing", b""], 3: [bytes(8)]})
+        self.assertEqual(text_field(2, "testing"), b"\x12\x07testing")
+        told = b"\x08\x96\x01" + text_field(2, "testing") + field(2, b"") + b"\x19" + bytes(8)
+        self.assertEqual(fields_of(told), {1: [150], 2: [b"testing", b""], 3: [bytes(8)]})
 
 
 if __name__ == "__main__":

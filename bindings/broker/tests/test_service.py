@@ -20,12 +20,13 @@ import grpc
 import labrun
 import labrun_broker
 from labrun_broker import broker_pb2 as pb
+from labrun_broker import coming
 from labrun_broker import held as sessions
 from labrun_broker.bay import BadAddress
 from labrun_broker.door import Door, Seldom, is_loopback
 from labrun_broker.service import Pace
 from labrun_broker.stream import Lost, Stream
-from tests.brokers import BAY, LIMIT, SOON, Broker, OnBroker, free_port, station, until
+from tests.brokers import BAY, LIMIT, SOON, Broker, OnBroker, certificate, free_port, station, until
 
 HOLDS = """
 import sys, labrun_broker
@@ -192,7 +193,7 @@ class Clients(OnBroker):
     def test_who_waits_while_brokers_come_and_go(self) -> None:
         """It tries for a while to reach each of them, however long ago it lost the first."""
         broker = self.broker(BAY, "--state", "FOLDER/state")
-        self.enterContext(unittest.mock.patch.object(sessions, "GRACE", 12.0))
+        self.enterContext(unittest.mock.patch.object(coming, "GRACE", 12.0))
         lab, got = self.lab(broker), list[str]()
         held = lab.hold("scope")
         held.acquire()
@@ -381,10 +382,7 @@ class WhoIsLetIn(OnBroker):
                     self.assertEqual(str(fault.exception), f"the broker at {address} can't be reached: {why}")
 
     def certificate(self, folder: str) -> tuple[str, str, str]:
-        names = (f"{folder}/certificate", f"{folder}/key", f"{folder}/token")
-        words = ["openssl", "req", "-x509", "-newkey", "ec", "-pkeyopt", "ec_paramgen_curve:prime256v1", "-nodes", "-days", "2", "-subj", "/CN=localhost",
-                 "-addext", "subjectAltName=DNS:localhost", "-keyout", names[1], "-out", names[0]]
-        subprocess.run(words, check=True, capture_output=True)
+        names = (*certificate(folder), f"{folder}/token")
         with open(names[2], "w", encoding="ascii") as file:
             file.write("a token that nobody knows\n")
         os.chmod(names[2], 0o600)

@@ -9,9 +9,11 @@ import tempfile
 import unittest
 from unittest import mock
 
+import grpc
+
 import labrun_broker
 from labrun_broker import finding
-from labrun_broker.errors import Unreachable
+from labrun_broker.errors import AnswerLost, Unreachable, why_lost
 from tests.brokers import BAY, COMMAND, LIMIT, OnBroker, free_port
 
 
@@ -76,6 +78,20 @@ class Network(OnBroker):
         done = subprocess.run([*COMMAND, "serve", file.name, "--listen", f"localhost:{free_port()}", *words], capture_output=True, text=True, timeout=LIMIT)
         self.assertEqual((done.returncode, len(done.stderr.splitlines())), (78, 1), done.stderr)
         self.assertIn("are no certificate and its key", done.stderr)
+
+
+class OfABrokerThatIsLost(unittest.TestCase):
+    def test_what_may_be_done(self) -> None:
+        """Once there was a connection, what was asked may have been done."""
+        rows = (
+            ("Socket closed", AnswerLost, "it closed the connection"),
+            ("recvmsg:Connection reset by peer", AnswerLost, "it closed the connection"),
+            ("recvmsg:Connection timed out", AnswerLost, "it doesn't answer any more"),
+            ("failed to connect to all addresses; last error: UNKNOWN: ipv4:10.0.0.1:7443: Network is unreachable", Unreachable, "Network is unreachable"),
+        )
+        for text, kind, why in rows:
+            fault = why_lost("10.0.0.1:7443", grpc.StatusCode.UNAVAILABLE, text)
+            self.assertEqual((type(fault), str(fault)), (kind, f"the broker at 10.0.0.1:7443 can't be reached: {why}"))
 
 
 @unittest.skipUnless(os.geteuid() == 0 and shutil.which("su"), "only root can be somebody else")

@@ -74,10 +74,20 @@ class Order(OnKeeping):
         rows = {it["name"]: (it["place"], it["urgent"], it["keeps_place"]) for it in keeping.status()["stations"] if it["state"] == "waiting"}
         self.assertEqual(rows, {"guest-2": (1, False, True), "guest-3": (2, True, True), "guest-4": (3, False, False)})
         texts = [it["text"] for it in how(keeping, "guest-3")["waits_for"]]
-        self.assertRegex(texts[0], "^scope is kept for guest-2 until it holds, since one that asked after it is urgent and it waits for supply, held by guest-1")
+        self.assertRegex(texts[0], "^scope is kept for guest-2 until it holds, since an urgent one asked after it and it waits for supply, held by guest-1")
         said = "\n".join(lines_of(keeping.status()))
-        for text in ("number 1 in line, before one that is urgent: nobody who asks later goes before it", "number 2 in line, urgent: nobody who", "number 3 in line\n"):
+        for text in ("number 1 in line, and an urgent one asked after it: nobody who asks later goes before it", "number 2 in line, urgent: nobody who", "number 3 in line\n"):
             self.assertIn(text, said)
+
+    async def test_where_there_is_no_place(self) -> None:
+        """Of one for which no place is free nobody says that none goes before it: nothing is kept for it."""
+        keeping = await self.keeping(BAY.replace("count = 4", "count = 1"))
+        await self.holds(keeping, "supply")
+        await self.asks(keeping, "scope", urgent=True)
+        said = "\n".join(lines_of(keeping.status()))
+        self.assertIn("number 1 in line, urgent\n", said)
+        self.assertNotIn("nobody who asks later", said)
+        await self.holds(keeping, "scope", station="board")
 
     async def test_it_is_told_that_it_is_urgent(self) -> None:
         """Whoever waits behind an urgent one is told why it is kept waiting."""

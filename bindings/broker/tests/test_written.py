@@ -17,6 +17,7 @@ from unittest import mock
 import labrun
 import labrun_broker
 from labrun_broker import records, shell
+from labrun_broker.command import lines_of
 from labrun_broker.keeping import Keeping
 from labrun_broker.past import read_past
 from labrun_broker.standing import Session, Standings
@@ -449,6 +450,7 @@ class FullDisk(OnFolder):
         row = how(keeping, "board")
         self.assertEqual((row["state"], row["instruments"], row["waits_for"], how(keeping, "radio")["state"]), ("waiting", ["scope"], [], "waiting"))
         self.assertTrue(begun - 0.4 < row["since"] < asked + 0.4)
+        self.assertRegex("\n".join(lines_of(keeping.status())), r"(?m)^scope +\(board, once that is written\) +radio$")
         _, why, told = Standings(keeping).for_whom(asks[1])
         self.assertEqual(why, "scope is board's once that is on the disk (a write failed (No space left on device))")
         self.breaks("")
@@ -515,7 +517,8 @@ class FullDisk(OnFolder):
         self.breaks("full")
         with self.assertRaisesRegex(labrun.JournalError, "No space left on device"):
             await keeping.note(session, self.owner, "5 V")
-        with self.assertRaisesRegex(labrun.JournalError, "No space left on device"):
+        ended = "^board's session is ended, but until that is written a broker that begins anew has it again, and nobody else comes to hold what it held: .*No space left on device"
+        with self.assertRaisesRegex(labrun.JournalError, ended):
             await keeping.release("board", "eve")
         self.breaks("")
         await keeping.let_go(await keeping.hold(Wish(("supply",), station="board", timeout=LIMIT), self.owner), self.owner)

@@ -17,35 +17,25 @@ from __future__ import annotations
 import argparse
 import collections
 import contextlib
-import fnmatch
 import html
 import json
 import os
-import random
 import re
 import shutil
 import signal
-import ssl
 import subprocess
 import sys
 import tempfile
-import threading
 import time
-import urllib.error
-import urllib.request
-from typing import Any, Iterator, Optional
+import urllib.parse
+from typing import Iterator
 
-from labrun_broker.etcd import Etcd, EtcdError, NoAnswer
-from labrun_broker.people import HASH, digest_of, new_token
-from tests.brokers import COMMAND, TOP
-from tests.machines import MACHINES, NET, Machine, Net, ip, until, why_not
-from tests.week_words import Sentences
-
-sys.path.insert(0, f"{TOP}/examples/broker")
-from instruments import Bay  # type: ignore[import]  # noqa: E402
+from tests.brokers import TOP
+from tests.machines import MACHINES, Machine, Net, until, why_not
 
 os.environ |= {"GRPC_VERBOSITY": "NONE", "GRPC_ENABLE_FORK_SUPPORT": "0"}
-from tests.week_life import Mornings, Operator, Seat  # noqa: E402
+from tests.week_life import Mornings, Operator  # noqa: E402
+from tests.week_seats import Seat  # noqa: E402
 from tests.week_world import DAYS, LONG, SEATS, Lab  # noqa: E402
 
 
@@ -126,12 +116,12 @@ def until_given(lab: Lab, upto: int) -> None:
 
 def everybody_can_hold_everything(lab: Lab) -> None:
     for person in lab.model.people:
-        its = lab.model.allowed(person)
-        told = lab.asks(person, "POST", "/v1/sessions?wait=30", {"instruments": its, "timeout": 30, "ticket": f"the last one of {person:24}"})
-        if told is None or told.get("state") != "holding":
+        its, ticket = lab.model.allowed(person), f"the last one of {person:24}"
+        wish = {"instruments": its, "ticket": ticket}
+        told = until(lambda: (it := lab.asks(person, "POST", "/v1/sessions?wait=30", wish)) and it.get("state") != "waiting" and it, f"{person} is answered")
+        if told.get("state") != "holding":
             lab.fault(f"{person} can't hold {len(its)} instruments: {told}")
-        else:
-            lab.asks(person, "DELETE", f"/v1/sessions/{urllib.request.quote(told['ticket'])}")  # type: ignore[attr-defined]
+        until(lambda: lab.asks(person, "DELETE", f"/v1/sessions/{urllib.parse.quote(ticket)}"), f"{person} has let go")
 
 
 def look_at_records(lab: Lab) -> None:

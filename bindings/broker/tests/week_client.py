@@ -44,8 +44,8 @@ class Worked(Exception):
 
 
 @contextlib.contextmanager
-def at_them(folder: str, plan: Plan, names: tuple[str, ...]) -> Iterator[None]:
-    """At its instruments, each of which says so if somebody else is."""
+def at_them(folder: str, plan: Plan, names: tuple[str, ...], token: int) -> Iterator[None]:
+    """At its instruments, each of which says so if somebody else is, and keeps the token of whoever was there last. (0: a test knows none.)"""
     talks = []
     try:
         for name in names:
@@ -53,17 +53,20 @@ def at_them(folder: str, plan: Plan, names: tuple[str, ...]) -> Iterator[None]:
                 talks.append(Talk(port_of(folder, name)))
             except Busy:
                 tell(what="busy", id=plan["id"], name=name)
-        for talk in talks:
-            talk.ask("ADD 1")
+                continue
+            if token and int(talks[-1].ask("READ?")) >= token:
+                tell(what="late", id=plan["id"], name=name)
+            if token:
+                talks[-1].ask(f"SET {token}")
         yield
     finally:
         for talk in talks:
             talk.__exit__()
 
 
-def works(folder: str, plan: Plan, names: tuple[str, ...], over: threading.Event, notes: Any) -> None:
+def works(folder: str, plan: Plan, names: tuple[str, ...], token: int, over: threading.Event, notes: Any) -> None:
     """What is done while it holds: it leaves the instruments before it only holds on."""
-    with at_them(folder, plan, names):
+    with at_them(folder, plan, names, token):
         over.wait(plan["work"])
         if plan["note"] and not over.is_set():
             notes(plan["note"])
@@ -91,7 +94,7 @@ def in_python(lab: labrun_broker.Lab, folder: str, plan: Plan) -> None:
     held.on_taken = taken
     with held:
         tell(what="held", id=plan["id"], station=held.station, number=held.number, instruments=held.instruments)
-        works(folder, plan, held.instruments, over, held.note)
+        works(folder, plan, held.instruments, held.token, over, held.note)
 
 
 class Refused(Exception):
@@ -161,7 +164,7 @@ def by_http(asking: Asking, folder: str, person: str, plan: Plan) -> None:
     threading.Thread(target=pings, daemon=True).start()
     failed = ""
     try:
-        works(folder, plan, tuple(it["instruments"]), over, lambda text: asking.ask("POST", f"{path}/notes", {"text": text}))
+        works(folder, plan, tuple(it["instruments"]), it["token"], over, lambda text: asking.ask("POST", f"{path}/notes", {"text": text}))
     except Worked as fault:
         failed = f"?failed={urllib.parse.quote(str(fault))}"
     finally:

@@ -23,7 +23,7 @@ class Sentences:
             (re.compile(r"(?<![\w*-])(?:" + "|".join(map(re.escape, its)) + r")(?![\w-])"), "INSTRUMENT"),
             (re.compile(r"\b(?:" + "|".join(map(re.escape, people)) + r")\b"), "PERSON"),
             (re.compile(r"\d{4}-\d\d-\d\d \d\d:\d\d"), "MOMENT"),
-            (re.compile(rf"\b{SPAN}(?!\w)"), "SPAN"),
+            (re.compile(rf"\b{SPAN}(?!\w)|\b\d+\.\d+s\b"), "SPAN"),
             (re.compile(r"\b\d+(?:\.\d+)?\b"), "N"),
             (re.compile(r"PERSON@[^\s),:|]+"), "WHO"),
             (re.compile(r"PERSON: WHO|WHO"), "WHO"),

@@ -6,26 +6,23 @@ import argparse
 import collections
 import contextlib
 import fnmatch
+import http.client
 import json
 import os
-import random
-import re
-import shutil
-import signal
+import socket
 import ssl
 import subprocess
 import sys
-import tempfile
 import threading
 import time
 import urllib.error
 import urllib.request
-from typing import Any, Iterator, Optional
+from typing import Any, Optional
 
 from labrun_broker.etcd import Etcd, EtcdError, NoAnswer
 from labrun_broker.people import HASH, digest_of, new_token
 from tests.brokers import COMMAND, TOP
-from tests.machines import MACHINES, NET, Machine, Net, ip, until, why_not
+from tests.machines import MACHINES, NET, Machine, Net, until
 from tests.week_words import Sentences
 
 sys.path.insert(0, f"{TOP}/examples/broker")
@@ -41,7 +38,7 @@ PEOPLE = [*OPERATORS, *"dan eva finn gita hal ida jon kim leo mia ned olga pia q
 PEOPLE += "abel bea carl dora emil fay gus hana ivan jill kurt lena milo nora".split()
 STUDENTS, NIGHT = PEOPLE[20:28], PEOPLE[28:32]
 MAY = {"hana": ["scope-*", "meter-*"], "ivan": ["load-*"], "jill": ["tag:precise"], "kurt": ["camera-*", "probe-*"]}
-SEATS, DAYS, GRACE, UID, USERS, GROUP = 20, 7, 20, 5000, "users", 100
+SEATS, DAYS, GRACE, UID, USERS, GROUP = 28, 7, 20, 5000, "users", 100
 LONG = 240.0
 SHELL = r"""
 declare -A port; while read -r name at; do port[$name]=$at; done < "$1/ports"
@@ -50,7 +47,8 @@ at=()
 for name in $LABRUN_HELD; do
     exec {one}<>"/dev/tcp/127.0.0.1/${port[$name]}"
     read -r -t 60 word <&$one; [ "$word" = READY ] || echo "busy $name"
-    echo "ADD 1" >&$one; read -r -t 60 word <&$one; at+=($one)
+    echo "READ?" >&$one; read -r -t 60 word <&$one; [ "$word" -lt "$LABRUN_TOKEN" ] || echo "late $name"
+    echo "SET $LABRUN_TOKEN" >&$one; read -r -t 60 word <&$one; at+=($one)
 done
 read -r -t "$2"
 for one in "${at[@]}"; do echo BYE >&$one; read -r -t 60 word <&$one; exec {one}>&-; done
@@ -130,6 +128,36 @@ def uid_of(person: str) -> int:
     return UID + PEOPLE.index(person)
 
 
+class Listening:
+    """When no broker listened: none leads, or the machine is slow. Of such moments it is no fault that somebody doesn't reach one."""
+
+    def __init__(self) -> None:
+        self._at, self._last, self._silent = 1, time.monotonic(), collections.deque[tuple[float, float]](maxlen=1000)
+        threading.Thread(target=self._looks, daemon=True).start()
+
+    def _looks(self) -> None:
+        while True:
+            others = [it for it in range(1, MACHINES + 1) if it != self._at]
+            found = next((it for it in (self._at, *others) if self._listens(it)), 0)
+            now = time.monotonic()
+            if not found or now > self._last + 2.0:
+                self._silent.append((self._last, now))
+            self._at, self._last = found or self._at, now
+            time.sleep(0.2)
+
+    @staticmethod
+    def _listens(at: int) -> bool:
+        try:
+            with socket.create_connection((f"{NET}.{at}", 7443), timeout=1.0):
+                return True
+        except OSError:
+            return False
+
+    def silent_since(self, moment: float) -> float:
+        """For how many seconds, in all, nobody has listened since then."""
+        return sum(end - max(begin, moment) for begin, end in list(self._silent) if end > moment)
+
+
 class Lab:
     """The machines, the instruments, and what is known of all programs."""
 
@@ -151,13 +179,15 @@ class Lab:
         self.by_web = ",".join(f"{NET}.{it}:7444" for it in range(1, MACHINES + 1))
         self.tls = ssl.create_default_context(cafile=f"{folder}/certificate")
         self.etcd = Etcd([f"{NET}.{it}:2379" for it in range(1, MACHINES + 1)])
-        self.lock = threading.Lock()
+        self.lock, self.listening = threading.Lock(), Listening()
         self.outcomes = collections.Counter[str]()
         self.faults = list[str]()
         self.told, self.over, self.released, self.idle = dict[int, str](), set[int](), set[int](), dict[int, float]()
         self.records = dict[int, bytes]()
-        # until when each instrument is out of order
-        self.out = dict[str, float]()
+        # which session each program is in, as far as it was told
+        self.at = dict[int, int]()
+        # until when each instrument is out of order, and each person was cut off
+        self.out, self.cut = dict[str, float](), dict[str, float]()
         self.given, self.given_upto, self.is_evening, self.is_done = 0, 0, True, False
 
     def more(self, at: int) -> list[str]:
@@ -182,18 +212,10 @@ class Lab:
             return None
         return self.machines[int(found[0].value.split(b":")[0].split(b".")[-1]) - 1] if found else None
 
-    def fence(self) -> int:
-        """Another number once another broker leads, or the same one again; 0 while none does."""
-        try:
-            found = list(self.etcd.all_of(b"/labrun/lab/leader"))
-        except (NoAnswer, EtcdError):
-            return 0
-        return int(found[0].create_revision) if found else 0
-
     # as somebody
 
     def began(self, person: str, words: list[str], where: str = "", **more: Any) -> subprocess.Popen[Any]:
-        env = {"PATH": os.environ["PATH"], "PYTHONPATH": ".:../python", "PYTHONDONTWRITEBYTECODE": "1", "USER": person, "LOGNAME": person}
+        env = {"PATH": os.environ["PATH"], "PYTHONPATH": ".:../python", "PYTHONDONTWRITEBYTECODE": "1", "PYTHONFAULTHANDLER": "1", "USER": person, "LOGNAME": person}
         env |= {"LABRUN_LIBRARY": os.environ["LABRUN_LIBRARY"], "LABRUN_BROKER_TOKEN_FILE": f"{self.folder}/{person}.token", "LABRUN_BROKER": where or self.addresses}
         # (by a program that becomes it: Popen's own `user` forks, and gRPC's threads are in the way of that)
         becomes = ["setpriv", "--reuid", str(uid_of(person)), "--regid", str(GROUP), "--clear-groups", "--"]
@@ -213,8 +235,16 @@ class Lab:
             self.said.add(f"labrun-broker {words[0]}", text)
         return one.returncode, out + err
 
+    def does(self, person: str, *words: str) -> tuple[int, str]:
+        """The same, and again while no broker answers, or none can write it, as when another one begins to lead. It may be done by then."""
+        end, times = time.monotonic() + LONG, 1
+        while (told := self.command(person, *words))[0] in (69, 74) and time.monotonic() < end:
+            times += 1
+            time.sleep(2)
+        return (0, told[1]) if times > 1 and told[0] == 1 else told
+
     def asks(self, person: str, method: str, path: str, body: Any = None) -> Any:
-        """By HTTP. None: nobody answers."""
+        """By HTTP. None: nobody answers, or a broker that ends."""
         with open(f"{self.folder}/{person}.token", encoding="ascii") as file:
             heads = {"Authorization": f"Bearer {file.read().strip()}"}
         for address in self.by_web.split(","):
@@ -223,8 +253,9 @@ class Lab:
                 with urllib.request.urlopen(request, timeout=40, context=self.tls) as answer:
                     return json.load(answer)
             except urllib.error.HTTPError as fault:
-                return json.load(fault)
-            except OSError:
+                if fault.code != 503:
+                    return json.load(fault)
+            except (OSError, ValueError, http.client.HTTPException):
                 pass
         return None
 

@@ -48,6 +48,12 @@ WRONG = {
     "people of a lab of whom its bays know nothing": Wrong(
         "test_bays.Changes.test_who_is_taken_out_of_the_lab_is_let_in_no_more", "labs.py", (("        return replace(bay, name=name, people=self.people, limits=self.limits)\n", "        return replace(bay, name=name, limits=self.limits)\n"),)
     ),
+    "an urgent session that is asked for as any other": Wrong(
+        "test_urgent.Order.test_who_waits_keeps_its_place", "keeping.py", ((", self.now(), wish.urgent)\n", ", self.now())\n"),)
+    ),
+    "people of whom each may ask urgently": Wrong(
+        "test_urgent.Rights.test_who_may", "rights.py", (("person not in (*bay.people.operators, *bay.people.urgent)", "person not in bay.people.of"),)
+    ),
     "a session over two bays that waits in the first while it holds in the second": Wrong(
         "test_crossing.Holds.test_it_waits_in_the_first_and_holds_nothing", "over.py", (("        for home in it.homes:\n", "        for home in reversed(it.homes):\n"),)
     ),
@@ -175,7 +181,7 @@ WRONG = {
         "test_people.Rights.test_who_may_ask_for_what", "rights.py", (("    return tuple(name for name in its if name in may)\n", "    return its\n"),)
     ),
     "people: a client says who it is": Wrong("test_people.Rights.test_who_may_ask_for_what", "people.py", (("    return f\"{person}: {by}\" if person and by and by != person else person or by\n", "    return by or person\n"),)),
-    "people: anybody ends a session": Wrong("test_people.Rights.test_another_s_session", "keeping.py", (("        rights.check_release(self.bay, person, session)\n", ""),)),
+    "people: anybody ends a session": Wrong("test_people.Rights.test_another_s_session", "ending.py", (("    rights.check_release(keeping.bay, person, session)\n", ""),)),
     "people: anybody comes with a ticket": Wrong("test_people.Rights.test_another_s_session", "keeping.py", (("            rights.check_ticket(self.bay, wish.person, held)\n", ""),)),
     "people: forgotten over a restart": Wrong("test_people.Rights.test_another_s_session", "taking_up.py", (("    session.person = it.person\n", ""),)),
     "people: a bay that is open to everybody": Wrong("test_people.Doors.test_nobody_is_left", "applying.py", (("        entrance.may_be(after)\n", "        pass\n"),)),
@@ -186,8 +192,8 @@ WRONG = {
     "people: by HTTP the user isn't looked at": Wrong("test_people.ByHttp.test_requests", "visits.py", (("            check_same(self.keeping.bay, caller.person, visit.wish.person)\n", ""),)),
     "a let-go answered and not written": Wrong(
         "test_written.OnDisk.test_a_let_go_is_written_before_it_is_answered",
-        "keeping.py",
-        (("making_safe.LET_GO)\n        self._shell.pump()\n", "making_safe.LET_GO)\n        asyncio.get_running_loop().call_later(0.1, self._shell.pump)\n"),),
+        "ending.py",
+        (("making_safe.LET_GO)\n    keeping._shell.pump()\n", "making_safe.LET_GO)\n    __import__('asyncio').get_running_loop().call_later(0.1, keeping._shell.pump)\n"),),
     ),
     "a hold told before its line is on the disk": Wrong(
         "test_disk.Disks.test_nobody_is_told_before_it_is_durable",
@@ -206,7 +212,7 @@ WRONG = {
         (("while (session := self._by_key.get(key)) is not None:", "while (session := self._by_key.get(key) or next(iter(self._by_key.values()), None)) is not None:"),),
     ),
     "a release of whatever the station holds by now": Wrong(
-        "test_keeping.Gone.test_released_by_an_operator", "keeping.py", (("if number and session.number != number:", "if number and session.number < number:"),)
+        "test_keeping.Gone.test_released_by_an_operator", "ending.py", (("if number and session.number != number:", "if number and session.number < number:"),)
     ),
     "a leader that doesn't look whether it still leads": Wrong(
         "test_replica.Deposed.test_it_grants_nothing", "leading.py", (("[is_of(self.key, self.fence)], what,", "[], what,"),)
@@ -216,7 +222,7 @@ WRONG = {
     ),
     "a fault without a fence": Wrong("test_replica.Deposed.test_nor_refuses", "settling.py", (("            await keeping.settling.answers()\n", ""),)),
     "a let-go that etcd doesn't have": Wrong(
-        "test_replica.Deposed.test_nor_lets_go", "keeping.py", (("        await self.settling.kept()\n", ""),)
+        "test_replica.Deposed.test_nor_lets_go", "ending.py", (("    await keeping.settling.kept()\n", ""),)
     ),
     "taken away before it is kept": Wrong(
         "test_replica.Deposed.test_nor_takes_away", "keeping.py", (("self.settling.tells(owner.taken, text)", "owner.taken(text)"),)
@@ -242,7 +248,19 @@ WRONG = {
         (("                if self._may_lead(self._others(), says)", "                self._tells_at = None\n                if self._may_lead(self._others(), says)"),),
     ),
     "a client that is told of a broker that stands by, and not of the one that it can't speak to": Wrong(
-        "test_texts.Network.test_who_isnt_let_in_by_one_of_several", "finding.py", (("                await self._finds_why()\n", "                pass\n"),)
+        "test_texts.Network.test_who_isnt_let_in_by_one_of_several", "finding.py", ((" and await self._finds_why()", " and False"),)
+    ),
+    "a wrong certificate that is named only once nobody leads": Wrong(
+        "test_certificates.Certificates.test_a_wrong_one_is_named_at_once", "finding.py", (("return why is not None and is_for_good(why)", "return False"),)
+    ),
+    "a guard that goes by the certificate that it began with": Wrong(
+        "test_certificates.Certificates.test_a_guard_reads_it_again", "guard_command.py", (("            await lab._reads_again(args.certificate, args.token_file)\n", ""),)
+    ),
+    "a program that asks before it knows that its broker goes on": Wrong(
+        "test_stopped.Stopped.test_a_program_that_ends_meanwhile", "coming.py", (("await self._in_time(stream.is_answered())", "pass"),)
+    ),
+    "a time limit that a broker which is stopped doesn't end": Wrong(
+        "test_stopped.Stopped.test_stopped_as_it_is_asked", "stream.py", (("                    raise Silent\n", "                    pass\n"),)
     ),
     "a standby that leads by another file": Wrong(
         "test_replica.Next.test_another_bays_file", "leading.py", (("is_other = not others.applied and others.led not in (\"\", self._mark)", "is_other = False"),)

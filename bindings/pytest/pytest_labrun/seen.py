@@ -48,8 +48,12 @@ def table(sessions: Sequence[Held]) -> list[str]:
     for name in sorted(used, key=lambda name: (-waited[name], -sum(it.took for it in used[name]), name)):
         took = sum(it.took for it in used[name])
         share = f"{100 * took / span:.0f} %" if span else "-"
-        lines.append(f"{name:{wide}}  in use {took:.1f} s of {span:.1f} s ({share}), {len(used[name])} sessions, waited for {waited[name]:.1f} s")
+        lines.append(f"{name:{wide}}  in use {took:.1f} s of {span:.1f} s ({share}), {_sessions(used[name])}, waited for {waited[name]:.1f} s")
     return [*lines, _in_all(sessions)]
+
+
+def _sessions(of: Sequence[Held]) -> str:
+    return f"{len(of)} session{'' if len(of) == 1 else 's'}"
 
 
 def _in_all(sessions: Sequence[Held]) -> str:
@@ -57,9 +61,10 @@ def _in_all(sessions: Sequence[Held]) -> str:
     if not waiters:
         return "nobody waited"
     longest = max(waiters, key=lambda it: it.waited)
-    whom = ", ".join(f"{name} ({by})" for name, by in longest.kept.items()) or ", ".join(longest.instruments)
+    # (of a choice that it never got it isn't known)
+    whom = ", ".join(f"{name} ({by})" for name, by in longest.kept.items()) or ", ".join(longest.instruments) or "one of several"
     total = sum(it.waited for it in waiters)
-    return f"waited {total:.1f} s in all, {len(waiters)} of {len(sessions)} sessions; the longest {longest.waited:.1f} s: {longest.test}, for {whom}"
+    return f"waited {total:.1f} s in all, {len(waiters)} of {_sessions(sessions)}; the longest {longest.waited:.1f} s: {longest.test}, for {whom}"
 
 
 def write(config: pytest.Config, past: Past) -> None:

@@ -214,3 +214,10 @@ def test_the_table() -> None:
     ]
     assert rows(sessions)[2] == ["test_b", "gw1", "scope", "1.000", "3.000", "6.000", "done", "scope: test_a", "it was, quiet"]
     assert table(sessions[:1])[-1] == "nobody waited"
+    assert table(sessions[1:2]) == [
+        "scope  in use 6.0 s of 9.0 s (67 %), 1 session, waited for 3.0 s",
+        "waited 3.0 s in all, 1 of 1 session; the longest 3.0 s: test_b, for scope (test_a)",
+    ]
+    assert table([Held("test_e", "gw0", (), 1.0, None, 3.0, end="late")]) == [
+        "waited 2.0 s in all, 1 of 1 session; the longest 2.0 s: test_e, for one of several"
+    ]

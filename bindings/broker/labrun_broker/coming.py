@@ -1,0 +1,110 @@
+"""How a session of a client comes to hold: it asks, and asks again where a stream has ended, within its time limit whatever the broker does."""
+
+from __future__ import annotations
+
+import asyncio
+from typing import TYPE_CHECKING, Any, Coroutine, Optional
+
+from .errors import SILENT, Unreachable, is_for_good, raised
+from .stream import AGAIN, LATE, Lost, Silent, Stream
+from .work import clock
+
+if TYPE_CHECKING:
+    from .held import Held
+
+# for how long a client tries to reach a broker again that it waits for
+GRACE = 60.0
+PAUSE = 0.1  # between such tries
+MOMENT = 0.001  # what is left of a time limit that is over
+# so many pings in the time for which a session is held after one
+BEATS = 6
+
+
+class Coming:
+    """A session that asks until it holds."""
+
+    def __init__(self, held: Held) -> None:
+        self._held, self._lab, self._loop = held, held.lab, asyncio.get_running_loop()
+        self._until = None if held.timeout is None else self._loop.time() + held.timeout
+        # since when the broker can't be reached
+        self._lost_at: Optional[float] = None
+
+    async def holds(self) -> tuple[Stream, Any, float]:
+        """The stream on which it holds, what the broker said, and when that was asked."""
+        task = asyncio.current_task()
+        assert task is not None
+        self._lab._waiting.add(task)
+        try:
+            while (found := await self._tries()) is None:
+                self._lost_at = self._lost_at or self._loop.time()
+            return found
+        except asyncio.CancelledError:
+            # (it may be the lab's end that ended it)
+            self._lab._may_go_on()
+            raise
+        finally:
+            self._lab._waiting.discard(task)
+
+    async def _tries(self) -> Optional[tuple[Stream, Any, float]]:
+        """None: the stream ended, and it is worth another try."""
+        lab, wish = self._lab, self._held._wish
+        if is_new := not lab._idle:
+            await self._in_time(lab._brokers.looks())
+        stream = Stream(lab) if is_new else lab._idle.pop()
+        stream.session = self._held
+        try:
+            if is_new:
+                await self._in_time(stream.opens())
+                lab._was_there, self._lost_at = True, None
+            elif self._until is not None:
+                # (one that is stopped isn't asked: should this program end meanwhile, the wish would be read, and not that it is withdrawn)
+                await self._in_time(stream.is_answered())
+            if self._until is not None:
+                # (0 says that it never wanted to wait)
+                wish.timeout = max(MOMENT if self._held.timeout else 0.0, self._until - self._loop.time())
+            sent = clock()
+            kind, told = await stream.asks_until(self._until, wish=wish)
+            if kind == "held" and told.HasField("lease") and clock() > sent + told.lease / BEATS:
+                # (the wish is old: what was told may be, too)
+                sent = await stream.keeps(self._until)
+        except Lost as lost:
+            self._held._raises_taken()
+            # (one that was idle may be of a broker that is gone)
+            if is_new:
+                await self._pauses(lost)
+            return None
+        except Silent:
+            await stream.gives_up(0)
+            raise Unreachable(f"{self._no_answer()}. Nothing is held: the wish is withdrawn, should it go on") from None
+        except asyncio.CancelledError:
+            await stream.gives_up()
+            raise
+        except BaseException:
+            stream.cancel()
+            raise
+        if kind == "fault":
+            stream.is_idle()
+            raise raised(told)
+        return stream, told, sent
+
+    async def _in_time(self, work: Coroutine[Any, Any, None]) -> None:
+        """Before anything is asked."""
+        try:
+            async with asyncio.timeout_at(None if self._until is None else self._until + 2 * LATE):
+                await work
+        except TimeoutError:
+            raise Unreachable(self._no_answer()) from None
+
+    def _no_answer(self) -> str:
+        return f"the broker at {self._lab.address} doesn't answer {SILENT}"
+
+    async def _pauses(self, lost: Lost) -> None:
+        """Before the next try, if it is worth one."""
+        lab, now = self._lab, self._loop.time()
+        patience = GRACE if lab._was_there else lab._brokers.patience
+        is_over = self._lost_at is not None and now > self._lost_at + patience or self._until is not None and now > self._until
+        if lost.code not in AGAIN or is_for_good(str(lost)) or not patience or is_over:
+            raise lab._why_lost(lost.code, str(lost)) from None
+        if self._lost_at is None and lab._brokers.is_list:
+            self._held._waits_for(f"no broker of {lab.address} answers")
+        await asyncio.sleep(PAUSE)

@@ -1,0 +1,48 @@
+"""Where the broker is, who asks it, and by which files: what a client needs before it asks."""
+
+from __future__ import annotations
+
+import os
+import socket
+from typing import Optional
+
+DEFAULT = "unix:/run/labrun/bay.sock"
+# where a client's own token is, if nothing else says it. ($LABRUN_TOKEN is the number of a session)
+TOKEN_FILE, CERTIFICATE_FILE = "LABRUN_BROKER_TOKEN_FILE", "LABRUN_BROKER_CERTIFICATE_FILE"
+
+
+def user() -> str:
+    """As ann@bench-3."""
+    import getpass
+
+    try:
+        name = getpass.getuser()
+    except (KeyError, OSError):
+        name = str(os.getuid())
+    return f"{name}@{socket.gethostname()}"
+
+
+def token_in(path: Optional[str]) -> Optional[str]:
+    """The token in a file, or in that which LABRUN_BROKER_TOKEN_FILE names; None: there is none. OSError; BadWish: no token is in it."""
+    if not (path := path or os.environ.get(TOKEN_FILE)):
+        return None
+    with open(path, encoding="ascii", errors="replace") as file:
+        token = file.read().strip()
+    if not is_token(token):
+        from .errors import BadWish
+
+        raise BadWish(f"{path}: a token is one line of letters, digits and signs, and this file {'has something else' if token else 'is empty'}")
+    return token
+
+
+def certificate_in(path: Optional[str]) -> Optional[bytes]:
+    """What is in the file of a certificate, or in that which LABRUN_BROKER_CERTIFICATE_FILE names; None: there is none. OSError."""
+    if not (path := path or os.environ.get(CERTIFICATE_FILE)):
+        return None
+    with open(path, "rb") as file:
+        return file.read()
+
+
+def is_token(text: str) -> bool:
+    """(Of anything else gRPC would make no header, and say it.)"""
+    return bool(text) and all(" " <= it <= "~" for it in text)

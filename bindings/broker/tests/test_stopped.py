@@ -1,0 +1,138 @@
+"""A broker that is stopped, as it were by SIGSTOP: what its clients in Python are told, when, and that nothing is held once it goes on."""
+
+import contextlib
+import os
+import signal
+import subprocess
+import sys
+import threading
+import unittest
+from unittest import mock
+
+import labrun_broker
+from labrun_broker import client, stream
+from tests.brokers import BAY, LIMIT, Broker, OnBroker, stopped, until
+
+RELEASES = 'gone = "release"\n' + BAY
+TOLD = r"the broker at .* doesn't answer \(it is stopped, or the network is cut\)"
+# it asks, and ends while the broker is stopped
+PROGRAM = """
+import os, signal, sys, labrun_broker
+from tests.brokers import is_stopped
+with labrun_broker.connect(sys.argv[1]) as lab:
+    with lab.hold("supply"):
+        pass
+    os.kill(int(sys.argv[2]), signal.SIGSTOP)
+    while not is_stopped(int(sys.argv[2])):
+        pass
+    try:
+        lab.hold("scope", timeout=0).acquire()
+    except labrun_broker.Unreachable as fault:
+        print(fault)
+"""
+# each wish is answered ten seconds late, and whatever else at once
+LATE = """
+import asyncio, sys
+from labrun_broker import command, service
+holds = service.Client._holds
+async def late(it, *wish):
+    await asyncio.sleep(10)
+    await holds(it, *wish)
+service.Client._holds = late
+sys.exit(command.main())
+"""
+
+
+class Stopped(OnBroker):
+    def setUp(self) -> None:
+        # (gRPC itself finds out nothing)
+        long = [(name, value if "ms" not in name else int(LIMIT * 10000)) for name, value in client.OPTIONS]
+        self.enterContext(mock.patch.object(client, "OPTIONS", long))
+
+    def ends(self, lab: labrun_broker.Lab, timeout: float) -> str:
+        """How an ask does."""
+        ends = list[str]()
+
+        def asks() -> None:
+            try:
+                lab.hold("scope", timeout=timeout).acquire()
+                ends.append("it holds")
+            except labrun_broker.Unreachable as fault:
+                ends.append(str(fault))
+
+        thread = threading.Thread(target=asks, daemon=True)
+        thread.start()
+        thread.join(LIMIT)
+        self.assertEqual(len(ends), 1, "it ends")
+        return ends[0]
+
+    def left(self, broker: Broker) -> set[str]:
+        """The sessions that asked and didn't end, by the records."""
+        with open(f"{broker.folder}/state/records.jsonl", encoding="utf-8") as file:
+            told = [(line.partition('"what":"')[2].partition('"')[0], line.partition('"session":')[2].partition(",")[0]) for line in file]
+        self.assertNotIn("gone", [what for what, _ in told])
+        return {of for what, of in told if what == "asked"} - {of for what, of in told if what in ("let_go", "gave_up")}
+
+    def test_a_time_limit_is_kept(self) -> None:
+        """Also by a program that has held before; and nothing is held once the broker goes on."""
+        for bay in (BAY, RELEASES):
+            for has_held, timeout in ((True, 0), (True, 0.5), (False, 0.5)):
+                with self.subTest(bay, has_held=has_held, timeout=timeout):
+                    broker = self.broker(bay, "--state", "FOLDER/state")
+                    lab = self.lab(broker)
+                    if has_held:
+                        with lab.hold("scope", timeout=LIMIT):
+                            pass
+                    with stopped(broker):
+                        self.assertRegex(self.ends(lab, timeout), f"{TOLD}$")
+                    with lab.hold("scope", timeout=LIMIT):
+                        pass
+                    until(lambda: not self.left(broker), "that nothing is left")
+
+    def test_stopped_as_it_is_asked(self) -> None:
+        """The ask is withdrawn."""
+        for words in ((), ("--grace", "1")):
+            with self.subTest(words), contextlib.ExitStack() as ends:
+                broker = self.broker(RELEASES if words else BAY, "--state", "FOLDER/state", *words)
+                lab, asks = self.lab(broker), stream.Stream.asks
+
+                async def stops(it: stream.Stream, **what: object) -> object:
+                    if "wish" in what:
+                        ends.enter_context(stopped(broker))
+                    return await asks(it, **what)
+
+                with mock.patch.object(stream.Stream, "asks", stops):
+                    self.assertRegex(self.ends(lab, 0.2), rf"{TOLD}\. Nothing is held: the wish is withdrawn")
+                ends.close()
+                until(lambda: not lab._leaving, "that it has left")
+                with lab.hold("scope", timeout=LIMIT):
+                    pass
+                until(lambda: not self.left(broker), "that nothing is left")
+
+    def test_a_program_that_ends_meanwhile(self) -> None:
+        for words in ((), ("--state", "FOLDER/state")):
+            with self.subTest(words):
+                broker = self.broker(BAY, *words)
+                assert broker.process is not None
+                try:
+                    done = subprocess.run([sys.executable, "-c", PROGRAM, broker.address, str(broker.process.pid)], capture_output=True, text=True, timeout=LIMIT)
+                finally:
+                    os.kill(broker.process.pid, signal.SIGCONT)
+                self.assertRegex(done.stdout, TOLD)
+                lab = self.lab(broker)
+                with lab.hold("scope", timeout=LIMIT):
+                    pass
+                until(lambda: all(it["state"] == "idle" for it in lab.status()["stations"]), "that all are idle")
+
+    def test_one_that_answers_late(self) -> None:
+        """While it says that it is there, its own answer is awaited."""
+        self.enterContext(mock.patch.object(stream, "LATE", 4.0))
+        broker = self.broker()
+        broker.end()
+        broker.command = [sys.executable, "-c", LATE]
+        broker.begin()
+        self.assertEqual(self.ends(self.lab(broker), 0), "it holds")
+
+
+if __name__ == "__main__":
+    unittest.main()
