@@ -133,7 +133,7 @@ class Crossing(Session):
         self._bays.tasks.add(task)
         task.add_done_callback(self._bays.tasks.discard)
         # (if nobody waits any more, nobody is told why it couldn't be written)
-        task.add_done_callback(asyncio.Future.exception)
+        task.add_done_callback(lambda it: it.cancelled() or it.exception())
         await asyncio.shield(task)
 
     async def _lets_go(self, failed: Optional[str]) -> None:

@@ -26,9 +26,9 @@ class OnLab(unittest.TestCase):
         written(self.folder)
         self.port = free_port()
 
-    def broker(self, *words: str) -> OfLab:
+    def broker(self, *words: str, command: list[str] = COMMAND) -> OfLab:
         # (bay.toml is the lab's file here)
-        one = OfLab(self.folder, LAB, ("--state", f"{self.folder}/state", *words))
+        one = OfLab(self.folder, LAB, ("--state", f"{self.folder}/state", *words), command)
         self.addCleanup(one.ends)
         return one
 

@@ -4,14 +4,16 @@ from __future__ import annotations
 
 import concurrent.futures
 import random
+import shutil
 import signal
+import sys
 import threading
 import unittest
 from typing import Any
 
 import labrun_broker
 from tests.asking import Asking
-from tests.brokers import LIMIT, free_port, until
+from tests.brokers import COMMAND, LIMIT, free_port, until
 from tests.test_bays_doors import OfLab, OnLab
 
 
@@ -97,6 +99,26 @@ class Doors(OnCrossings):
             until(lambda: not self.holders(at))
 
 
+# a broker that is killed behind a write to one of its journals, by its number
+DIES = """
+import os, signal, sys
+from labrun import store
+from labrun_broker.command import main
+
+left, write = int(sys.argv.pop(1)), store.FileStore.write
+
+def writes(self, text):
+    global left
+    write(self, text)
+    left -= b" bay " not in text  # (each begins with that)
+    if not left:
+        os.kill(os.getpid(), signal.SIGKILL)
+
+store.FileStore.write = writes
+sys.exit(main())
+"""
+
+
 class Killed(OnCrossings):
     def test_while_one_waits_in_the_second(self) -> None:
         """Its client asks again; once that is gone, too, nothing is held of it."""
@@ -124,6 +146,31 @@ class Killed(OnCrossings):
             self.assertEqual(set(self.holders(at)), {"scope", "oven"})
             held.release()
             until(lambda: not self.holders(at), "both are free")
+
+    def test_at_each_write_to_a_journal(self) -> None:
+        """Its client dies, too: what the next broker finds is the whole session, or nothing of it."""
+        found = list[set[str]]()
+        for count in range(1, 20):
+            # (a new journal, to which only its head is written before somebody comes)
+            shutil.rmtree(f"{self.folder}/state", ignore_errors=True)
+            at = self.broker(command=[sys.executable, "-c", DIES, str(count)])
+            client = at.started("hold", "scope", "oven", "--", "true")
+            until(lambda: client.poll() is not None or at.process and at.process.poll() is not None, "one of them has ended")  # noqa: B023
+            assert at.process is not None
+            if at.process.poll() is None:
+                client.communicate(timeout=LIMIT)
+                break
+            client.kill()
+            client.communicate(timeout=LIMIT)
+            at.command = COMMAND
+            at.begin()
+            found.append(set(self.holders(at))); import time; print(count, found, time.time(), flush=True)
+            for name in found[-1] and ["guest-1"]:
+                self.assertIn("guest-1's session is ended; it held scope oven", self.ran(at, "release", name))
+            until(lambda: not self.holders(at), "nothing is left")  # noqa: B023
+            at.end()
+        self.assertGreater(len(found), 3, "it was killed at some writes")
+        self.assertEqual({frozenset(it) for it in found}, {frozenset(), frozenset({"scope", "oven"})})
 
     def test_at_any_moment(self) -> None:
         """Clients ask, hold and let go all the time, while the broker is killed: whoever is told holds alone, and at the end nothing is left."""
