@@ -236,7 +236,7 @@ class Standings:
         if its["keeps_place"]:
             first = "it is urgent" if its["urgent"] else "an urgent one asked after it"
         text = f"{self._name(bit)} is kept for {other.name} until it holds, since {first}"
-        return text + (f" and it waits for {' and '.join(ends)}" if (ends := self._ends(other)) else "")
+        return text + (f" and it waits for {', and '.join(ends)}" if (ends := self._ends(other)) else "")
 
     def _ends(self, other: Session) -> list[str]:
         """What keeps one waiting, told of each instrument: who holds it; or, if nobody holds any, for whom it is kept."""

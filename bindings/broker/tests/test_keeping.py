@@ -149,7 +149,7 @@ class Sessions(OnKeeping):
         third = await self.asks(keeping, "supply")
         text = how(keeping, "guest-3")["waits_for"][0]["text"]
         held = r"held by (radio|guest-1) for \d+\.\d s"
-        self.assertRegex(text, f"^supply is kept for guest-2 until it holds, since it asked first and it waits for scope, {held} and load-1, {held}$")
+        self.assertRegex(text, f"^supply is kept for guest-2 until it holds, since it asked first and it waits for scope, {held}, and load-1, {held}$")
         for it in (radio, first):
             await keeping.let_go(it, self.owner)
         for one in (second, third):
