@@ -164,7 +164,7 @@ class Killed(OnCrossings):
             client.communicate(timeout=LIMIT)
             at.command = COMMAND
             at.begin()
-            found.append(set(self.holders(at))); import time; print(count, found, time.time(), flush=True)
+            found.append(set(self.holders(at)))
             for name in found[-1] and ["guest-1"]:
                 self.assertIn("guest-1's session is ended; it held scope oven", self.ran(at, "release", name))
             until(lambda: not self.holders(at), "nothing is left")  # noqa: B023

@@ -209,7 +209,7 @@ WRONG = {
     "a ticket of another": Wrong(
         "test_keeping.Gone.test_a_ticket_of_another",
         "keeping.py",
-        (("while (session := self._by_key.get(key)) is not None:", "while (session := self._by_key.get(key) or next(iter(self._by_key.values()), None)) is not None:"),),
+        (("            held = self._by_key.get(key)\n", "            held = self._by_key.get(key) or next(iter(self._by_key.values()), None)\n"),),
     ),
     "a release of whatever the station holds by now": Wrong(
         "test_keeping.Gone.test_released_by_an_operator", "ending.py", (("if number and session.number != number:", "if number and session.number < number:"),)
