@@ -9,7 +9,6 @@ import fnmatch
 import http.client
 import json
 import os
-import socket
 import ssl
 import subprocess
 import sys
@@ -129,18 +128,18 @@ def uid_of(person: str) -> int:
 
 
 class Listening:
-    """When no broker listened, or etcd answered late: none leads, or the machine is slow. Of such moments it is no fault that somebody doesn't reach
+    """When no broker answered in time, or etcd didn't: none leads, or the machine is slow. Of such moments it is no fault that somebody doesn't reach
     one, nor hears from it."""
 
-    def __init__(self, etcd: Etcd) -> None:
-        self._etcd, self._at, self._last = etcd, 1, time.monotonic()
+    def __init__(self, etcd: Etcd, tls: ssl.SSLContext) -> None:
+        self._etcd, self._tls, self._at, self._last = etcd, tls, 1, time.monotonic()
         self._silent = collections.deque[tuple[float, float]](maxlen=1000)
         threading.Thread(target=self._looks, daemon=True).start()
 
     def _looks(self) -> None:
         while True:
             others = [it for it in range(1, MACHINES + 1) if it != self._at]
-            found = next((it for it in (self._at, *others) if self._listens(it)), 0)
+            found = next((it for it in (self._at, *others) if self._answers(it)), 0)
             try:
                 list(self._etcd.all_of(b"/labrun/lab/leader"))
             except (NoAnswer, EtcdError):
@@ -149,14 +148,16 @@ class Listening:
             if not found or now > self._last + LATE:
                 self._silent.append((self._last, now))
             self._at, self._last = found or self._at, now
-            time.sleep(0.2)
+            time.sleep(0.5)
 
-    @staticmethod
-    def _listens(at: int) -> bool:
+    def _answers(self, at: int) -> bool:
+        """(Whoever brings no token is told so.)"""
         try:
-            with socket.create_connection((f"{NET}.{at}", 7443), timeout=1.0):
+            with urllib.request.urlopen(f"https://{NET}.{at}:7444/v1/status", timeout=LATE, context=self._tls):
                 return True
-        except OSError:
+        except urllib.error.HTTPError:
+            return True
+        except (OSError, http.client.HTTPException):
             return False
 
     def silent_since(self, moment: float) -> float:
@@ -187,7 +188,7 @@ class Lab:
         self.by_web = ",".join(f"{NET}.{it}:7444" for it in range(1, MACHINES + 1))
         self.tls = ssl.create_default_context(cafile=f"{folder}/certificate")
         self.etcd = Etcd([f"{NET}.{it}:2379" for it in range(1, MACHINES + 1)])
-        self.lock, self.listening = threading.Lock(), Listening(self.etcd)
+        self.lock, self.listening = threading.Lock(), Listening(self.etcd, self.tls)
         self.outcomes = collections.Counter[str]()
         self.faults = list[str]()
         self.told, self.over, self.released, self.idle = dict[int, str](), set[int](), set[int](), dict[int, float]()
