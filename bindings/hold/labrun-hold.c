@@ -907,6 +907,7 @@ static int lets_go(int ended) {
         if (found < 0 && now() > began + AWAY) {
             say("the command ran, and ended with status %d, but:", ended);
             say("the broker at unix:%s can't be reached", path);
+            say("the session may go on holding, as `labrun-broker status` says");
             found = UNREACHABLE;
         }
     }

@@ -29,6 +29,7 @@ ENVIRONMENT = dict(os.environ)
 Waits = Optional[Callable[[str], None]]
 Result = TypeVar("Result")
 STARTING = 5.0  # seconds that a broker may take to begin
+MAY_HOLD = "the session may go on holding, as `labrun-broker status` says"
 # after so many without a first word it is said that none came; and who waits hears from a broker each minute
 SILENCE, MINUTE = 6.0, 80.0
 
@@ -100,8 +101,10 @@ def lets_go(held: Union[Quick, Held], status: int, signals: Signals, ends: conte
         ends.pop_all()
         if not isinstance(fault, GivenUp):
             say(f"the command ran, and ended with status {status}, but:")
+            if isinstance(fault, ConnectionError):
+                raise type(fault)(f"{fault}\n{MAY_HOLD}") from None
             raise
-        say("the broker wasn't told, as far as is known here: the session may go on holding, as `labrun-broker status` says")
+        say(f"the broker wasn't told, as far as is known here: {MAY_HOLD}")
 
 
 class Silence:

@@ -199,7 +199,7 @@ class Quick(OnBroker):
             done = subprocess.run([sys.executable, "-c", script, *words], capture_output=True, text=True, timeout=LIMIT)
             self.assertEqual((done.returncode, done.stdout), (69, ""), done.stderr)
             self.assertIn("labrun-broker: the command ran, and ended with status 5, but:\nlabrun-broker: the broker at unix:", done.stderr)
-            self.assertIn("can't be reached", done.stderr)
+            self.assertRegex(done.stderr, r"can't be reached: .*\nlabrun-broker: the session may go on holding, as `labrun-broker status` says\n$")
             broker.end()
             broker.begin()
             self.assertEqual(broker.ran("release", "guest-1").returncode, 0)

@@ -137,7 +137,7 @@ class Mornings:
 
     def _applies(self, changes: Callable[[Model], None], may_fail: bool = False) -> bool:
         """Whether it came to be: somebody may be in the way for a while."""
-        lab, end = self.lab, time.monotonic() + LONG
+        lab, end = self.lab, time.monotonic() + 4 * LONG
         while True:
             after = copy.deepcopy(lab.model)
             after.was_out, after.past, after.revoked = lab.model.was_out, lab.model.past, lab.model.revoked

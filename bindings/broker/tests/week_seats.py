@@ -96,12 +96,13 @@ class Seat:
 
     def _was_slow(self, plan: Plan, outcome: str, begun: float) -> bool:
         """Whether it is so because no broker listened for a while, or another seat's program of this person was cut off: a new client tries for 20 s
-        to reach a broker, and one that was there before for 60; who has a time limit no longer than that, also if the broker only doesn't answer; and
-        labrun-hold asks at one machine alone."""
+        to reach a broker, and one that was there before for 60; who has a time limit no longer than that, also if the broker only doesn't answer;
+        labrun-hold asks at one machine alone; and a note waits for ten seconds until it is written."""
         silent = self.lab.listening.silent_since(begun)
         was_away = silent > 0.0 or self.lab.cut.get(self.person, 0.0) > begun
         if outcome in ("Unreachable", "AnswerLost", "JournalError", "nobody answers"):
-            return plan["timeout"] is not None or (was_away if plan["kind"] == "labrun-hold" else silent > 15.0)
+            is_soon = plan["kind"] == "labrun-hold" or outcome == "JournalError"
+            return plan["timeout"] is not None or (was_away if is_soon else silent > 15.0)
         return outcome == "TakenAway" and is_loads(plan) and was_away
 
     def _reads(self, one: subprocess.Popen[Any], events: queue.Queue[Plan], out: Optional[list[str]] = None) -> None:

@@ -9,7 +9,6 @@ import fnmatch
 import http.client
 import json
 import os
-import socket
 import ssl
 import subprocess
 import sys
@@ -39,7 +38,7 @@ PEOPLE += "abel bea carl dora emil fay gus hana ivan jill kurt lena milo nora".s
 STUDENTS, NIGHT = PEOPLE[20:28], PEOPLE[28:32]
 MAY = {"hana": ["scope-*", "meter-*"], "ivan": ["load-*"], "jill": ["tag:precise"], "kurt": ["camera-*", "probe-*"]}
 SEATS, DAYS, GRACE, UID, USERS, GROUP = 28, 7, 20, 5000, "users", 100
-LONG = 240.0
+LONG, LATE = 240.0, 2.0
 SHELL = r"""
 declare -A port; while read -r name at; do port[$name]=$at; done < "$1/ports"
 echo "held $LABRUN_TOKEN $LABRUN_STATION $LABRUN_HELD"
@@ -129,33 +128,43 @@ def uid_of(person: str) -> int:
 
 
 class Listening:
-    """When no broker listened: none leads, or the machine is slow. Of such moments it is no fault that somebody doesn't reach one."""
+    """When no broker answered in time, or etcd didn't: none leads, or the machine is slow. Of such moments it is no fault that somebody doesn't reach
+    one, nor hears from it."""
 
-    def __init__(self) -> None:
-        self._at, self._last, self._silent = 1, time.monotonic(), collections.deque[tuple[float, float]](maxlen=1000)
+    def __init__(self, etcd: Etcd, tls: ssl.SSLContext) -> None:
+        self._etcd, self._tls, self._at, self._last = etcd, tls, 1, time.monotonic()
+        self._silent = collections.deque[tuple[float, float]](maxlen=1000)
         threading.Thread(target=self._looks, daemon=True).start()
 
     def _looks(self) -> None:
         while True:
             others = [it for it in range(1, MACHINES + 1) if it != self._at]
-            found = next((it for it in (self._at, *others) if self._listens(it)), 0)
+            found = next((it for it in (self._at, *others) if self._answers(it)), 0)
+            try:
+                list(self._etcd.all_of(b"/labrun/lab/leader"))
+            except (NoAnswer, EtcdError):
+                found = 0
             now = time.monotonic()
-            if not found or now > self._last + 2.0:
+            if not found or now > self._last + LATE:
                 self._silent.append((self._last, now))
             self._at, self._last = found or self._at, now
-            time.sleep(0.2)
+            time.sleep(0.5)
 
-    @staticmethod
-    def _listens(at: int) -> bool:
+    def _answers(self, at: int) -> bool:
+        """(Whoever brings no token is told so.)"""
         try:
-            with socket.create_connection((f"{NET}.{at}", 7443), timeout=1.0):
+            with urllib.request.urlopen(f"https://{NET}.{at}:7444/v1/status", timeout=LATE, context=self._tls):
                 return True
-        except OSError:
+        except urllib.error.HTTPError:
+            return True
+        except (OSError, http.client.HTTPException):
             return False
 
     def silent_since(self, moment: float) -> float:
         """For how many seconds, in all, nobody has listened since then."""
-        return sum(end - max(begin, moment) for begin, end in list(self._silent) if end > moment)
+        now, last = time.monotonic(), self._last
+        its = [*self._silent, *([(last, now)] if now > last + LATE else [])]
+        return sum(end - max(begin, moment) for begin, end in its if end > moment)
 
 
 class Lab:
@@ -179,7 +188,7 @@ class Lab:
         self.by_web = ",".join(f"{NET}.{it}:7444" for it in range(1, MACHINES + 1))
         self.tls = ssl.create_default_context(cafile=f"{folder}/certificate")
         self.etcd = Etcd([f"{NET}.{it}:2379" for it in range(1, MACHINES + 1)])
-        self.lock, self.listening = threading.Lock(), Listening()
+        self.lock, self.listening = threading.Lock(), Listening(self.etcd, self.tls)
         self.outcomes = collections.Counter[str]()
         self.faults = list[str]()
         self.told, self.over, self.released, self.idle = dict[int, str](), set[int](), set[int](), dict[int, float]()
