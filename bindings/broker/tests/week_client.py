@@ -66,7 +66,7 @@ def at_them(folder: str, plan: Plan, names: tuple[str, ...], token: int) -> Iter
 
 def works(folder: str, plan: Plan, names: tuple[str, ...], token: int, over: threading.Event, notes: Any) -> None:
     """What is done while it holds: it leaves the instruments before it only holds on."""
-    with at_them(folder, plan, names, token):
+    with at_them(folder, plan, () if plan["is_away"] else names, token):
         over.wait(plan["work"])
         if plan["note"] and not over.is_set():
             notes(plan["note"])

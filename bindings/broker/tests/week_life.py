@@ -100,7 +100,11 @@ class Operator:
         found = re.search(r"@\S+ (\d+) ", f"{one['by']} ")
         if since < 1 or not found:
             return False
-        return one["session"] in self.lab.over or not left_in(int(found[1])) or since > AWAY and self.lab.at.get(int(found[1])) != one["session"]
+        if one["session"] in self.lab.over or not left_in(int(found[1])):
+            return True
+        # (the other kinds don't say which session they are in)
+        tells = one["by"].endswith(("week_client.py", "urllib"))
+        return tells and since > AWAY and self.lab.at.get(int(found[1])) != one["session"]
 
     def _tries(self, status: dict[str, Any]) -> None:
         """What only operators may, by somebody else; and what nobody can."""

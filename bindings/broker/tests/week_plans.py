@@ -20,7 +20,7 @@ def is_loads(plan: Plan) -> bool:
 def planned(chance: random.Random, model: Model, person: str, number: int) -> Plan:
     its, kind = model.allowed(person), chance.choices(list(KINDS), list(KINDS.values()))[0]
     plan: Plan = {"id": number, "kind": kind, "words": [], "any_of": [], "station": "", "timeout": None, "limit": None, "work": chance.random() ** 3 * 1.5}
-    plan |= {"idle": 0.0, "note": "V = 5.003" if chance.random() < 0.3 else None, "fails": chance.random() < 0.01, "expected": {"done"}}
+    plan |= {"is_away": False, "idle": 0.0, "note": "V = 5.003" if chance.random() < 0.3 else None, "fails": chance.random() < 0.01, "expected": {"done"}}
     _what(chance, model, plan, its)
     if chance.random() < 0.15:
         plan["timeout"] = chance.choice([0.0, 0.3, 1.0, 3.0])
@@ -29,8 +29,8 @@ def planned(chance: random.Random, model: Model, person: str, number: int) -> Pl
     # (labrun-hold asks at a Unix socket; a test is told that its session is over, and goes on)
     fate = "" if (fate, kind) in (("cut", "labrun-hold"), ("released", "pytest")) else fate
     if fate == "overstays" and kind not in ("labrun-hold", "pytest"):
-        # (it is away from them before it is taken away, also on a machine that is busy)
-        plan |= {"limit": chance.choice([4.0, 5.0]), "idle": 10.0, "work": 0.0}
+        # (it isn't at its instruments at all: on a machine that is busy it would be, when it is taken away, and the next one is told to hold)
+        plan |= {"is_away": True, "limit": chance.choice([4.0, 5.0]), "idle": 10.0, "work": 0.0}
         plan["expected"].add("TakenAway")
     elif fate == "overstays":
         plan["idle"] = 3.0

@@ -149,7 +149,7 @@ class Seat:
         """Its words, and at which socket it asks if it doesn't ask at all machines."""
         lab = self.lab
         if plan["kind"] == "pytest":
-            given = {key: plan[key] for key in ("id", "words", "work", "idle", "note", "fails")} | {"any_of": [it for it, in plan["any_of"]]}
+            given = {key: plan[key] for key in ("id", "words", "work", "idle", "note", "fails", "is_away")} | {"any_of": [it for it, in plan["any_of"]]}
             words = ["env", "PYTHONPATH=.:../python:../pytest", f"LABRUN_BROKER_CERTIFICATE_FILE={lab.folder}/certificate", f"WEEK_FOLDER={lab.folder}"]
             words += [f"WEEK_PLAN={json.dumps(given)}", "/usr/bin/python3", "-m", "pytest", "-q", "-s", "-p", "no:cacheprovider", "-p", "pytest_labrun.plugin"]
             words += ["--lab-broker", lab.addresses, *([] if plan["timeout"] is None else ["--lab-timeout", str(plan["timeout"])]), "tests/week_test.py"]
@@ -158,7 +158,7 @@ class Seat:
         for key in ("timeout", "station", "limit"):
             if plan[key] not in (None, ""):
                 words += [f"--{key}", str(plan[key])]
-        words += ["--", "bash", "-c", SHELL, "measure", lab.folder, f"{plan['work']:.3f}", f"{plan['idle']:g}", "3" if plan["fails"] else "0"]
+        words += ["--", "bash", "-c", SHELL, "measure", lab.folder, f"{plan['work']:.3f}", f"{plan['idle']:g}", "3" if plan["fails"] else "0", str(int(plan["is_away"]))]
         if plan["kind"] == "hold":
             return ["/usr/bin/python3", *COMMAND[1:], "hold", "--certificate", f"{lab.folder}/certificate", *words], ""
         at = until(lab.leader, "somebody leads")

@@ -43,6 +43,7 @@ SHELL = r"""
 declare -A port; while read -r name at; do port[$name]=$at; done < "$1/ports"
 echo "held $LABRUN_TOKEN $LABRUN_STATION $LABRUN_HELD"
 at=()
+[ "$5" = 0 ] || LABRUN_HELD=
 for name in $LABRUN_HELD; do
     exec {one}<>"/dev/tcp/127.0.0.1/${port[$name]}"
     read -r -t 60 word <&$one; [ "$word" = READY ] || echo "busy $name"
