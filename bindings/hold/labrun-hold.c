@@ -824,7 +824,8 @@ static void is_late(void) {
     struct text why = {0}, names = {0};
     for (const char *at = held.names.at; *at; at++)
         put(&names, *at == '\t' ? ", " : at, *at == '\t' ? 2 : 1);
-    putf(&why, "%s: nothing was heard from the broker for %g s, so others may hold these soon: %s", held.station, held.lease, names.length ? names.at + 2 : "");
+    putf(&why, "%s: nothing was heard from the broker for %g s, so the session is over, and others may hold these soon: %s", held.station, held.lease,
+         names.length ? names.at + 2 : "");
     taken(why.at);
     free(why.at);
     free(names.at);

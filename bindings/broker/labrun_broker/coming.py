@@ -5,13 +5,14 @@ from __future__ import annotations
 import asyncio
 from typing import TYPE_CHECKING, Any, Coroutine, Optional
 
-from .errors import SILENT, Unreachable, is_for_good, raised
+from .errors import SILENT, AnswerLost, Unreachable, is_for_good, raised
 from .stream import AGAIN, LATE, Lost, Silent, Stream
 from .work import clock
 
 if TYPE_CHECKING:
     from .held import Held
 
+MAY_HOLD = "the session may hold all the same: see `labrun-broker status`"
 # for how long a client tries to reach a broker again that it waits for
 GRACE = 60.0
 PAUSE = 0.1  # between such tries
@@ -104,7 +105,8 @@ class Coming:
         patience = GRACE if lab._was_there else lab._brokers.patience
         is_over = self._lost_at is not None and now > self._lost_at + patience or self._until is not None and now > self._until
         if lost.code not in AGAIN or is_for_good(str(lost)) or not patience or is_over:
-            raise lab._why_lost(lost.code, str(lost)) from None
+            why = lab._why_lost(lost.code, str(lost))
+            raise AnswerLost(f"{why}; {MAY_HOLD}") if isinstance(why, AnswerLost) else why from None
         if self._lost_at is None and lab._brokers.is_list:
-            self._held._waits_for(f"no broker of {lab.address} answers")
+            self._held._waits_for(f"no broker of {lab.address} answers; it is tried again for {patience:g} s")
         await asyncio.sleep(PAUSE)

@@ -9,7 +9,7 @@ from dataclasses import dataclass, replace
 from typing import TYPE_CHECKING, Any, Optional, Sequence
 
 from labrun import LabrunError, MayNotUse, NotHeld
-from labrun.picks import NoSuch, TooFew, TooMany, is_plain, near, sets_of
+from labrun.picks import NoSuch, TooFew, TooMany, counted, is_plain, near, sets_of
 
 from . import rights
 from .bay import MOST_SECONDS, Bay
@@ -146,7 +146,8 @@ def _may_not_use(wish: Wish, words: Sequence[str], bay: Bay) -> MayNotUse:
     """Because it isn't for the station, or a guest; else because it isn't for the person."""
     its, what = _places_use(wish, bay), " ".join(words)
     if bay.people and _is_there(words, its, bay):
-        return rights.may_not_have(bay, wish.person, what)
+        some = [name for name in _may_use(wish, bay) if any(_is_there((counted(word)[1],), (name,), bay) for word in words if not is_plain(word))]
+        return rights.may_not_have(bay, wish.person, what + (f", but only {', '.join(some)}" if some else ""))
     return MayNotUse(wish.station or "a guest", what, its)
 
 
@@ -206,7 +207,8 @@ def _no_such(name: str, bay: Bay) -> NoInstrument:
 
 def no_station(name: str, bay: Bay) -> BadWish:
     """Of those that hold, guests too."""
-    guests = {0: (), 1: ("guest-1",)}.get(bay.guests, (f"{'and ' if bay.stations else ''}guest-1 to guest-{bay.guests}",))
+    # (who waits has a name, too)
+    guests = (f"{'and ' if bay.stations else ''}guests that hold or wait, as guest-1",) if bay.guests else ()
     # (of a thousand guests the loop would look for long)
     known = (*bay.stations, *bay.guest_names[:MOST_NEAR])
     return BadWish(f"{name[:bay.limits.name]} is no station of this {bay.what}: there are {', '.join((*bay.stations, *guests))}{near(name, known)}")

@@ -462,7 +462,7 @@ class WithBroker(OnBroker):
             done = broker.ran("release", "board", "--session", "1")
             self.assertEqual((done.returncode, done.stderr), (1, "labrun-broker: board is in session 2 now, and not in 1\n"))
             self.assertEqual(station(lab, "board")["state"], "holding")
-        for name, text in (("board", "board holds nothing\n"), ("moon", "moon is no station of this bay: there are board, radio, and guest-1 to guest-4\n")):
+        for name, text in (("board", "board holds nothing\n"), ("moon", "moon is no station of this bay: there are board, radio, and guests that hold or wait, as guest-1\n")):
             done = broker.ran("release", name)
             self.assertEqual((done.returncode, done.stdout), (1, ""))
             self.assertIn(text, done.stderr)

@@ -478,9 +478,9 @@ class Gone(OnKeeping):
         self.assertEqual(await keeping.release("board", "eve", again.number), ("scope",))
         for name, kind, text in (
             ("radio", labrun.NotHeld, "^radio holds nothing$"),
-            ("lamp", BadWish, "lamp is no station of this bay: there are board, radio, and guest-1 to guest-4$"),
-            ("bord", BadWish, r"guest-4 \(did you mean board\?\)$"),
-            ("gest-3", BadWish, r"guest-4 \(did you mean guest-3\?\)$"),
+            ("lamp", BadWish, "lamp is no station of this bay: there are board, radio, and guests that hold or wait, as guest-1$"),
+            ("bord", BadWish, r"guest-1 \(did you mean board\?\)$"),
+            ("gest-3", BadWish, r"guest-1 \(did you mean guest-3\?\)$"),
         ):
             with self.subTest(name), self.assertRaisesRegex(kind, text):
                 await keeping.release(name, "eve")

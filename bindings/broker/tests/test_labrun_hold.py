@@ -278,7 +278,7 @@ class Held(OnBroker):
             said = self.ends(hold, 76)
         finally:
             broker.process.send_signal(signal.SIGCONT)
-        self.assertIn("nothing was heard from the broker for 7.5 s, so others may hold these soon: scope", said)
+        self.assertIn("nothing was heard from the broker for 7.5 s, so the session is over, and others may hold these soon: scope", said)
         with open(f"{broker.folder}/ended", encoding="ascii") as file:
             # (three of four parts of it, from the last word that was answered; the margin is the fourth)
             self.assertTrue(4 < float(file.read()) - stopped < 10)

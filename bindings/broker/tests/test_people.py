@@ -70,7 +70,7 @@ class OfMany(unittest.TestCase):
         bay = bay_of(f'bay = "north"\noperators = ["ana"]\ninstruments = [{names}]\n[guests]\ncount = 4\n{people}')
         # (4 of 10 are more ways than can be asked for)
         for words in ("3 of meter-*", "4 of meter-*"):
-            with self.assertRaisesRegex(labrun.MayNotUse, rf"^ana may not have {words[0]} of meter-\*; operators: ana$"):
+            with self.assertRaisesRegex(labrun.MayNotUse, rf"^ana may not have {words[0]} of meter-\*, but only meter-1, meter-2; operators: ana$"):
                 resolved(Wish((words,), person="ana"), bay)
 
 

@@ -7,10 +7,11 @@ import subprocess
 import sys
 import threading
 import unittest
+from concurrent.futures import ThreadPoolExecutor
 from unittest import mock
 
 import labrun_broker
-from labrun_broker import client, stream
+from labrun_broker import client, coming, stream
 from tests.brokers import BAY, LIMIT, Broker, OnBroker, stopped, until
 
 RELEASES = 'gone = "release"\n' + BAY
@@ -134,6 +135,21 @@ class Stopped(OnBroker):
         broker.command = [sys.executable, "-c", LATE]
         broker.begin()
         self.assertEqual(self.ends(self.lab(broker), 0), "it holds")
+
+
+class Killed(OnBroker):
+    def test_while_somebody_asks(self) -> None:
+        """Nobody knows whether the session holds, and whoever asked is told so. (It isn't tried again here.)"""
+        broker = self.broker(BAY)
+        lab, waits = self.lab(broker), list[str]()
+        self.lab(broker).hold("scope").acquire()
+        with mock.patch.object(coming, "AGAIN", ()), ThreadPoolExecutor() as threads:
+            asked = threads.submit(lab.hold("scope", waits=waits.append).acquire)
+            until(lambda: waits, "it waits")
+            broker.kill()
+            told = "it closed the connection; the session may hold all the same: see `labrun-broker status`$"
+            with self.assertRaisesRegex(labrun_broker.AnswerLost, told):
+                asked.result(LIMIT)
 
 
 if __name__ == "__main__":

@@ -83,7 +83,7 @@ def sets_of(words: Sequence[str], names: Sequence[str], tags: Mapping[str, Seque
         wanted[what] += count * times
     parts = [_parts(count, what, names, tags) for what, count in wanted.items()]
     if math.prod(len(it) for it in parts) > MOST_WAYS:
-        raise TooMany(f"{' '.join(words)}: there are more than {MOST_SETS} ways to choose these")
+        raise TooMany(f"{' '.join(words)}: there are more than {MOST_SETS} ways to choose these: name some of them, or ask for fewer")
     found: dict[frozenset[str], Names] = {}
     for chosen in itertools.product(*parts):
         way = (*plain, *itertools.chain.from_iterable(chosen))
@@ -92,7 +92,7 @@ def sets_of(words: Sequence[str], names: Sequence[str], tags: Mapping[str, Seque
     if not found:
         raise TooFew(f"{' '.join(words)}: each is another instrument, and there aren't so many")
     if len(found) > MOST_SETS:
-        raise TooMany(f"{' '.join(words)}: there are {len(found)} ways to choose these; {MOST_SETS} are the most")
+        raise TooMany(f"{' '.join(words)}: there are {len(found)} ways to choose these; {MOST_SETS} are the most: name some of them, or ask for fewer")
     return tuple(found.values())
 
 
