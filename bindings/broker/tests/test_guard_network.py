@@ -58,8 +58,8 @@ class Beyond(unittest.TestCase):
         tls = ("--tls-certificate", f"{folder}/guard.crt", "--tls-key", f"{folder}/guard.key")
         self.begins(f"clients come to {HOST}:5025", *COMMAND, "guard", f"{folder}/guards.toml", "--broker", at, *tls)
         for name, out, fault in (("guard", "scope\n", ""), ("other", "", "no certificate that is known here")):
-            certificate = f"{folder}/{name}.crt"
-            for given, more in ((("--certificate", certificate), {}), ((), {"LABRUN_BROKER_CERTIFICATE_FILE": certificate})):
+            known = f"{folder}/{name}.crt"
+            for given, more in ((("--certificate", known), {}), ((), {"LABRUN_BROKER_CERTIFICATE_FILE": known})):
                 words = [*COMMAND, "hold", "scope", "--broker", at, *given, "--", sys.executable, "-c", ASKS, f"{TOP}/examples/broker"]
                 how = {"env": {**os.environ, **more}, "timeout": 3 * LIMIT}
                 done = subprocess.run(["ip", "netns", "exec", NAME, *words], capture_output=True, text=True, **how)
