@@ -10,6 +10,7 @@ from typing import TYPE_CHECKING, Any, Callable, Optional
 
 import grpc
 import labrun
+from labrun._sleep import may_sleep
 
 from . import broker_pb2 as pb
 from .coming import BEATS, GRACE, PAUSE, Coming
@@ -70,7 +71,8 @@ class Held:
         return self._lease is not None
 
     def acquire(self) -> None:
-        """Blocks until the session holds all its instruments."""
+        """Blocks until the session holds all its instruments. WouldBlock: a loop runs on this thread; so of all that blocks here."""
+        self._may_sleep()
         try:
             self.lab._run(self._acquire())
         except Entered:
@@ -93,10 +95,14 @@ class Held:
 
     def address(self, instrument: str) -> tuple[str, int]:
         """Host and port at which an instrument that has a guard is reached, as long as the session holds."""
+        self._may_sleep()
         return self.lab._run(self._address(instrument))
 
     async def address_async(self, instrument: str) -> tuple[str, int]:
         return await self.lab._run_async(self._address(instrument))
+
+    def _may_sleep(self) -> None:
+        may_sleep(self, f"session {self.number} of {self.station}" if self.number else "a session")
 
     @property
     def ticket(self) -> str:
@@ -104,6 +110,7 @@ class Held:
 
     def note(self, text: object) -> None:
         """Writes a line to the records, as a reading."""
+        self._may_sleep()
         self.lab._run(self._ask(note=pb.Note(text=str(text))))
 
     async def note_async(self, text: object) -> None:
@@ -111,6 +118,7 @@ class Held:
 
     def release(self, failed: Optional[str] = None) -> None:
         """Lets the instruments go; `failed` says what went wrong with the work. TakenAway if the session was ended before."""
+        self._may_sleep()
         self.lab._run(self._let_go(failed))
 
     async def release_async(self, failed: Optional[str] = None) -> None:

@@ -132,6 +132,20 @@ class Clients(OnBroker):
         self.assertEqual(sorted(order), ["a", "b", "c"])
         until(lambda: all(it["state"] == "idle" for it in lab.status()["stations"]))
 
+    def test_would_block(self) -> None:
+        """A coroutine isn't to stop its loop, which may have to let go what is waited for; nothing is done then."""
+        lab = self.lab(self.broker())
+
+        async def main() -> None:
+            async with lab.hold("scope") as held:
+                for call in (lab.hold("scope", timeout=SOON).__enter__, lambda: held.address("scope"), lambda: held.note("x"), held.release):
+                    with self.assertRaisesRegex(labrun.WouldBlock, "use `async with`, or the call that ends in _async"):
+                        call()
+                self.assertEqual((held.held, station(lab, "guest-1")["note"]), (True, None))
+
+        asyncio.run(main())
+        self.assertEqual({it["state"] for it in lab.status()["stations"]}, {"idle"})
+
     def test_a_body_that_raises(self) -> None:
         lab = self.lab(self.broker())
         with self.assertRaisesRegex(RuntimeError, "smoke"):

@@ -14,7 +14,7 @@ from ._keepers import Keeper
 from ._quick import LETS_GO, NEW, Asker, extension
 from ._room import Kind, Room
 from ._shell import Shell
-from ._sleep import Line, at_once, in_loop
+from ._sleep import Line, at_once, in_loop, may_sleep
 from .machine import GRACE, HOLDS, LAPSED, LEFT, LET_GO, LIMIT, MAY_NOT, NEVER, NOT_WRITTEN, REPLACED, TAKEN, WAITS, WAS_STOPPED, Refusal
 
 _TAKEN = (LIMIT, GRACE, TAKEN, REPLACED)
@@ -215,9 +215,8 @@ class Held(Asker):
             await self._notes(self._note, is_task)
 
     def _may_sleep(self, is_task: bool) -> None:
-        if not is_task and in_loop():
-            why = "has to wait, and a loop runs on this thread: use `async with`, or the call that ends in _async"
-            raise WouldBlock(self, f"{self.called} {why}")
+        if not is_task:
+            may_sleep(self, self.called)
 
     def _has_not_come(self, shell: Shell) -> None:
         if self.what == LAPSED:

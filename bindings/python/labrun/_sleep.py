@@ -7,6 +7,8 @@ import threading
 import weakref
 from typing import Any, Awaitable, Callable, Coroutine, Generator, Optional, TypeVar
 
+from ._faults import WouldBlock
+
 _new_lock = threading.Lock  # (so that a test can put gates there)
 
 T = TypeVar("T")
@@ -25,6 +27,13 @@ def at_once(work: Callable[..., Coroutine[Any, Any, T]], *given: Any) -> T:
 def in_loop() -> bool:
     """Whether a loop runs on this thread."""
     return asyncio._get_running_loop() is not None
+
+
+def may_sleep(session: Any, called: str) -> None:
+    """WouldBlock: the loop of this thread would stand still meanwhile."""
+    if in_loop():
+        why = "has to wait, and a loop runs on this thread: use `async with`, or the call that ends in _async"
+        raise WouldBlock(session, f"{called} {why}")
 
 
 class Waiter:
