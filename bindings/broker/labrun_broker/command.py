@@ -16,7 +16,7 @@ from typing import TYPE_CHECKING, Any, Callable, NoReturn, Optional, Sequence
 
 from .credentials import user
 from .run import add_hold, run_hold
-from .texts import aligned, counted, last, plain, session, span
+from .texts import aligned, called, counted, last, plain, session, span
 from .words import ABOUT, INTERRUPTED, MAY_NOT, NO_BAY, NOT_WRITTEN, PROGRAM, STATUSES, TAKEN, TIMED_OUT, UNREACHABLE, USAGE, Word, add_client, lab_of, say
 
 if TYPE_CHECKING:
@@ -81,7 +81,7 @@ def lines_of_bay(status: dict[str, Any]) -> list[str]:
         holder, held_for = holder_of(one, status)
         rows.append([one["name"], holder, held_for, " ".join(one["waiting"]), plain(one.get("label", ""))])
     outs = [out_of(it, at) for it in status["instruments"] if it.get("out") is not None]
-    lines = [f"bay {plain(status['bay'])}, {counted(status['sessions'], 'session')} since {since}", *brokers_of(status), *disk_of(status), *outs, "", *aligned(rows), ""]
+    lines = [f"{called('bay', status['bay'])}, {counted(status['sessions'], 'session')} since {since}", *brokers_of(status), *disk_of(status), *outs, "", *aligned(rows), ""]
     rows = [["STATION", "", "FOR", "INSTRUMENTS", "BY"]]
     for one in status["stations"]:
         if one["state"] != "idle":
@@ -201,13 +201,16 @@ def run_bay(args: argparse.Namespace) -> int:
     if isinstance(read, Lab):
         print(f"ok {args.bay}: lab {read.name}, {counted(len(read.bays), 'bay')}, {counts_of(read.whole)}")
     for path, bay in ((read.paths[name], bay) for name, bay in read.bays.items()) if isinstance(read, Lab) else ((args.bay, read),):
-        print(f"ok {path}: bay {bay.name}, {counts_of(bay)}, gone = {bay.its_gone.told()}")
+        print(f"ok {path}: {called('bay', bay.name)}, {counts_of(bay)}, gone = {bay.its_gone.told()}")
     return 0
 
 
 def split_bay(args: argparse.Namespace) -> int:
     from .splitting import told
 
+    if args.most < 1:
+        say("--most is 1 or more")
+        return USAGE
     print("\n".join(told(args.bay, args.most)))
     return 0
 
@@ -236,7 +239,7 @@ def run_token(args: argparse.Namespace) -> int:
     from .people import HASH, digest_of, new_token
 
     if not is_name(args.name):
-        say(f"{plain(args.name)} is no name: {A_NAME}")
+        say(f"{plain(args.name) or 'an empty name'} is no name: {A_NAME}")
         return USAGE
     token = new_token()
     print(token, flush=True)

@@ -19,7 +19,7 @@ FAULTY = (
     ("", ["instruments: a list of names", "stations: there is neither a station nor a guest"]),
     (
         'instruments = ["scope", "supply"]\n[people]\nana = {unix = "ana"}\n',
-        ["stations: there is neither a station nor a guest, so nobody could ask for anything: write [guests], and below it count = 8"],
+        ["stations: there is neither a station nor a guest, so nobody could ask: write [guests] and count = 8"],
     ),
     ("instruments = [\n1,\n", ["the last line: "]),
     ('bay = 5\nbay = 6\n', ["line 2, column 8: "]),

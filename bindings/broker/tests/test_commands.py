@@ -39,10 +39,14 @@ def made(path: str) -> None:
         pass
 
 
+# a bay whose file says no name
+SHORT = 'instruments = ["scope"]\n[guests]\ncount = 1\n'
+
+
 class WithoutBroker(unittest.TestCase):
     def setUp(self) -> None:
         self.folder = self.enterContext(tempfile.TemporaryDirectory())
-        for name, text in (("bay.toml", BAY), ("bad.toml", 'instruments = ["scope", "scope"]\ncolour = 5\n'), ("open", "0123456789abcdef"), ("short", "x")):
+        for name, text in (("bay.toml", BAY), ("bad.toml", 'instruments = ["scope", "scope"]\ncolour = 5\n'), ("short.toml", SHORT), ("open", "0123456789abcdef"), ("short", "x")):
             with open(f"{self.folder}/{name}", "w", encoding="utf-8") as file:
                 file.write(text)
             os.chmod(file.name, 0o644 if name == "open" else 0o600)
@@ -70,6 +74,7 @@ class WithoutBroker(unittest.TestCase):
         wanted = "unix:PATH or HOST:PORT is wanted, with a port of up to 65535"
         rows = (
             (["bay", "check", bay], 0, f"ok {bay}: bay north, 4 instruments, 2 stations, 4 guests, gone = keep\n", ""),
+            (["bay", "check", f"{self.folder}/short.toml"], 0, f"ok {self.folder}/short.toml: bay, 1 instrument, 0 stations, 1 guest, gone = keep\n", ""),
             (["bay", "check", f"{self.folder}/bad.toml"], 1, "", "bad.toml: colour: there is no such key"),
             (["bay", "check", f"{self.folder}/bad.toml"], 1, "", "bad.toml: instruments: scope is there twice"),
             (["bay", "check", f"{self.folder}/no.toml"], 1, "", "no.toml: No such file or directory"),

@@ -117,6 +117,9 @@ jon = {{unix = "ana", may = ["load-9*", "tag:small", "2 of load-*"]}}\nkim = {{u
         self.assertNotIn(token.getvalue().strip(), line.getvalue())
         with contextlib.redirect_stderr(io.StringIO()), contextlib.redirect_stdout(io.StringIO()) as said:
             self.assertEqual((main(["token", "a b"]), said.getvalue()), (2, ""))
+        with contextlib.redirect_stderr(io.StringIO()) as said:
+            self.assertEqual(main(["token", ""]), 2)
+            self.assertRegex(said.getvalue(), "^labrun-broker: an empty name is no name: ")
 
     def test_another_file(self) -> None:
         """What changes is told, and no hash."""
