@@ -17,8 +17,8 @@ from .bay import BadAddress
 from .credentials import DEFAULT
 from .labs import Lab, read_any, texts_of
 from .standby import add_etcd, until_it_leads
-from .texts import called, counted, mebibytes, plain, seconds
-from .words import USAGE, say, tell_systemd
+from .texts import counted, mebibytes, plain, seconds
+from .words import USAGE, reading, say, tell_systemd
 
 if TYPE_CHECKING:
     from .door import Door
@@ -62,7 +62,8 @@ async def serve(args: argparse.Namespace) -> int:
     from .folder import Folder
     from .keeping import Keeping
 
-    read = read_any(args.bay)
+    with reading(args.bay):
+        read = read_any(args.bay)
     lab = read if isinstance(read, Lab) else None
     bay = read.whole if isinstance(read, Lab) else read
     if lab is not None and args.etcd is not None:
@@ -113,7 +114,7 @@ async def serve(args: argparse.Namespace) -> int:
             ends.push_async_callback(runner.cleanup)
         where = " ".join(its_door.addresses) + (f", by HTTP at {' '.join(args.http)}" if args.http else "")
         of = "" if lab is None else f"{counted(len(lab.bays), 'bay')} ({', '.join(lab.bays)}), "
-        say(f"{called(bay.what, bay.name)}: {of}{counted(len(bay.instruments), 'instrument')}, at {where}")
+        say(f"{'bay' if lab is None else 'lab'} {bay.name}: {of}{counted(len(bay.instruments), 'instrument')}, at {where}")
         for it in (*keeping.complaints, *entrance.complaints(), *begins):
             say(plain(it))
         keeping.says = lambda text: say(plain(text)[:MOST_TOLD]) if door.is_read() else None

@@ -28,11 +28,6 @@ def counted(number: int, what: str) -> str:
     return f"{number} {what}" if number == 1 else f"{number} {what}s"
 
 
-def called(what: str, name: object) -> str:
-    """As `bay north`. (A bay whose file says no name is called `bay`.)"""
-    return what if name == what else f"{what} {plain(name)}"
-
-
 def aligned(rows: list[list[str]]) -> list[str]:
     """The lines of a table. (A row with fewer columns has a text as its last one, as wide as it is.)"""
     most = max(map(len, rows))

@@ -322,6 +322,7 @@ class Brokers(OnPeople):
         self.assertIn("the broker's own", str(caught.exception.details()))
         self.assertEqual((os.stat(f"{broker.folder}/bay.sock").st_mode & 0o777, os.stat(f"{broker.folder}/bay.sock.in").st_mode & 0o777), (0o660, 0o600))
         self.assertEqual(broker.end(), 0)
+        self.assertIn("labrun-broker: a client of the Unix socket isn't let in: this is nobody's token, or not any more; operators: ana\n", broker.said)
         self.assertFalse([it for it in os.listdir(broker.folder) if ".sock" in it])
 
     def test_who_has_gone_already(self) -> None:

@@ -100,8 +100,8 @@ class Quick(OnBroker):
                     file.write(text)
                 for word in (["hold", "scope", "-n", "--token-file", f"{broker.folder}/token", "--", "true"], ["status", "--token-file", f"{broker.folder}/token"]):
                     done = broker.ran(*word)
-                    self.assertEqual((done.returncode, done.stdout), (1, ""))
-                    self.assertRegex(done.stderr, rf"\Alabrun-broker: .*/token: a token is one line of letters, digits and signs, and this file {'has something else' if text else 'is empty'}\n\Z")
+                    self.assertEqual((done.returncode, done.stdout), (66, ""))
+                    self.assertRegex(done.stderr, rf"\Alabrun-broker: --token-file .*/token: a token is one line of letters, digits and signs, and this file {'has something else' if text else 'is empty'}\n\Z")
 
     def test_who_was_stopped_reads_the_answer_first(self) -> None:
         """A process that was stopped while it told the broker finds its timer over and the answer there: that isn't a broker without an answer."""

@@ -48,6 +48,8 @@ class Network(OnBroker):
                 with self.subTest(words):
                     done = broker.ran(*words)
                     self.assertEqual((done.returncode, done.stderr), (69, f"labrun-broker: the broker at {host}:{port} {said}\n"))
+        broker.end()
+        self.assertEqual([it for it in broker.said.splitlines() if not it.startswith("labrun-broker: ")], [])
 
     def test_who_isnt_let_in_by_one_of_several(self) -> None:
         """The others stand by: that nobody listens there says nothing."""
