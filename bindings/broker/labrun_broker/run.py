@@ -16,8 +16,8 @@ from typing import TYPE_CHECKING, Callable, Iterator, Optional, TypeVar, Union
 from .credentials import DEFAULT, user
 from .family import TELLING, Family, adopting, ends
 from .quick import Quick, Wish
-from .texts import addresses_of, last, plain, seconds
-from .wire import Absent, Odd, Silent
+from .texts import addresses_of, last, plain, seconds, unreached
+from .wire import Absent, NoBroker, Odd, Silent
 from .words import CANT_RUN, ENVIRONMENT, NOT_FOUND, PROGRAM, TAKEN, USAGE, add_client, files_of, lab_of, say
 
 if TYPE_CHECKING:
@@ -196,7 +196,7 @@ def holds(args: argparse.Namespace, wish: Wish, waits: Waits, signals: Signals, 
         # (0 says that it never wanted to wait)
         return wish.timeout and max(0.001, wish.timeout + began - time.monotonic())
 
-    if address.startswith("unix:") and not address.startswith("unix://") and len(addresses_of(address)) == 1:
+    if re.match("unix:(?!//).", address) and len(addresses_of(address)) == 1:
         tried: list[Quick] = []
 
         def quickly() -> Quick:
@@ -209,6 +209,9 @@ def holds(args: argparse.Namespace, wish: Wish, waits: Waits, signals: Signals, 
             from .errors import Unreachable
 
             raise Unreachable(f"the broker at {address} doesn't answer") from None
+        except (Absent, NoBroker) as fault:
+            # (the whole client would find out no more, and begins late)
+            raise type(fault)(unreached(address, str(fault))) from None
         except Odd:
             was_there, ticket = tried[0].wire.was_there, tried[0].ticket
     lab = ends.enter_context(connects(was_there))

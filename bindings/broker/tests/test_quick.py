@@ -1,9 +1,13 @@
 """The small client of `hold`: it begins soon, and the whole one takes over wherever it has to."""
 
+import contextlib
+import io
 import os
 import signal
+import socket
 import subprocess
 import sys
+import tempfile
 import threading
 import time
 import unittest
@@ -203,6 +207,19 @@ class Quick(OnBroker):
             broker.end()
             broker.begin()
             self.assertEqual(broker.ran("release", "guest-1").returncode, 0)
+
+    def test_nobody_listens(self) -> None:
+        """The time limit is kept: the whole client, which begins late, isn't needed to say so."""
+        folder = self.enterContext(tempfile.TemporaryDirectory())
+        with socket.socket(socket.AF_UNIX) as one:
+            one.bind(f"{folder}/left.sock")
+        for name, why in (("no.sock", "No such file or directory"), ("left.sock", "Connection refused")):
+            for limit in (["-n"], ["--timeout", "0.2"]):
+                at = f"unix:{folder}/{name}"
+                with self.subTest(at, limit=limit), mock.patch.object(run, "lab_of", side_effect=AssertionError("the whole client")):
+                    with contextlib.redirect_stderr(io.StringIO()) as said:
+                        self.assertEqual(main(["hold", "scope", *limit, "--quiet", "--broker", at, "--", "true"]), 69)
+                    self.assertEqual(said.getvalue(), f"labrun-broker: the broker at {at} can't be reached: {why}\n")
 
     def test_a_broker_that_is_being_started(self) -> None:
         """Who comes a moment too early waits for it; who doesn't want to wait doesn't."""
