@@ -386,7 +386,7 @@ class Reader:
     def fits(self, bay: Bay) -> None:
         """Whether the library can take it."""
         if not bay.stations and not bay.guests:
-            self.fault("stations", "there is neither a station nor a guest: nobody could ask for anything")
+            return self.fault("stations", "there is neither a station nor a guest, so nobody could ask: write [guests] and count = 8")
         if len(bay.stations) > MOST_STATIONS:
             self.fault("stations", f"{len(bay.stations)} stations; a bay has {MOST_STATIONS} at most")
         if bay.guests > MOST_GUESTS:

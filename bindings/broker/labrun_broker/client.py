@@ -25,7 +25,7 @@ import labrun
 from labrun import picks
 
 from . import broker_pb2 as pb
-from .credentials import CERTIFICATE_FILE, DEFAULT, certificate_in, token_in, user
+from .credentials import DEFAULT, certificate_in, token_in, user
 from .errors import AnswerLost, BadWish, why_lost
 from .finding import Brokers
 from .held import Held
@@ -84,7 +84,7 @@ class Lab:
         except (OSError, BadWish):
             return
         self._metadata = _as_metadata(token)
-        if certificate != self._certificate and (certificate is None or _is_certificate(certificate)):
+        if certificate != self._certificate:
             before, self._certificate = self._brokers, certificate
             await self._open()
             await before.close()
@@ -350,25 +350,18 @@ def connect(
     a token, in a file of this name or in that which LABRUN_BROKER_TOKEN_FILE names, and its certificate to know it by, in a file or in that which
     LABRUN_BROKER_CERTIFICATE_FILE names. `by` is what people read of who holds: `ann@bench-3 4711 measure.py` if nothing is said; where the bay
     names people, your name stands before it."""
+    token, certificate = token_in(_file("token_file", token_file)), certificate_in(_file("certificate_file", certificate_file))
+    return lab_at(address, station, by, token, certificate)
+
+
+def lab_at(address: Optional[str], station: str, by: Optional[str], token: Optional[str], certificate: Optional[bytes]) -> Lab:
+    """As `connect`, by what its files have."""
     address, station, by = _address(address), _name("a station", station), None if by is None else _text("by", by)
-    certificate, token = certificate_in(_file("certificate_file", certificate_file)), token_in(_file("token_file", token_file))
-    if certificate is not None and not _is_certificate(certificate):
-        raise BadWish(f"{certificate_file or os.environ[CERTIFICATE_FILE]}: there is no certificate in it (as PEM)")
     return Lab(address or os.environ.get("LABRUN_BROKER") or DEFAULT, station, token, certificate, by or _who())
 
 
 def _as_metadata(token: Optional[str]) -> tuple[tuple[str, str], ...]:
     return (("authorization", f"Bearer {token}"),) if token else ()
-
-
-def _is_certificate(pem: bytes) -> bool:
-    import ssl
-
-    try:
-        ssl.SSLContext(ssl.PROTOCOL_TLS_CLIENT).load_verify_locations(cadata=pem.decode("ascii", "ignore"))
-    except (ssl.SSLError, ValueError):
-        return False
-    return True
 
 
 def _who() -> str:

@@ -17,14 +17,14 @@ from typing import TYPE_CHECKING, Any, Callable, NoReturn, Optional, Sequence
 from .credentials import user
 from .run import add_hold, run_hold
 from .texts import aligned, counted, last, plain, session, span
-from .words import ABOUT, INTERRUPTED, MAY_NOT, NO_BAY, NOT_WRITTEN, PROGRAM, STATUSES, TAKEN, TIMED_OUT, UNREACHABLE, USAGE, Word, add_client, lab_of, say
+from .words import ABOUT, INTERRUPTED, MAY_NOT, NO_BAY, NO_FILE, NOT_WRITTEN, PROGRAM, STATUSES, TAKEN, TIMED_OUT, UNREACHABLE, USAGE, Word, add_client, lab_of, reading, say
 
 if TYPE_CHECKING:
     from .bay import Bay
 
 # the status of each error, by its name, or by that of the first of its kinds: it is looked up without importing what has it
 ENDS = {"TimeoutError": TIMED_OUT, "TakenAway": TAKEN, "MayNotUse": MAY_NOT, "NotAllowed": MAY_NOT, "Unreachable": UNREACHABLE, "JournalError": NOT_WRITTEN}
-ENDS |= {"NoInstrument": USAGE, "BayFault": NO_BAY, "BadAddress": NO_BAY, "LabrunError": 1, "OSError": 1, "ValueError": 1}
+ENDS |= {"Absent": UNREACHABLE, "NoBroker": UNREACHABLE, "NoFile": NO_FILE, "NoInstrument": USAGE, "BayFault": NO_BAY, "BadAddress": NO_BAY, "LabrunError": 1, "OSError": 1, "ValueError": 1}
 
 # ---- how it stands
 
@@ -192,7 +192,8 @@ def run_bay(args: argparse.Namespace) -> int:
     if args.what == "split":
         return split_bay(args)
     try:
-        read = read_any(args.bay)
+        with reading(args.bay):
+            read = read_any(args.bay)
     except BayFault as fault:
         print(fault, file=sys.stderr)
         return 1
@@ -201,13 +202,17 @@ def run_bay(args: argparse.Namespace) -> int:
     if isinstance(read, Lab):
         print(f"ok {args.bay}: lab {read.name}, {counted(len(read.bays), 'bay')}, {counts_of(read.whole)}")
     for path, bay in ((read.paths[name], bay) for name, bay in read.bays.items()) if isinstance(read, Lab) else ((args.bay, read),):
-        print(f"ok {path}: bay {bay.name}, {counts_of(bay)}, gone = {bay.its_gone.told()}")
+        # (one whose file says no name is called `bay`)
+        print(f"ok {path}: bay{f' {bay.name}' if bay.name != 'bay' else ''}, {counts_of(bay)}, gone = {bay.its_gone.told()}")
     return 0
 
 
 def split_bay(args: argparse.Namespace) -> int:
     from .splitting import told
 
+    if args.most < 1:
+        say("--most is 1 or more")
+        return USAGE
     print("\n".join(told(args.bay, args.most)))
     return 0
 
@@ -236,7 +241,7 @@ def run_token(args: argparse.Namespace) -> int:
     from .people import HASH, digest_of, new_token
 
     if not is_name(args.name):
-        say(f"{plain(args.name)} is no name: {A_NAME}")
+        say(f"{plain(args.name) or 'an empty name'} is no name: {A_NAME}")
         return USAGE
     token = new_token()
     print(token, flush=True)
@@ -357,6 +362,8 @@ def parsed(line: list[str]) -> argparse.Namespace:
 
 
 def main(given: Optional[Sequence[str]] = None) -> int:
+    # (gRPC's own lines say no more than ours)
+    os.environ.setdefault("GRPC_VERBOSITY", "NONE")
     line = list(sys.argv[1:] if given is None else given)
     at = line.index("--") if "--" in line else len(line)
     args = parsed(line[:at])

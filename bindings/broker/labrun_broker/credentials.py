@@ -36,11 +36,27 @@ def token_in(path: Optional[str]) -> Optional[str]:
 
 
 def certificate_in(path: Optional[str]) -> Optional[bytes]:
-    """What is in the file of a certificate, or in that which LABRUN_BROKER_CERTIFICATE_FILE names; None: there is none. OSError."""
+    """What is in the file of a certificate, or in that which LABRUN_BROKER_CERTIFICATE_FILE names; None: there is none. OSError; BadWish: no
+    certificate is in it."""
     if not (path := path or os.environ.get(CERTIFICATE_FILE)):
         return None
     with open(path, "rb") as file:
-        return file.read()
+        certificate = file.read()
+    if not _is_certificate(certificate):
+        from .errors import BadWish
+
+        raise BadWish(f"{path}: there is no certificate in it (as PEM)")
+    return certificate
+
+
+def _is_certificate(pem: bytes) -> bool:
+    import ssl
+
+    try:
+        ssl.SSLContext(ssl.PROTOCOL_TLS_CLIENT).load_verify_locations(cadata=pem.decode("ascii", "ignore"))
+    except (ssl.SSLError, ValueError):
+        return False
+    return True
 
 
 def is_token(text: str) -> bool:

@@ -19,6 +19,7 @@ import grpc
 from .bay import BadAddress, is_here
 from .credentials import is_token
 from .sockets import check_group, clear, family_of, parsed, tls_of
+from .words import reading
 
 
 @dataclass(frozen=True)
@@ -36,7 +37,7 @@ class Door:
     def token(self) -> Optional[str]:
         if self.token_file is None:
             return None
-        with open(self.token_file, encoding="ascii", errors="replace") as file:
+        with reading(f"--token-file {self.token_file}"), open(self.token_file, encoding="ascii", errors="replace") as file:
             if stat.S_IMODE(os.fstat(file.fileno()).st_mode) & 0o007:
                 raise BadAddress(f"{self.token_file}: everybody on this machine may read it: chmod o= {self.token_file}")
             token = file.read().strip()

@@ -6,6 +6,7 @@ import asyncio
 import collections
 import contextlib
 import hmac
+import re
 import time
 from dataclasses import dataclass, replace
 from typing import Callable, Iterator, Optional
@@ -197,5 +198,7 @@ class Entrance:
 
     def tells(self, peer: str, why: str) -> None:
         """Also whoever looks after the broker is told, now and then."""
-        if (text := self._seldom.text(why, f"{peer} isn't let in: {why}")) is not None:
+        # (a socket's clients have no address that says anything)
+        who = re.sub(r"^unix\S*", "a client of the Unix socket", peer)
+        if (text := self._seldom.text(why, f"{who} isn't let in: {why}")) is not None:
             self.keeping.says(text)

@@ -10,6 +10,8 @@ from typing import Any, Callable
 import grpc
 import labrun
 
+from .texts import HTTP_THERE, unreached
+
 
 class BrokerError(labrun.LabrunError):
     """The broker said no."""
@@ -104,6 +106,7 @@ FOR_GOOD = {
     "wrong version number": "it has no TLS: come without --certificate",
     "not in peer certificate": "its certificate is for another name: call it by that",
     "certificate verify failed": "it has another certificate than --certificate says",
+    "http1.x server": HTTP_THERE,
 }
 IS_THERE = {"Socket closed": CLOSED, "Connection reset by peer": CLOSED, **FOR_GOOD}
 HINTS = IS_THERE | {
@@ -150,7 +153,7 @@ def why_lost(address: str, code: Any, text: str, may_want_tls: bool = False) -> 
         return AnswerLost(f"the broker at {address} doesn't answer {SILENT}")
     if code in (grpc.StatusCode.UNAVAILABLE, grpc.StatusCode.UNKNOWN, grpc.StatusCode.CANCELLED):
         why = plainly(address, text, may_want_tls)
-        return (AnswerLost if why in (CLOSED, NO_MORE) else Unreachable)(f"the broker at {address} can't be reached: {why}")
+        return (AnswerLost if why in (CLOSED, NO_MORE) else Unreachable)(unreached(address, why))
     if code in (grpc.StatusCode.UNAUTHENTICATED, grpc.StatusCode.RESOURCE_EXHAUSTED):
         return Unreachable(f"the broker at {address} doesn't let this client in: {text}")
     if code is grpc.StatusCode.PERMISSION_DENIED:

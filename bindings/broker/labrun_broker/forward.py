@@ -10,7 +10,6 @@ import ssl
 from typing import Any, Callable, Iterator, Mapping, Optional
 
 from .bay import is_here
-from .credentials import certificate_in
 from .relay import End, joins
 from .texts import plain
 from .ways import Way, variable_of, way_of
@@ -169,11 +168,11 @@ class Ways:
 
 
 @contextlib.contextmanager
-def led(guards: Mapping[str, str], ticket: str, certificate: Optional[str], says: Callable[[str], None]) -> Iterator[tuple[dict[str, str], Callable[[], None]]]:
+def led(guards: Mapping[str, str], ticket: str, certificate: Optional[bytes], says: Callable[[str], None]) -> Iterator[tuple[dict[str, str], Callable[[], None]]]:
     """For a command: the variables with the addresses of what it holds, and what is to be called before its session lets go."""
     from .work import Work, loop_of_this_process
 
-    ways, loop = Ways(guards, ticket, certificate_in(certificate), says), loop_of_this_process()
+    ways, loop = Ways(guards, ticket, certificate, says), loop_of_this_process()
 
     async def variables() -> dict[str, str]:
         return {variable_of(name): "{}:{}".format(*await ways.address(name)) for name in guards}

@@ -29,6 +29,7 @@ from .outage import puts_out
 from .standing import ENDING, Session
 from .texts import plain, span
 from .ways import variable_of
+from .words import ENVIRONMENT
 
 if TYPE_CHECKING:
     from .journals import Left
@@ -162,7 +163,7 @@ async def _is_out(keeping: Keeping, name: str, why: str) -> bool:
 def _environment(bay: Bay, session: Session, name: str) -> dict[str, str]:
     at = {variable_of(name): bay.guards[name].split()[0]} if name in bay.guards else {}
     its = {"INSTRUMENT": name, "STATION": session.name, "SESSION": session.number, "BY": session.by or "", "TOKEN": session.token, "ENDED": session.ended}
-    return {**os.environ, **at, **{f"LABRUN_{key}": plain(value) for key, value in its.items()}}
+    return {**ENVIRONMENT, **at, **{f"LABRUN_{key}": plain(value) for key, value in its.items()}}
 
 
 async def _runs(command: list[str], environment: dict[str, str], limit: float) -> tuple[str, str]:

@@ -13,19 +13,17 @@ import threading
 import time
 from typing import TYPE_CHECKING, Callable, Iterator, Optional, TypeVar, Union
 
-from .credentials import DEFAULT, token_in, user
+from .credentials import DEFAULT, user
 from .family import TELLING, Family, adopting, ends
 from .quick import Quick, Wish
-from .texts import addresses_of, last, plain, seconds
-from .wire import Absent, Odd, Silent
-from .words import CANT_RUN, NOT_FOUND, PROGRAM, TAKEN, USAGE, add_client, lab_of, say
+from .texts import addresses_of, last, plain, seconds, unreached
+from .wire import Absent, NoBroker, Odd, Silent
+from .words import CANT_RUN, ENVIRONMENT, NOT_FOUND, PROGRAM, TAKEN, USAGE, add_client, files_of, lab_of, say
 
 if TYPE_CHECKING:
     from .client import Lab
     from .held import Held
 
-# what the command is to have, whatever is changed here
-ENVIRONMENT = dict(os.environ)
 Waits = Optional[Callable[[str], None]]
 Result = TypeVar("Result")
 STARTING = 5.0  # seconds that a broker may take to begin
@@ -61,6 +59,7 @@ def run_hold(args: argparse.Namespace) -> int:
     if not looks_around(args, any_of or (its,)):
         return USAGE
     wish = Wish(() if any_of else its, any_of, args.station, args.by or f"{user()} {os.getpid()} {what}"[:64], args.timeout, args.limit, args.urgent)
+    files_of(args)
     silence = Silence(address_of(args))
 
     def waits(text: str) -> None:
@@ -88,7 +87,7 @@ def leads(held: Union[Quick, Held], args: argparse.Namespace) -> Iterator[tuple[
         return
     from .forward import led
 
-    with led(held.guards, held.ticket, args.certificate, say) as found:
+    with led(held.guards, held.ticket, files_of(args)[1], say) as found:
         yield found
 
 
@@ -190,14 +189,14 @@ def holds(args: argparse.Namespace, wish: Wish, waits: Waits, signals: Signals, 
         lab._was_there = was_there
         return lab
 
-    began, was_there, ticket, start, token = time.monotonic(), False, "", Start(args), token_in(args.token_file)
+    began, was_there, ticket, start, token = time.monotonic(), False, "", Start(args), files_of(args)[0]
     address = address_of(args)
 
     def left() -> Optional[float]:
         # (0 says that it never wanted to wait)
         return wish.timeout and max(0.001, wish.timeout + began - time.monotonic())
 
-    if address.startswith("unix:") and not address.startswith("unix://") and len(addresses_of(address)) == 1:
+    if re.match("unix:(?!//).", address) and len(addresses_of(address)) == 1:
         tried: list[Quick] = []
 
         def quickly() -> Quick:
@@ -210,6 +209,9 @@ def holds(args: argparse.Namespace, wish: Wish, waits: Waits, signals: Signals, 
             from .errors import Unreachable
 
             raise Unreachable(f"the broker at {address} doesn't answer") from None
+        except (Absent, NoBroker) as fault:
+            # (the whole client would find out no more, and begins late)
+            raise type(fault)(unreached(address, str(fault))) from None
         except Odd:
             was_there, ticket = tried[0].wire.was_there, tried[0].ticket
     lab = ends.enter_context(connects(was_there))

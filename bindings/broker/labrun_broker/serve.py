@@ -18,7 +18,7 @@ from .credentials import DEFAULT
 from .labs import Lab, read_any, texts_of
 from .standby import add_etcd, until_it_leads
 from .texts import counted, mebibytes, plain, seconds
-from .words import USAGE, say, tell_systemd
+from .words import USAGE, reading, say, tell_systemd
 
 if TYPE_CHECKING:
     from .door import Door
@@ -62,7 +62,8 @@ async def serve(args: argparse.Namespace) -> int:
     from .folder import Folder
     from .keeping import Keeping
 
-    read = read_any(args.bay)
+    with reading(args.bay):
+        read = read_any(args.bay)
     lab = read if isinstance(read, Lab) else None
     bay = read.whole if isinstance(read, Lab) else read
     if lab is not None and args.etcd is not None:

@@ -73,7 +73,7 @@ def split(sessions: Mapping[Names, int], together: Iterable[Names] = (), most: i
     """How many sessions need two bays, and the bays, of so many instruments at most. Fault: a station uses more."""
     units = units_of(frozenset().union(*sessions), together)
     if (largest := max(units, key=len)) and len(largest) > most:
-        raise Fault(f"stations use {' '.join(sorted(largest))} together, which are {len(largest)}; a bay is to have {most} at most")
+        raise Fault(f"{' '.join(sorted(largest))} belong in one bay, because stations use them together: {len(largest)}, and --most is {most}")
     found: Optional[tuple[int, int, list[Names]]] = None
     for order in range(ORDERS):
         one, its = Split(sessions, most), sorted(units, key=len, reverse=True)

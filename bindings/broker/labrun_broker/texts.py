@@ -91,6 +91,15 @@ def span_of(text: str) -> Optional[float]:
     return float(found[1]) * {None: 1, "s": 1, "m": 60, "min": 60, "h": 3600, "d": 86400}[found[2]] if found else None
 
 
+HTTP_THERE = "somebody speaks HTTP there, and not as the clients of a broker do"
+
+
+def unreached(address: str, why: str) -> str:
+    """That nobody can be asked at an address."""
+    more = ": leave out `.http`, which is for curl and the like" if why == HTTP_THERE and address.endswith(".http") else ""
+    return f"the broker at {address} can't be reached: {why}{more}"
+
+
 def addresses_of(text: str) -> tuple[str, ...]:
     """Of one broker, or of several: those of `a:7443,b:7443`."""
     parts = tuple(it.strip() for it in text.split(","))

@@ -10,6 +10,8 @@ import threading
 import time
 from typing import Any, Iterator, Optional
 
+from .texts import HTTP_THERE
+
 SILENT = 10.0  # seconds without a word, after which the broker is asked whether it is there, and then as many for its answer
 LATE, LATER = 1.0, 6.0  # or a second once the time limit is over, and then longer: a broker takes it ill to be asked twice in five seconds
 MOST_BYTES = 16000  # of a wish: it is one frame
@@ -29,6 +31,10 @@ class Silent(Odd):
 
 class Absent(Odd):
     """Nobody listens there."""
+
+
+class NoBroker(Odd):
+    """Whoever listens there speaks otherwise."""
 
 
 @contextlib.contextmanager
@@ -59,7 +65,7 @@ class Wire:
             if isinstance(fault.__cause__, TimeoutError) and self._is_over():
                 raise Silent from fault
             if isinstance(fault.__cause__, (FileNotFoundError, ConnectionRefusedError)):
-                raise Absent from fault
+                raise Absent(fault.__cause__.strerror) from fault
             raise
         self._sends(OPENS + _heads(token))
 
@@ -121,6 +127,8 @@ class Wire:
                 came = self._asks_whether_it_is_there()
         if not came:
             raise Odd
+        if not self.was_there and came.startswith(b"HTTP/"):
+            raise NoBroker(HTTP_THERE)
         self.was_there = True
         return came
 

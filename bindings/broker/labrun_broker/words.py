@@ -7,14 +7,16 @@ import contextlib
 import os
 import socket
 import sys
-from typing import TYPE_CHECKING, Any, Callable, NamedTuple
+from typing import TYPE_CHECKING, Any, Callable, Iterator, NamedTuple, Optional
 
-from .credentials import CERTIFICATE_FILE, DEFAULT, TOKEN_FILE
+from .credentials import CERTIFICATE_FILE, DEFAULT, TOKEN_FILE, certificate_in, token_in
 from .texts import address
 
 if TYPE_CHECKING:
     from .client import Lab
 
+# what is run is to have, whatever is changed here
+ENVIRONMENT = dict(os.environ)
 PROGRAM, ABOUT = "labrun-broker", "a lab's instruments, shared by programs, people and machines"
 
 
@@ -28,12 +30,13 @@ class Word(NamedTuple):
 
 
 # the status of each end that isn't the command's own
-USAGE, UNREACHABLE, NOT_WRITTEN, TIMED_OUT, TAKEN, MAY_NOT, NO_BAY, CANT_RUN, NOT_FOUND, INTERRUPTED = 2, 69, 74, 75, 76, 77, 78, 126, 127, 130
+USAGE, NO_FILE, UNREACHABLE, NOT_WRITTEN, TIMED_OUT, TAKEN, MAY_NOT, NO_BAY, CANT_RUN, NOT_FOUND, INTERRUPTED = 2, 66, 69, 74, 75, 76, 77, 78, 126, 127, 130
 
 STATUSES = (
     ("0", "done; `hold` gives the status of what it ran, or 128 and the number of the signal that ended it"),
     ("1", "the broker said no, as to a release of a station that holds nothing; `bay check` found faults"),
     (str(USAGE), "the words aren't right, or the bay has no instrument of that name"),
+    (str(NO_FILE), "the file of a bay, a token or a certificate can't be read, or that isn't in it"),
     (str(UNREACHABLE), "the broker can't be reached, or doesn't let this client in; of `hold`, the command may have run"),
     (str(NOT_WRITTEN), "the broker couldn't write down what it did; of `hold`, the command may have run"),
     (str(TIMED_OUT), "the time limit passed; nothing was run"),
@@ -63,11 +66,44 @@ def add_client(parser: argparse.ArgumentParser) -> None:
     parser.add_argument("--certificate", metavar="FILE", help=known)
 
 
-def lab_of(args: argparse.Namespace, **more: Any) -> Lab:
-    # (what a `hold` does without; gRPC's own lines say no more than ours)
-    os.environ.setdefault("GRPC_VERBOSITY", "NONE")
-    # (a command is begun in the midst of gRPC's threads; and nothing of gRPC goes on in it)
-    os.environ.setdefault("GRPC_ENABLE_FORK_SUPPORT", "0")
-    from .client import connect
+class NoFile(Exception):
+    """A file that is named can't be read, or something else is in it."""
 
-    return connect(args.broker, token_file=args.token_file, certificate_file=args.certificate, **more)
+
+@contextlib.contextmanager
+def reading(name: str) -> Iterator[None]:
+    """What is wrong is said with the file's name, and the option that gives it."""
+    try:
+        yield
+    except FileNotFoundError:
+        raise NoFile(f"{name}: there is no such file") from None
+    except PermissionError:
+        raise NoFile(f"{name}: you may not read it") from None
+    except OSError as fault:
+        raise NoFile(f"{name}: {fault.strerror}") from None
+
+
+def files_of(args: argparse.Namespace) -> tuple[Optional[str], Optional[bytes]]:
+    """The client's token, and the certificate to know the broker by; each is read once. NoFile."""
+    if "files" not in args:
+        args.files = _read("--token-file", args.token_file, TOKEN_FILE, token_in), _read("--certificate", args.certificate, CERTIFICATE_FILE, certificate_in)
+    its: tuple[Optional[str], Optional[bytes]] = args.files
+    return its
+
+
+def _read(option: str, path: Optional[str], variable: str, reads: Callable[[Optional[str]], Any]) -> Any:
+    name = option if path else variable
+    try:
+        with reading(f"{name} {path or os.environ.get(variable)}"):
+            return reads(path)
+    except ValueError as fault:
+        raise NoFile(f"{name} {fault}") from None
+
+
+def lab_of(args: argparse.Namespace, station: str = "", by: Optional[str] = None) -> Lab:
+    token, certificate = files_of(args)
+    # (what a `hold` does without. A command is begun in the midst of gRPC's threads; and nothing of gRPC goes on in it)
+    os.environ.setdefault("GRPC_ENABLE_FORK_SUPPORT", "0")
+    from .client import lab_at
+
+    return lab_at(args.broker, station, by, token, certificate)

@@ -17,6 +17,10 @@ ONE = 'instruments = ["scope"]\n[guests]\ncount = 1\n'
 # a text, and the faults that it has, in order
 FAULTY = (
     ("", ["instruments: a list of names", "stations: there is neither a station nor a guest"]),
+    (
+        'instruments = ["scope", "supply"]\n[people]\nana = {unix = "ana"}\n',
+        ["stations: there is neither a station nor a guest, so nobody could ask: write [guests] and count = 8"],
+    ),
     ("instruments = [\n1,\n", ["the last line: "]),
     ('bay = 5\nbay = 6\n', ["line 2, column 8: "]),
     (ONE + "colour = 3\n", ["guests.colour: there is no such key; there are count, may_use"]),
@@ -35,11 +39,11 @@ FAULTY = (
     ('instruments = ["scope"]\n[stations]\nboard = ["scope", "lamp"]\n', ["stations.board: lamp is none of the bay's instruments"]),
     ('instruments = ["scope"]\n[stations]\nboard = []\n', ["stations.board: a list of names", "instruments: nobody may use scope"]),
     ('instruments = ["scope", "lamp"]\n[stations]\nboard = ["scope"]\n', ["instruments: nobody may use lamp"]),
-    ('instruments = ["scope"]\n[stations]\n"b b" = ["scope"]\n', ["stations.b b: 'b b' is no name", "stations: there is neither", "instruments: nobody"]),
-    ('instruments = ["scope"]\nstations = 5\n', ["stations: a table is wanted", "stations: there is neither", "instruments: nobody"]),
+    ('instruments = ["scope"]\n[stations]\n"b b" = ["scope"]\n', ["stations.b b: 'b b' is no name", "stations: there is neither"]),
+    ('instruments = ["scope"]\nstations = 5\n', ["stations: a table is wanted", "stations: there is neither"]),
     ('instruments = ["scope"]\n[guests]\ncount = 1001\n', ["guests.count: 1001 guests; a bay has 1000 at most"]),
-    ('instruments = ["scope"]\n[guests]\ncount = -1\n', ["guests.count: a number from 0 to 1000 is wanted", "stations: there is neither", "instruments: nobody"]),
-    ('instruments = ["scope"]\n[guests]\ncount = true\n', ["guests.count: a number from 0 to 1000 is wanted", "stations: there is neither", "instruments: nobody"]),
+    ('instruments = ["scope"]\n[guests]\ncount = -1\n', ["guests.count: a number from 0 to 1000 is wanted", "stations: there is neither"]),
+    ('instruments = ["scope"]\n[guests]\ncount = true\n', ["guests.count: a number from 0 to 1000 is wanted", "stations: there is neither"]),
     ('instruments = ["scope"]\n[stations]\nguest-1 = ["scope"]\n[guests]\ncount = 1\n', ["stations.guest-1: this is the name of a guest"]),
     (ONE + '[tags]\nx = ["lamp"]\n', ["tags.x: lamp is none of the bay's instruments"]),
     (ONE + '[tags]\n"x y" = ["scope"]\n', ["tags.x y: 'x y' is no name"]),

@@ -39,10 +39,14 @@ def made(path: str) -> None:
         pass
 
 
+# a bay whose file says no name
+SHORT = 'instruments = ["scope"]\n[guests]\ncount = 1\n'
+
+
 class WithoutBroker(unittest.TestCase):
     def setUp(self) -> None:
         self.folder = self.enterContext(tempfile.TemporaryDirectory())
-        for name, text in (("bay.toml", BAY), ("bad.toml", 'instruments = ["scope", "scope"]\ncolour = 5\n'), ("open", "0123456789abcdef"), ("short", "x")):
+        for name, text in (("bay.toml", BAY), ("bad.toml", 'instruments = ["scope", "scope"]\ncolour = 5\n'), ("short.toml", SHORT), ("open", "0123456789abcdef"), ("short", "x")):
             with open(f"{self.folder}/{name}", "w", encoding="utf-8") as file:
                 file.write(text)
             os.chmod(file.name, 0o644 if name == "open" else 0o600)
@@ -52,6 +56,27 @@ class WithoutBroker(unittest.TestCase):
         one = socket.create_server(("127.0.0.1", 0))
         self.addCleanup(one.close)
         return int(one.getsockname()[1])
+
+    def test_files_of_a_client(self) -> None:
+        """They are read before anything is asked or said; and which one is wrong is told, and by what it was named."""
+        for name in ("empty", "junk"):
+            with open(f"{self.folder}/{name}", "w", encoding="ascii") as file:
+                file.write("" if name == "empty" else "junk")
+        no, empty, junk = (f"{self.folder}/{name}" for name in ("no", "empty", "junk"))
+        rows = (
+            (["--certificate", no], {}, f"--certificate {no}: there is no such file"),
+            (["--certificate", self.folder], {}, f"--certificate {self.folder}: Is a directory"),
+            (["--certificate", junk], {}, f"--certificate {junk}: there is no certificate in it (as PEM)"),
+            (["--token-file", no], {}, f"--token-file {no}: there is no such file"),
+            (["--token-file", empty], {}, f"--token-file {empty}: a token is one line of letters, digits and signs, and this file is empty"),
+            ([], {"LABRUN_BROKER_TOKEN_FILE": no}, f"LABRUN_BROKER_TOKEN_FILE {no}: there is no such file"),
+        )
+        for options, variables, why in rows:
+            for words in (["status"], ["hold", "scope", "--timeout", "0"]):
+                with self.subTest(options, words=words), mock.patch.dict(os.environ, variables), contextlib.redirect_stderr(io.StringIO()) as said:
+                    # (whoever asked would be told that nobody is there)
+                    self.assertEqual(main([*words, *options, "--broker", f"unix:{self.folder}/no.sock", *(["--", "true"] if words[0] == "hold" else [])]), 66)
+                    self.assertEqual(said.getvalue(), f"labrun-broker: {why}\n")
 
     def test_where_the_page_and_the_numbers_are(self) -> None:
         """If nobody can listen there, it says whose address that is."""
@@ -70,9 +95,12 @@ class WithoutBroker(unittest.TestCase):
         wanted = "unix:PATH or HOST:PORT is wanted, with a port of up to 65535"
         rows = (
             (["bay", "check", bay], 0, f"ok {bay}: bay north, 4 instruments, 2 stations, 4 guests, gone = keep\n", ""),
+            (["bay", "check", f"{self.folder}/short.toml"], 0, f"ok {self.folder}/short.toml: bay, 1 instrument, 0 stations, 1 guest, gone = keep\n", ""),
             (["bay", "check", f"{self.folder}/bad.toml"], 1, "", "bad.toml: colour: there is no such key"),
             (["bay", "check", f"{self.folder}/bad.toml"], 1, "", "bad.toml: instruments: scope is there twice"),
-            (["bay", "check", f"{self.folder}/no.toml"], 1, "", "no.toml: No such file or directory"),
+            (["bay", "check", f"{self.folder}/no.toml"], 66, "", f"labrun-broker: {self.folder}/no.toml: there is no such file\n"),
+            (["serve", f"{self.folder}/no.toml"], 66, "", f"labrun-broker: {self.folder}/no.toml: there is no such file\n"),
+            (["serve", bay, "--listen", nowhere, "--token-file", "none"], 66, "", "labrun-broker: --token-file none: there is no such file\n"),
             ([], 2, "", "required: WORD"),
             (["fly"], 2, "", "labrun-broker: error: there is no word fly: there are serve, hold, guard, status, top, release, disable, enable, token, report, gantt, table, bay, manual; labrun-broker --help\n"),
             (["relese", "board"], 2, "", "bay, manual (did you mean release?); labrun-broker --help\n"),

@@ -117,6 +117,9 @@ jon = {{unix = "ana", may = ["load-9*", "tag:small", "2 of load-*"]}}\nkim = {{u
         self.assertNotIn(token.getvalue().strip(), line.getvalue())
         with contextlib.redirect_stderr(io.StringIO()), contextlib.redirect_stdout(io.StringIO()) as said:
             self.assertEqual((main(["token", "a b"]), said.getvalue()), (2, ""))
+        with contextlib.redirect_stderr(io.StringIO()) as said:
+            self.assertEqual(main(["token", ""]), 2)
+            self.assertRegex(said.getvalue(), "^labrun-broker: an empty name is no name: ")
 
     def test_another_file(self) -> None:
         """What changes is told, and no hash."""
@@ -319,6 +322,7 @@ class Brokers(OnPeople):
         self.assertIn("the broker's own", str(caught.exception.details()))
         self.assertEqual((os.stat(f"{broker.folder}/bay.sock").st_mode & 0o777, os.stat(f"{broker.folder}/bay.sock.in").st_mode & 0o777), (0o660, 0o600))
         self.assertEqual(broker.end(), 0)
+        self.assertIn("labrun-broker: a client of the Unix socket isn't let in: this is nobody's token, or not any more; operators: ana\n", broker.said)
         self.assertFalse([it for it in os.listdir(broker.folder) if ".sock" in it])
 
     def test_who_has_gone_already(self) -> None:

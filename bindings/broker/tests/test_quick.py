@@ -1,9 +1,13 @@
 """The small client of `hold`: it begins soon, and the whole one takes over wherever it has to."""
 
+import contextlib
+import io
 import os
 import signal
+import socket
 import subprocess
 import sys
+import tempfile
 import threading
 import time
 import unittest
@@ -100,8 +104,8 @@ class Quick(OnBroker):
                     file.write(text)
                 for word in (["hold", "scope", "-n", "--token-file", f"{broker.folder}/token", "--", "true"], ["status", "--token-file", f"{broker.folder}/token"]):
                     done = broker.ran(*word)
-                    self.assertEqual((done.returncode, done.stdout), (1, ""))
-                    self.assertRegex(done.stderr, rf"\Alabrun-broker: .*/token: a token is one line of letters, digits and signs, and this file {'has something else' if text else 'is empty'}\n\Z")
+                    self.assertEqual((done.returncode, done.stdout), (66, ""))
+                    self.assertRegex(done.stderr, rf"\Alabrun-broker: --token-file .*/token: a token is one line of letters, digits and signs, and this file {'has something else' if text else 'is empty'}\n\Z")
 
     def test_who_was_stopped_reads_the_answer_first(self) -> None:
         """A process that was stopped while it told the broker finds its timer over and the answer there: that isn't a broker without an answer."""
@@ -203,6 +207,19 @@ class Quick(OnBroker):
             broker.end()
             broker.begin()
             self.assertEqual(broker.ran("release", "guest-1").returncode, 0)
+
+    def test_nobody_listens(self) -> None:
+        """The time limit is kept: the whole client, which begins late, isn't needed to say so."""
+        folder = self.enterContext(tempfile.TemporaryDirectory())
+        with socket.socket(socket.AF_UNIX) as one:
+            one.bind(f"{folder}/left.sock")
+        for name, why in (("no.sock", "No such file or directory"), ("left.sock", "Connection refused")):
+            for limit in (["-n"], ["--timeout", "0.2"]):
+                at = f"unix:{folder}/{name}"
+                with self.subTest(at, limit=limit), mock.patch.object(run, "lab_of", side_effect=AssertionError("the whole client")):
+                    with contextlib.redirect_stderr(io.StringIO()) as said:
+                        self.assertEqual(main(["hold", "scope", *limit, "--quiet", "--broker", at, "--", "true"]), 69)
+                    self.assertEqual(said.getvalue(), f"labrun-broker: the broker at {at} can't be reached: {why}\n")
 
     def test_a_broker_that_is_being_started(self) -> None:
         """Who comes a moment too early waits for it; who doesn't want to wait doesn't."""

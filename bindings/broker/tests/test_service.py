@@ -629,7 +629,7 @@ class Floods(OnBroker):
             one.release()
         self.goes_on(lab)
         broker.end()
-        self.assertEqual(broker.said, "labrun-broker: unix: isn't let in: 3 clients are here, and no more may come\n")
+        self.assertEqual(broker.said, "labrun-broker: a client of the Unix socket isn't let in: 3 clients are here, and no more may come\n")
 
     def test_a_flood_of_notes(self) -> None:
         """One client's notes come at its pace, and another goes on meanwhile."""

@@ -48,7 +48,7 @@ class Splits(unittest.TestCase):
     def test_what_a_station_uses_stays_together(self) -> None:
         # b and c are a station's: so ab and cd are cut, 8, and a and d may share a bay
         self.assertEqual(self.split(2, "bc", ab=4, cd=4, bc=1), (8, ["ad", "bc"]))
-        with self.assertRaisesRegex(Fault, "stations use a b c together, which are 3; a bay is to have 2 at most"):
+        with self.assertRaisesRegex(Fault, "^a b c belong in one bay, because stations use them together: 3, and --most is 2$"):
             self.split(2, "ab", "bc", ab=1, bc=1)
         self.assertEqual(units_of("abcd", [frozenset("bc"), frozenset("cd")]), [frozenset("a"), frozenset("bcd")])
 
@@ -86,6 +86,13 @@ class Told(unittest.TestCase):
             self.assertEqual(main(["bay", "split", folder, "--most", "2"]), 0)
         # (ab and cd in a bay each: b c alone needs both)
         self.assertEqual(said.getvalue(), "2 bays: 1 of 7 sessions need more than one\nbay 1: a b\nbay 2: c d\n1 of them: b c\n")
+
+    def test_no_room(self) -> None:
+        for most in ("0", "-1"):
+            said = io.StringIO()
+            with self.subTest(most), contextlib.redirect_stderr(said):
+                self.assertEqual(main(["bay", "split", "nowhere", "--most", most]), 2)
+                self.assertEqual(said.getvalue(), "labrun-broker: --most is 1 or more\n")
 
 
 if __name__ == "__main__":

@@ -1,20 +1,60 @@
 """What is told to whoever isn't let in: each in one line, and what to do."""
 
+import contextlib
+import io
 import os
 import re
 import shlex
 import shutil
+import socketserver
 import subprocess
 import tempfile
+import threading
 import unittest
+from typing import Any
 from unittest import mock
 
 import grpc
 
 import labrun_broker
 from labrun_broker import finding
+from labrun_broker.command import main
 from labrun_broker.errors import AnswerLost, Unreachable, why_lost
 from tests.brokers import BAY, COMMAND, LIMIT, OnBroker, free_port
+
+
+class SpeaksHttp(socketserver.BaseRequestHandler):
+    def handle(self) -> None:
+        self.request.recv(1000)
+        self.request.sendall(b"HTTP/1.0 400 Bad Request\r\nContent-Length: 0\r\n\r\n")
+        while self.request.recv(1000):
+            pass
+
+
+class Http(unittest.TestCase):
+    def serves(self, kind: type[socketserver.BaseServer], at: object) -> Any:
+        server = kind(at, SpeaksHttp)  # type: ignore[arg-type]
+        self.addCleanup(server.server_close)
+        threading.Thread(target=server.serve_forever, args=(0.05,), daemon=True).start()
+        self.addCleanup(server.shutdown)
+        return server.server_address
+
+    def test_who_speaks_http(self) -> None:
+        """As the socket for curl beside that of a broker: it is told at once, and what to write instead."""
+        folder = self.enterContext(tempfile.TemporaryDirectory())
+        sock = f"unix:{self.serves(socketserver.ThreadingUnixStreamServer, f'{folder}/bay.sock.http')}"
+        port = self.serves(socketserver.ThreadingTCPServer, ("127.0.0.1", 0))[1]
+        why = "can't be reached: somebody speaks HTTP there, and not as the clients of a broker do"
+        rows = ((sock, f"{why}: leave out `.http`, which is for curl and the like"), (f"127.0.0.1:{port}", why))
+        for at, said in rows:
+            text = f"the broker at {at} {said}"
+            with self.subTest(at), labrun_broker.connect(at) as lab:
+                for act in (lab.status, lab.hold("scope").acquire):
+                    with self.assertRaisesRegex(Unreachable, f"^{re.escape(text)}$"):
+                        act()
+            with contextlib.redirect_stderr(io.StringIO()) as told:
+                self.assertEqual(main(["hold", "scope", "--quiet", "--broker", at, "--", "true"]), 69)
+            self.assertEqual(told.getvalue(), f"labrun-broker: {text}\n")
 
 
 @unittest.skipUnless(shutil.which("openssl"), "there is no openssl")
@@ -48,6 +88,8 @@ class Network(OnBroker):
                 with self.subTest(words):
                     done = broker.ran(*words)
                     self.assertEqual((done.returncode, done.stderr), (69, f"labrun-broker: the broker at {host}:{port} {said}\n"))
+        broker.end()
+        self.assertEqual([it for it in broker.said.splitlines() if not it.startswith("labrun-broker: ")], [])
 
     def test_who_isnt_let_in_by_one_of_several(self) -> None:
         """The others stand by: that nobody listens there says nothing."""
