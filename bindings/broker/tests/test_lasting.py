@@ -113,10 +113,10 @@ class Limits(OnFolder):
         for more in ("", '[on_release]\nscope = "true"\n'):
             for station, guests in (("board", 4), ("", 1), ("", 2)):
                 with self.subTest(more, station=station, guests=guests):
-                    keeping, owner = await self.opened(None, SHORT.replace("count = 4", f"count = {guests}") + more), Owner()
-                    held = await keeping.hold(Wish(("scope",), station=station, ticket=TICKET), owner)
+                    keeping, owner = await self.opened(None, BAY.replace("count = 4", f"count = {guests}") + more), Owner()
+                    held = await keeping.hold(Wish(("scope",), station=station, ticket=TICKET, limit=0.4), owner)
                     if guests == 2:
-                        other = await keeping.hold(Wish(("load-1",), limit=60.0), Owner())
+                        other = await keeping.hold(Wish(("load-1",)), Owner())
                         self.assertEqual(other.name, "guest-2")
                     new = await keeping.hold(Wish(("supply",), station=station, timeout=LIMIT), Owner())
                     self.assertEqual((new.instruments, held.holds), (("supply",), False))
