@@ -257,7 +257,7 @@ static struct {
     int count;
     bool any, urgent, quiet;
     double timeout; /* NAN: none */
-} wish = {.station = "", .timeout = NAN};
+} wish = {.timeout = NAN};
 
 static char ticket[65], own_token[1024], path[sizeof((struct sockaddr_un){0}.sun_path)];
 static sigset_t before; /* the signals that were blocked */
@@ -492,6 +492,102 @@ static int refused(const struct talk *it) {
     return found;
 }
 
+/* ---- the holds around this one */
+
+/* Those at this broker that go on: as whom, and all that they have. */
+static struct {
+    char *line, **stations, **names;
+    int stations_count, count;
+    bool was_said;
+} within;
+
+static bool is_among(const char *name, char **its, int count) {
+    for (int at = 0; at < count; at++)
+        if (strcmp(name, its[at]) == 0)
+            return true;
+    return false;
+}
+
+/* Whether each choice has an instrument that a hold around this one has. */
+static bool all_meet(void) {
+    bool has_met = false;
+    for (int at = 0; at < wish.count; at++) {
+        bool meets = false;
+        char *copy = whole(strdup(wish.instruments[at])), *rest = copy;
+        for (char *one; (one = strsep(&rest, wish.any ? "," : "")) != NULL;)
+            meets |= is_among(one, within.names, within.count);
+        free(copy);
+        if (wish.any && !meets)
+            return false;
+        has_met |= meets;
+    }
+    return has_met;
+}
+
+static void put_all(struct text *to, char **its, int count, const char *between) {
+    put(to, "", 0);
+    for (int at = 0; at < count; at++)
+        putf(to, "%s%s", at ? between : "", its[at]);
+}
+
+static int would_wait_for_itself(void) {
+    struct text its = {0}, who = {0};
+    put_all(&its, within.names, within.count, " ");
+    put_all(&who, within.stations, within.stations_count, " and ");
+    say("within a hold of %s by %s, which waits for this command: it would wait for itself. Name all in one hold", its.at, who.at);
+    free(its.at);
+    free(who.at);
+    return USAGE;
+}
+
+/* 0, or the status to end with. A line of LABRUN_AROUND is of each: process, broker, station, instruments. */
+static int looks_around(void) {
+    char *rest = within.line = whole(strdup(getenv("LABRUN_AROUND") ? getenv("LABRUN_AROUND") : ""));
+    size_t room = strlen(rest) + 1;
+    within.stations = whole(calloc(room, sizeof *within.stations));
+    within.names = whole(calloc(room, sizeof *within.names));
+    for (char *line; (line = strsep(&rest, "\n")) != NULL;) {
+        char *process = strsep(&line, "\t"), *broker = strsep(&line, "\t"), *station = strsep(&line, "\t"), *name, where[64];
+        snprintf(where, sizeof where, "/proc/%.20s", process);
+        if (line == NULL || strcmp(broker, wish.broker) != 0 || access(where, F_OK) != 0)
+            continue;
+        within.stations[within.stations_count++] = station;
+        while ((name = strsep(&line, "\t")) != NULL)
+            within.names[within.count++] = name;
+    }
+    return is_among(wish.station, within.stations, within.stations_count) || all_meet() ? would_wait_for_itself() : 0;
+}
+
+/* It has to wait, as the broker says in this body: only the broker knows what a pattern or a tag stands for. 0, or the status to end with. */
+static int lacks(const char *body) {
+    const char *at = value_of(body, "waits_for");
+    struct text others = {0}, its = {0};
+    bool has_own = false;
+    if (within.stations_count == 0)
+        return 0;
+    for (at = at != NULL && *at == '[' ? over_space(at + 1) : ""; *at == '{';) {
+        char *name = text_of(value_of(at, "instrument"));
+        if (is_among(name, within.names, within.count))
+            has_own = true;
+        else
+            putf(&others, "%s%s", others.length ? " or " : "", name);
+        free(name);
+        at = over_value(at, 20);
+        at = at ? over_space(at) : "";
+        at = *at == ',' ? over_space(at + 1) : at;
+    }
+    int found = has_own && others.length == 0 ? would_wait_for_itself() : 0;
+    if (found == 0 && !within.was_said && isnan(wish.timeout)) {
+        put_all(&its, within.names, within.count, " ");
+        say("this hold is within one of %s: if another hold has %s and waits for %s, both wait for ever; name all in one hold", its.at,
+            others.length ? others.at : "what this wants", its.at);
+        within.was_said = true;
+    }
+    free(others.at);
+    free(its.at);
+    return found;
+}
+
 /* ---- waiting until it holds */
 
 static struct {
@@ -649,9 +745,10 @@ static bool is_held(const struct talk *it) {
     return isnan(held.lease) || now() < it->at + held.lease / 6;
 }
 
-/* How it goes on to wait: whether its wish is to be sent, or it asks on by its ticket; whether the broker was there; since when it is away. */
+/* How it goes on to wait: whether its wish is to be sent, or it asks on by its ticket; whether the broker was there; since when it is away;
+   whether it would wait for itself. */
 struct line {
-    bool is_new, was_there, is_told;
+    bool is_new, was_there, is_told, is_itself;
     double end, lost, wait, said_at, silent_at; /* and when it is said that no word comes */
     struct text said;
 };
@@ -669,9 +766,12 @@ static int hears(struct line *its, const struct talk *it) {
     int answer = status_of(it), found = -1;
     if (answer == 200)
         found = is_held(it) ? 0 : -1;
-    else if (answer == 202 && !wish.quiet)
-        tell(it, &its->said, &its->said_at);
-    else if (answer != 202 && (answer != 404 || its->is_new))
+    else if (answer == 202) {
+        its->is_itself = lacks(body_of(it)) != 0;
+        found = its->is_itself ? USAGE : -1;
+        if (!its->is_itself && !wish.quiet)
+            tell(it, &its->said, &its->said_at);
+    } else if (answer != 404 || its->is_new)
         found = refused(it);
     its->is_new = answer == 404;
     its->was_there = true;
@@ -732,13 +832,13 @@ static int holds(void) {
             found = how == ANSWERED && status_of(&it) != 503 ? hears(&its, &it) : hears_nothing(&its, &it, how);
     }
     free(its.said.at);
-    bool is_over = found < 0 || (found == 0 && came);
+    bool is_cut = found < 0 || (found == 0 && came), is_over = is_cut || its.is_itself;
     if (!is_over || !its.is_new)
         hang_up(&it);
     if (is_over)
         gives_up(&it, LATE);
     hang_up(&it);
-    return is_over ? 128 + came : found;
+    return is_cut ? 128 + came : found;
 }
 
 /* ---- while it holds */
@@ -924,57 +1024,6 @@ static int wrong(const char *why, const char *what) {
     return USAGE;
 }
 
-static bool is_among(const char *name, char **its, int count) {
-    for (int at = 0; at < count; at++)
-        if (strcmp(name, its[at]) == 0)
-            return true;
-    return false;
-}
-
-/* Whether each choice has an instrument that a hold around this one has. */
-static bool all_meet(char **its, int count) {
-    if (!wish.any) {
-        for (int at = 0; at < wish.count; at++)
-            if (is_among(wish.instruments[at], its, count))
-                return true;
-        return false;
-    }
-    for (int at = 0; at < wish.count; at++) {
-        bool meets = false;
-        char *copy = whole(strdup(wish.instruments[at])), *rest = copy;
-        for (char *one; (one = strsep(&rest, ",")) != NULL;)
-            meets |= is_among(one, its, count);
-        free(copy);
-        if (!meets)
-            return false;
-    }
-    return true;
-}
-
-/* No: it would wait for a hold that waits for it. A line is of each: process, broker, station, instruments. */
-static bool looks_around(void) {
-    char *copy = whole(strdup(getenv("LABRUN_AROUND") ? getenv("LABRUN_AROUND") : "")), *rest = copy, *fields[70];
-    bool may = true;
-    for (char *line; may && (line = strsep(&rest, "\n")) != NULL;) {
-        int count = 0;
-        char where[64];
-        while (count < 70 && (fields[count] = strsep(&line, "\t")) != NULL)
-            count++;
-        if (count < 4 || strcmp(fields[1], wish.broker) != 0)
-            continue;
-        snprintf(where, sizeof where, "/proc/%.20s", fields[0]);
-        if (access(where, F_OK) != 0)
-            continue;
-        if (strcmp(wish.station, fields[2]) == 0 || all_meet(fields + 3, count - 3)) {
-            say("within a hold by %s, which waits for this command: it would wait for itself. Name all in one hold", fields[2]);
-            may = false;
-        } else if (isnan(wish.timeout))
-            say("within a hold by %s: another that holds what this wants, and wants those, waits for ever with it. Name all in one hold", fields[2]);
-    }
-    free(copy);
-    return may;
-}
-
 static char *who_asks(void) {
     static const char *const names[] = {"LOGNAME", "USER", "LNAME", "USERNAME"};
     const char *user = NULL, *what = strrchr(wish.command[0], '/');
@@ -1014,6 +1063,18 @@ static int read_token(void) {
     return length > 0 ? 0 : wrong("there is no token in this file", name);
 }
 
+static int check_words(bool is_at_once) {
+    if (is_at_once && !isnan(wish.timeout))
+        return wrong("-n isn't allowed with --timeout", "");
+    if (wish.station != NULL && !*wish.station)
+        return wrong("--station: an empty name is no station; a guest says none", "");
+    wish.station = wish.station == NULL ? "" : wish.station;
+    wish.timeout = is_at_once ? 0 : wish.timeout;
+    if (wish.count == 0)
+        return wrong("say which instruments", "");
+    return wish.command[0] == NULL || !*wish.command[0] ? wrong("say what to run, behind `--`", "labrun-hold scope -- ./measure.sh") : 0;
+}
+
 enum { OPTIONS = 5 };
 
 static int read_words(int count, char **words) {
@@ -1022,6 +1083,7 @@ static int read_words(int count, char **words) {
         char **to;
     } options[] = {{"--station", &wish.station}, {"--by", &wish.by}, {"--broker", &wish.broker}, {"--token-file", &wish.token_file}, {"--timeout", NULL}};
     int at = 1;
+    bool is_at_once = false;
     wish.instruments = whole(calloc((size_t)count + 1, sizeof *wish.instruments));
     for (; at < count && strcmp(words[at], "--") != 0; at++) {
         char *word = words[at], *value = NULL;
@@ -1046,14 +1108,12 @@ static int read_words(int count, char **words) {
         else if (strcmp(word, "--quiet") == 0)
             wish.quiet = true;
         else if (strcmp(word, "-n") == 0 || strcmp(word, "--no-wait") == 0)
-            wish.timeout = 0;
+            is_at_once = true;
         else
             return wrong("there is no such option", word);
     }
     wish.command = words + (at < count ? at + 1 : count);
-    if (wish.count == 0)
-        return wrong("say which instruments", "");
-    return wish.command[0] == NULL ? wrong("say what to run, behind `--`", "labrun-hold scope -- ./measure.sh") : 0;
+    return check_words(is_at_once);
 }
 
 static void make_ticket(void) {
@@ -1095,8 +1155,8 @@ int main(int count, char **words) {
         return found;
     char *by = wish.by == NULL ? who_asks() : NULL;
     wish.by = by != NULL ? by : wish.by;
-    if (!looks_around())
-        return USAGE;
+    if ((found = looks_around()) != 0)
+        return found;
     make_ticket();
     catch_signals();
     prctl(PR_SET_CHILD_SUBREAPER, 1, 0, 0, 0);
@@ -1112,6 +1172,9 @@ int main(int count, char **words) {
     free(by);
     free(held.station);
     free(held.names.at);
+    free(within.line);
+    free(within.stations);
+    free(within.names);
     free(wish.instruments);
     return found;
 }

@@ -24,7 +24,8 @@ if TYPE_CHECKING:
 
 # the status of each error, by its name, or by that of the first of its kinds: it is looked up without importing what has it
 ENDS = {"TimeoutError": TIMED_OUT, "TakenAway": TAKEN, "MayNotUse": MAY_NOT, "NotAllowed": MAY_NOT, "Unreachable": UNREACHABLE, "JournalError": NOT_WRITTEN}
-ENDS |= {"Absent": UNREACHABLE, "NoBroker": UNREACHABLE, "NoFile": NO_FILE, "NoInstrument": USAGE, "BayFault": NO_BAY, "BadAddress": NO_BAY, "LabrunError": 1, "OSError": 1, "ValueError": 1}
+ENDS |= {"Absent": UNREACHABLE, "NoBroker": UNREACHABLE, "NoFile": NO_FILE, "NoInstrument": USAGE, "Itself": USAGE, "BayFault": NO_BAY}
+ENDS |= {"BadAddress": NO_BAY, "LabrunError": 1, "OSError": 1, "ValueError": 1}
 
 # ---- how it stands
 

@@ -59,6 +59,8 @@ class Held:
         self.on_taken: Optional[Callable[[Exception], None]] = None
         # and if its limit is over soon
         self.on_warning: Optional[Callable[[str], None]] = None
+        # and with the instruments that it has to wait for, before each line of `waits`
+        self.on_lacking: Optional[Callable[[list[str]], None]] = None
 
     @property
     def held(self) -> bool:
@@ -188,7 +190,9 @@ class Held:
             self._ways = Ways(self.guards, self.ticket, self.lab._certificate)
         return await self._ways.address(instrument)
 
-    def _waits_for(self, text: str) -> None:
+    def _waits_for(self, text: str, lacks: Optional[list[str]] = None) -> None:
+        if self.on_lacking is not None and lacks is not None:
+            self.on_lacking(lacks)
         if self._waits is not None:
             self._waits(text)
 

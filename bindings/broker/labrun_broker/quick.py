@@ -25,6 +25,7 @@ GIVING_UP = 0.5
 WISH, LET_GO = 1, 3
 HELD, WAITS, GONE, FAULT, TAKEN, WARNING = 1, 2, 4, 5, 6, 8
 LEASE, TOKEN, GUARDS = 6, 7, 8  # fields of Held
+WAITS_FOR = 2  # of Waits
 
 
 class Wish(NamedTuple):
@@ -48,6 +49,7 @@ class Quick:
         self.instruments, self.station, self.number, self.token = wish.instruments, wish.station, 0, 0
         self.on_taken: Optional[Callable[[Any], None]] = None
         self.on_warning: Optional[Callable[[str], None]] = None
+        self.on_lacking: Optional[Callable[[list[str]], None]] = None
         self.is_released_if_gone = False
         self.wire = Wire()
         self._path, self._wish, self._waits, self._connects, self._begins, self._token = path, wish, waits, connects, begins, token
@@ -90,6 +92,8 @@ class Quick:
                 self.wire.is_answered()
             self.wire.asks(WISH, _wish(self._wish, self.ticket, self._waits is not None))
             while (told := self.wire.told())[0] == WAITS:
+                if self.on_lacking is not None:
+                    self.on_lacking([text_of(fields_of(it), 1) for it in told[1].get(WAITS_FOR, [])])
                 if self._waits is not None:
                     self._waits(text_of(told[1], 1))
             what, of = told

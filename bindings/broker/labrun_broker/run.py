@@ -16,8 +16,9 @@ from typing import TYPE_CHECKING, Callable, Iterator, Optional, TypeVar, Union
 from .credentials import DEFAULT, user
 from .family import TELLING, Family, adopting, ends
 from .quick import Quick, Wish
-from .texts import addresses_of, last, plain, seconds, unreached
+from .texts import addresses_of, last, plain, seconds, station_name, unreached
 from .wire import Absent, NoBroker, Odd, Silent
+from .within import Within, around
 from .words import CANT_RUN, ENVIRONMENT, NOT_FOUND, PROGRAM, TAKEN, USAGE, add_client, files_of, lab_of, say
 
 if TYPE_CHECKING:
@@ -34,14 +35,15 @@ SILENCE, MINUTE = 6.0, 80.0
 
 def add_hold(parser: argparse.ArgumentParser) -> None:
     parser.add_argument("instruments", metavar="INSTRUMENT", nargs="+", help="what the command needs, all at once; 'load-*' and tag:precise are one that is like that, '2 of load-*' two")
-    parser.add_argument("--timeout", metavar="SECONDS", type=seconds, help="how long to wait for them at most")
+    one_of = parser.add_mutually_exclusive_group()
+    one_of.add_argument("--timeout", metavar="SECONDS", type=seconds, help="how long to wait for them at most")
+    one_of.add_argument("-n", "--no-wait", dest="timeout", action="store_const", const=0.0, help="take what is free, as with --timeout 0")
     limit = "for how long it may hold, as 90, 30min, 2h: once that is over, whoever waits for what it has gets it; a line is said before"
     parser.add_argument("--limit", metavar="SPAN", type=last, help=limit)
-    parser.add_argument("-n", "--no-wait", dest="timeout", action="store_const", const=0.0, help="take what is free, as with --timeout 0")
     parser.add_argument("--any", action="store_true", help="one of these is enough; with a comma, as in load-1,load-2, a choice has several")
     urgent = "once it waits, nobody who asks later goes before it, nor before anybody who waits with it; it goes before none of them"
     parser.add_argument("--urgent", action="store_true", help=urgent)
-    parser.add_argument("--station", metavar="NAME", default="", help="as which station; a guest without")
+    parser.add_argument("--station", metavar="NAME", type=station_name, help="as which station; a guest without")
     parser.add_argument("--by", metavar="TEXT", help="who holds, for people to read; user, machine and command without")
     parser.add_argument("--quiet", action="store_true", help="don't say for whom it waits")
     add_client(parser)
@@ -50,27 +52,29 @@ def add_hold(parser: argparse.ArgumentParser) -> None:
 
 
 def run_hold(args: argparse.Namespace) -> int:
-    if not args.command:
+    if not args.command or not args.command[0]:
         say("hold: say what to run, behind `--`: labrun-broker hold scope -- ./measure.sh")
         return USAGE
     what = os.path.basename(args.command[0])
     its = tuple(dict.fromkeys(args.instruments))
     any_of = tuple(tuple(it.split(",")) for it in its) if args.any else ()
-    if not looks_around(args, any_of or (its,)):
-        return USAGE
-    wish = Wish(() if any_of else its, any_of, args.station, args.by or f"{user()} {os.getpid()} {what}"[:64], args.timeout, args.limit, args.urgent)
     files_of(args)
+    within = Within(address_of(args), args.timeout is None)
+    station = args.station or ""
+    within.checks(station, any_of or (its,))
+    wish = Wish(() if any_of else its, any_of, station, args.by or f"{user()} {os.getpid()} {what}"[:64], args.timeout, args.limit, args.urgent)
     silence = Silence(address_of(args))
 
     def waits(text: str) -> None:
-        silence.is_broken()
-        say(f"waits: {plain(text)}")
+        if not args.quiet:
+            silence.is_broken()
+            say(f"waits: {plain(text)}")
 
     with passing_on() as signals, adopting(), contextlib.ExitStack() as ends:
         with contextlib.ExitStack() as until_held:
             if not args.quiet:
                 until_held.enter_context(silence)
-            held = holds(args, wish, None if args.quiet else waits, signals, ends)
+            held = holds(args, wish, None if args.quiet and not within.stations else waits, signals, ends, within)
         variables, passes = ends.enter_context(leads(held, args))
         status = runs(args.command, held, signals, address_of(args), variables)
         if held.held:
@@ -162,26 +166,7 @@ def address_of(args: argparse.Namespace) -> str:
     return str(args.broker or os.environ.get("LABRUN_BROKER") or DEFAULT)
 
 
-def around(address: str, held: Union[Quick, Held]) -> str:
-    """The holds around a command, for those within: a line for each, with its process, broker, station and instruments."""
-    its = "\t".join([str(os.getpid()), address, held.station, *held.instruments])
-    return "\n".join([*filter(None, [os.environ.get("LABRUN_AROUND")]), its])
-
-
-def looks_around(args: argparse.Namespace, wanted: tuple[tuple[str, ...], ...]) -> bool:
-    """No: it would wait for a hold that waits for it."""
-    for process, address, station, *its in (line.split("\t") for line in os.environ.get("LABRUN_AROUND", "").split("\n") if line.count("\t") > 2):
-        if address != address_of(args) or not os.path.exists(f"/proc/{process}"):
-            continue
-        if args.station == station or all(set(its) & set(one) for one in wanted):
-            say(f"within a hold of {' '.join(its)} by {station}, which waits for this command: it would wait for itself. Name all in one hold")
-            return False
-        if args.timeout is None:
-            say(f"within a hold of {' '.join(its)}: another that holds what this wants, and wants those, waits for ever with it. Name all in one hold")
-    return True
-
-
-def holds(args: argparse.Namespace, wish: Wish, waits: Waits, signals: Signals, ends: contextlib.ExitStack) -> Union[Quick, Held]:
+def holds(args: argparse.Namespace, wish: Wish, waits: Waits, signals: Signals, ends: contextlib.ExitStack, within: Within) -> Union[Quick, Held]:
     """A session that holds, until the end of `ends`."""
 
     def connects(was_there: bool) -> Lab:
@@ -201,6 +186,7 @@ def holds(args: argparse.Namespace, wish: Wish, waits: Waits, signals: Signals, 
 
         def quickly() -> Quick:
             tried[:] = [Quick(address.removeprefix("unix:"), wish._replace(timeout=left()), waits, connects, signals.begins, token)]
+            tried[0].on_lacking = within.lacks
             return ends.enter_context(tried[0])
 
         try:
@@ -216,6 +202,7 @@ def holds(args: argparse.Namespace, wish: Wish, waits: Waits, signals: Signals, 
             was_there, ticket = tried[0].wire.was_there, tried[0].ticket
     lab = ends.enter_context(connects(was_there))
     held = lab.hold(*wish.instruments, any_of=wish.any_of, waits=waits, limit=wish.limit, urgent=wish.urgent)
+    held.on_lacking = within.lacks
 
     def wholly() -> Held:
         # (it may hold by now, and the broker's word be lost)

@@ -174,7 +174,7 @@ class Stream:
             self.session._is_taken(self, raised(told))
         elif kind == "waits" and self.session is not None:
             try:
-                self.session._waits_for(told.text)
+                self.session._waits_for(told.text, [it.instrument for it in told.waits_for])
             except Exception as fault:
                 self.ends(fault)
         elif kind == "warning":

@@ -48,6 +48,12 @@ def seconds(text: str) -> float:
     return value
 
 
+def station_name(text: str) -> str:
+    if not text:
+        raise argparse.ArgumentTypeError("an empty name is no station; a guest says none")
+    return text
+
+
 def mebibytes(text: str) -> int:
     """So many MiB, in bytes."""
     value = _number(text)

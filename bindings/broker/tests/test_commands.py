@@ -105,6 +105,9 @@ class WithoutBroker(unittest.TestCase):
             (["fly"], 2, "", "labrun-broker: error: there is no word fly: there are serve, hold, guard, status, top, release, disable, enable, token, report, gantt, table, bay, manual; labrun-broker --help\n"),
             (["relese", "board"], 2, "", "bay, manual (did you mean release?); labrun-broker --help\n"),
             (["hold", "scope"], 2, "", "say what to run, behind `--`"),
+            (["hold", "scope", "--broker", nowhere, "--", ""], 2, "", "say what to run, behind `--`"),
+            (["hold", "scope", "--station", "", "--", "true"], 2, "", "argument --station: an empty name is no station; a guest says none; labrun-broker"),
+            (["hold", "scope", "-n", "--timeout", "5", "--", "true"], 2, "", "argument --timeout: not allowed with argument -n/--no-wait; labrun-broker"),
             (["hold", "--", "true"], 2, "", "required: INSTRUMENT"),
             (["hold", "scope", "--timeout", "soon", "--", "true"], 2, "", "argument --timeout: 'soon' is no number of seconds, 0 or more and below 1000000000; labrun-broker hold --help\n"),
             (["hold", "scope", "--limit", "-2h", "--", "true"], 2, "", "argument --limit: '-2h' is no span of more than 0 and below 1000000000 s: write 90, 30s, 15min, 4h or 2d; labrun-broker"),
@@ -289,13 +292,17 @@ class WithBroker(OnBroker):
         broker = self.broker()
         inner = "labrun-broker: within a hold of scope by guest-1, which waits for this command: it would wait for itself. Name all in one hold\n"
         as_board = inner.replace("guest-1", "board")
-        told = "labrun-broker: within a hold of scope: another that holds what this wants, and wants those, waits for ever with it. Name all in one hold\n"
         rows = (
             ([], ["scope"], 2, inner),
             ([], ["scope", "supply"], 2, inner),
             ([], ["--any", "scope", "scope,supply"], 2, inner),
-            ([], ["--any", "scope", "supply"], 0, told),
-            ([], ["supply"], 0, told),
+            ([], ["--any", "scope", "supply"], 0, ""),
+            ([], ["supply"], 0, ""),
+            ([], ["s[c]ope"], 2, inner),
+            ([], ["--any", "s[c]ope", "scope,load-*", "--quiet"], 2, inner),
+            (["load-1", "load-2"], ["load-*", "--timeout", "60"], 2, "it would wait for itself"),
+            (["load-1"], ["2 of load-*"], 2, "it would wait for itself"),
+            (["load-1"], ["load-*"], 0, ""),
             ([], ["supply", "--timeout", "9"], 0, ""),
             (["--station", "board"], ["--station", "board", "supply"], 2, as_board),
             ([], ["scope", "--broker", f"unix:{broker.folder}/other.sock"], 69, "can't be reached"),
@@ -306,6 +313,17 @@ class WithBroker(OnBroker):
                 self.assertEqual(done.returncode, status, done.stderr)
                 self.assertIn(said, done.stderr)
                 self.assertEqual(bool(said), bool(done.stderr))
+        # it has to wait, and may do so for ever
+        lab = self.lab(broker)
+        other = lab.hold("supply")
+        other.acquire()
+        waits = broker.started("hold", "scope", "--", *COMMAND, "hold", "supply", "--quiet", "--", "true")
+        until(lambda: station(lab, "guest-3")["state"] == "waiting")
+        assert waits.stderr is not None
+        said = "labrun-broker: this hold is within one of scope: if another hold has supply and waits for scope, both wait for ever; name all in one hold\n"
+        self.assertEqual(waits.stderr.readline(), said)
+        other.release()
+        self.assertEqual((waits.communicate(timeout=LIMIT), waits.returncode), (("", ""), 0))
         # and a hold that is over is around nobody
         later = f"while [ ! -e {broker.folder}/go ]; do sleep 0.05; done; {COMMAND[0]} -m labrun_broker hold scope -n -- echo ran > {broker.folder}/later"
         self.assertEqual(broker.ran("hold", "scope", "--", "sh", "-c", f"({later}) >&- 2>&- &").returncode, 0)
@@ -327,7 +345,7 @@ class WithBroker(OnBroker):
         broker = self.broker()
         lab = self.lab(broker)
         with lab.hold("load-1"):
-            waits = broker.started("hold", "load-1", "--station", "", "--", "true")
+            waits = broker.started("hold", "load-1", "--", "true")
             until(lambda: station(lab, "guest-2")["state"] == "waiting")
             waits.send_signal(signal.SIGINT)
             self.assertEqual((waits.communicate(timeout=LIMIT), waits.returncode), (("", ""), 130))

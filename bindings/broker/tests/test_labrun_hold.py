@@ -120,6 +120,9 @@ class Held(OnBroker):
             (["scop", "--", "true"], 2, "did you mean scope?"),
             (["--", "true"], 2, "say which instruments"),
             (["scope"], 2, "say what to run"),
+            (["scope", "--", ""], 2, "say what to run, behind `--`"),
+            (["scope", "--station", "", "--", "true"], 2, "an empty name is no station; a guest says none"),
+            (["scope", "-n", "--timeout", "5", "--", "true"], 2, "-n isn't allowed with --timeout"),
             (["scope", "--timeout", "soon", "--", "true"], 2, "--timeout: this is no number of seconds, 0 or more and below 1000000000: soon"),
             (["scope", "--timeout", "-1", "--broker", "unix:/nowhere/bay.sock", "--", "true"], 2, "0 or more and below 1000000000: -1"),
             (["scope", "--tiemout", "1", "--", "true"], 2, "no such option: --tiemout"),
@@ -206,12 +209,32 @@ class Held(OnBroker):
 
     def test_within_a_hold(self) -> None:
         broker, _ = self.at()
-        ran = self.ran(broker, "scope", "--", self.program, "scope", "supply", "--", "true")
-        self.assertEqual(ran.returncode, 2, ran.stderr)
-        self.assertIn("it would wait for itself", ran.stderr)
-        ran = self.ran(broker, "scope", "--", self.program, "supply", "--", "true")
-        self.assertEqual(ran.returncode, 0, ran.stderr)
-        self.assertIn("waits for ever with it", ran.stderr)
+        for outer, inner, status in (
+            (["scope"], ["scope", "supply"], 2),
+            (["scope", "--station", "board"], ["supply", "--station", "board"], 2),
+            (["load-1", "load-2"], ["load-*"], 2),
+            (["load-1"], ["2 of load-*", "--quiet"], 2),
+            (["scope"], ["--any", "s[c]ope", "scope,supply"], 2),
+            (["load-1"], ["load-*"], 0),
+            (["scope"], ["supply"], 0),
+        ):
+            with self.subTest(inner):
+                ran = self.ran(broker, *outer, "--", self.program, *inner, "--", "true")
+                self.assertEqual(ran.returncode, status, ran.stderr)
+                names, who = " ".join(outer).partition(" --")[0], "board" if "board" in outer else "guest-1"
+                said = f"labrun-hold: within a hold of {names} by {who}, which waits for this command: it would wait for itself. Name all in one hold\n"
+                self.assertEqual(ran.stderr, said if status else "")
+
+    def test_within_a_hold_it_waits(self) -> None:
+        broker, one = self.at()
+        ticket = one.holds("supply")
+        waits = subprocess.Popen([self.program, "scope", "--", self.program, "supply", "--quiet", "--", "true"], env=self.environment(broker), stderr=subprocess.PIPE, text=True)
+        self.addCleanup(waits.kill)
+        assert waits.stderr is not None
+        said = "labrun-hold: this hold is within one of scope: if another hold has supply and waits for scope, both wait for ever; name all in one hold\n"
+        self.assertEqual(waits.stderr.readline(), said)
+        one.lets_go(ticket)
+        self.assertEqual(self.ends(waits, 0), "")
 
     def test_a_signal_goes_on_and_what_was_started_is_waited_for(self) -> None:
         """Nobody else holds before the last of it has ended."""
