@@ -106,7 +106,8 @@ class Coming:
         is_over = self._lost_at is not None and now > self._lost_at + patience or self._until is not None and now > self._until
         if lost.code not in AGAIN or is_for_good(str(lost)) or not patience or is_over:
             why = lab._why_lost(lost.code, str(lost))
-            raise AnswerLost(f"{why}; {MAY_HOLD}") if isinstance(why, AnswerLost) else why from None
+            # (who closes each connection at once has heard nothing)
+            raise AnswerLost(f"{why}; {MAY_HOLD}") if isinstance(why, AnswerLost) and lab._was_there else why from None
         if self._lost_at is None and lab._brokers.is_list:
             self._held._waits_for(f"no broker of {lab.address} answers; it is tried again for {patience:g} s")
         await asyncio.sleep(PAUSE)
