@@ -22,6 +22,7 @@ pub struct Request {
     pub deadline: Option<u64>,
     /// How long it may hold while somebody waits for what it has.
     pub limit: Option<u64>,
+    /// Whether those who ask later may go before it and before those who stand in line with it.
     pub urgency: Urgency,
 }
 
