@@ -214,7 +214,9 @@ class Lab:
         except grpc.aio.AioRpcError as fault:
             why = self._why_lost(fault.code(), str(fault.details()))
             if name in CHANGES and isinstance(why, AnswerLost):
-                raise AnswerLost(f"{why}; it may have been done, or not: see `labrun-broker status`, and try again") from None
+                # (a second try without a number would end whatever session the station has by then)
+                again = "try again" if name != "Release" or wish.session else "try again with the session's number, because another may have begun"
+                raise AnswerLost(f"{why}; it may have been done, or not: see `labrun-broker status`, and {again}") from None
             raise why from None
 
     def _why_lost(self, code: Any, text: str) -> Exception:

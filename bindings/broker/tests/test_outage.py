@@ -129,18 +129,21 @@ class Commands(OnBroker):
         self.assertEqual(broker.ran("disable", "scope", "no trigger").returncode, 0)
 
     def test_a_broker_that_dies_before_it_answers(self) -> None:
-        """Nobody knows whether it was done, and whoever asked is told what to do."""
-        broker = self.broker()
+        """Nobody knows whether it was done, and whoever asked is told what to do; whoever releases, to name the session, so that a second try ends
+        no later one."""
+        broker, told = self.broker(), "connection; it may have been done, or not: see `labrun-broker status`, and try again"
         lab = self.lab(broker)
         lab.status()
         assert broker.process is not None
         broker.process.send_signal(signal.SIGSTOP)
         with ThreadPoolExecutor() as threads:
             asked = threads.submit(lab.disable, "scope", "no trigger")
+            whoever, only = threads.submit(lab.release, "burn-in"), threads.submit(lab.release, "burn-in", 7)
             time.sleep(2)
             broker.kill()
-            with self.assertRaisesRegex(AnswerLost, "connection; it may have been done, or not: see `labrun-broker status`, and try again$"):
-                asked.result(LIMIT)
+            for one, again in (asked, "$"), (whoever, " with the session's number, because another may have begun$"), (only, "$"):
+                with self.subTest(again), self.assertRaisesRegex(AnswerLost, told + again):
+                    one.result(LIMIT)
         with self.assertRaises(Unreachable) as fault:
             lab.disable("scope", "no trigger")
         self.assertNotIsInstance(fault.exception, AnswerLost, "nobody was there to hear it")

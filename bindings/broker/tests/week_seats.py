@@ -256,9 +256,16 @@ class Seat:
         return False
 
     def _is_released(self, station: str, number: int) -> None:
-        words = ["release", station, *(["--session", str(number)] if number and self.chance.random() < 0.5 else [])]
-        who = self.chance.choice([*OPERATORS, *([self.person] if self.person in self.lab.model.people else [])])
-        status, text = self.lab.does(who, *words)
+        """Whoever tries again names the session, because another may have begun there; it may be over by then."""
+        lab, words = self.lab, ["release", station]
+        who = self.chance.choice([*OPERATORS, *([self.person] if self.person in lab.model.people else [])])
+        number = number or next(it["session"] for it in lab.status()["stations"] if it["name"] == station)
+        if is_named := self.chance.random() < 0.5:
+            words += ["--session", str(number)]
+        status, text = lab.does(who, *words) if is_named else lab.command(who, *words)
+        if not is_named and status in (69, 74):
+            status, text = lab.does(who, *words, "--session", str(number))
+            status = 0 if status == 1 else status
         if status:
             self.lab.fault(f"{' '.join(words)} by {who}: {status}, {text}")
 
