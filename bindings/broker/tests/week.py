@@ -135,7 +135,8 @@ def look_at_records(lab: Lab) -> None:
     print(f"{sum(map(len, lab.records.values()))} bytes of records, {len(count)} sessions, {sum(it['held'] for it in count.values())} that held", flush=True)
     ends = ("let_go", "failed", "taken")
     for number, it in count.items():
-        over = sum(it[end] for end in ends)
+        # (a client that was gone as its session came to hold wasn't told of it)
+        over = sum(it[end] for end in ends) + (it["gave_up"] if number not in lab.told else 0)
         if it["held"] > 1 or it["held"] and over != 1:
             lab.fault(f"the records have of session {number}: {dict(it)}")
     for number, of in lab.told.items():
