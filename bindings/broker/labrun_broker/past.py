@@ -13,7 +13,7 @@ from typing import Optional, TextIO
 
 from .benches import records_of_journal
 from .sessions import ENDS, UNKNOWN, Fault, Past, Session, bays_in, first, read_records, spans_waited_for
-from .texts import aligned, plain, span
+from .texts import aligned, called, plain, span
 
 
 def local(t: Optional[float]) -> str:
@@ -165,7 +165,7 @@ def run_table(args: argparse.Namespace) -> int:
 def run_report(args: argparse.Namespace) -> int:
     for at, (name, its) in enumerate(chosen(args).items()):
         if name:
-            sys.stdout.write(f"{'' if at == 0 else chr(10)}bay {name}, ")
+            sys.stdout.write(f"{'' if at == 0 else chr(10)}{called('bay', name)}, ")
         write_report(*its, sys.stdout)
     return 0
 
