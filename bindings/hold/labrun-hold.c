@@ -691,6 +691,8 @@ static void gives_up(struct talk *wish_sent, double span) {
             says = INFINITY;
         }
     }
+    if (!is_told && span >= LATE)
+        say("as far as is known here the broker wasn't told: the session may come to hold all the same, as `labrun-broker status` says");
     came = first;
     hang_up(&it);
     free(rest.at);
@@ -746,10 +748,10 @@ static bool is_held(const struct talk *it) {
     return isnan(held.lease) || now() < it->at + held.lease / 6;
 }
 
-/* How it goes on to wait: whether its wish is to be sent, or it asks on by its ticket; whether the broker was there; since when it is away;
-   whether it would wait for itself. */
+/* How it goes on to wait: whether its wish is to be sent, or it asks on by its ticket; whether some of it was sent; whether the broker was there;
+   since when it is away; whether it would wait for itself. */
 struct line {
-    bool is_new, was_there, is_told, is_itself;
+    bool is_new, has_asked, was_there, is_told, is_itself;
     double end, lost, wait, said_at, silent_at; /* and when it is said that no word comes */
     struct text said;
 };
@@ -804,7 +806,8 @@ static int hears_nothing(struct line *its, const struct talk *it, enum outcome h
     }
     if (time > its->lost + (its->was_there ? AWAY : STARTING) || time > its->end + LATE_END || (is_first && time >= its->end)) {
         say("the broker at unix:%s %s", path, how == ABSENT ? "can't be reached: nobody listens there" : "doesn't answer");
-        gives_up(&none, 0.5);
+        if (its->has_asked)
+            gives_up(&none, 0.5);
         return UNREACHABLE;
     }
     wait_until(NULL, time + (is_first ? 0.1 : PAUSE));
@@ -824,6 +827,7 @@ static int holds(void) {
         while (how == PENDING && !came) {
             wait_until(&it, fmin(its.silent_at, now() + 3600));
             how = goes_on(&it);
+            its.has_asked |= it.written > 0;
             if (how == PENDING && !came)
                 is_silent(&its);
         }
@@ -836,7 +840,7 @@ static int holds(void) {
     bool is_cut = found < 0 || (found == 0 && came), is_over = is_cut || its.is_itself;
     if (!is_over || !its.is_new)
         hang_up(&it);
-    if (is_over)
+    if (is_over && its.has_asked) /* (else nobody need be told) */
         gives_up(&it, LATE);
     hang_up(&it);
     return is_cut ? 128 + came : found;

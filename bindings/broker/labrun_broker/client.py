@@ -220,6 +220,16 @@ class Lab:
     def _why_lost(self, code: Any, text: str) -> Exception:
         return why_lost(self.address, code, text, self._certificate is None and not self._was_there)
 
+    def _is_left(self, span: float) -> bool:
+        """Whether whoever waits no longer has told the broker so, and was answered, in so many seconds."""
+
+        async def waits() -> None:
+            if self._leaving:
+                await asyncio.wait(set(self._leaving), timeout=span)
+
+        self._run(waits())
+        return not self._leaving
+
     def close(self, lets_go: bool = True) -> None:
         """What is still held is let go, unless the program just ends: then it is kept for whoever has its ticket. Who waits, and each further call,
         gets Closed."""

@@ -229,6 +229,15 @@ class Held(OnBroker):
         self.ends(waits, 130)
         self.assertEqual(one.status("guest-2")["state"], "idle")
 
+    def test_a_signal_before_anything_is_asked(self) -> None:
+        """Nobody need be told: it ends at once."""
+        with subprocess.Popen([self.program, "scope", "--broker", f"unix:{self.room}/no.sock", "--", "true"], stderr=subprocess.PIPE, text=True) as one:
+            assert one.stderr is not None
+            self.assertIn("waits for the broker: it doesn't listen yet", one.stderr.readline())
+            one.send_signal(signal.SIGINT)
+            # (it would say that it tells the broker, and tell it for ten seconds)
+            self.assertEqual((one.communicate(timeout=LIMIT)[1], one.returncode), ("", 130))
+
     def test_within_a_hold(self) -> None:
         broker, _ = self.at()
         for outer, inner, status in (
