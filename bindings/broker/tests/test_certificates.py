@@ -1,11 +1,15 @@
 """A broker's certificate that isn't the one that a client knows it by."""
 
+import asyncio
 import os
 import shutil
 import tempfile
 import threading
 import unittest
+from typing import Any
 from unittest import mock
+
+import grpc
 
 import labrun_broker
 from labrun_broker import finding
@@ -14,6 +18,38 @@ from tests.guards import REFUSED, Guarded, talk
 from tests.guards import Bay as Instruments
 
 TOKEN = "a token that nobody knows"
+
+
+class Flaps:
+    """A channel that fails, and a moment later tries again, for ever; or one that never does anything else."""
+
+    def __init__(self, why: str = "") -> None:
+        its = grpc.ChannelConnectivity
+        self._why, self._states = why, [its.IDLE, its.TRANSIENT_FAILURE] if why else []
+
+    def get_state(self, try_to_connect: bool = False) -> grpc.ChannelConnectivity:
+        return self._states.pop(0) if self._states else grpc.ChannelConnectivity.CONNECTING
+
+    async def wait_for_state_change(self, state: grpc.ChannelConnectivity) -> None:
+        while not self._states:
+            await asyncio.sleep(LIMIT)
+
+    def unary_unary(self, name: str) -> Any:
+        async def asks(message: bytes, timeout: float) -> None:
+            raise grpc.aio.AioRpcError(grpc.StatusCode.UNAVAILABLE, grpc.aio.Metadata(), grpc.aio.Metadata(), self._why)
+
+        return asks
+
+
+class Looking(unittest.IsolatedAsyncioTestCase):
+    async def test_why_is_known_as_soon_as_it_fails(self) -> None:
+        """Also if it tries again by the time that the others have been asked, of whom one says nothing."""
+        its = iter([Flaps(), Flaps("failed to connect to all addresses; last error: UNKNOWN: certificate verify failed")])
+        with mock.patch.object(finding, "_channel", lambda *_: next(its)):
+            one = finding.Brokers(["a:1", "b:2"], None, [], lambda it: {"it": it})
+        async with asyncio.timeout(LIMIT):
+            await one.looks(10 * LIMIT)
+        self.assertEqual(one.address, "b:2")
 
 
 class Certificates(OnBroker):
