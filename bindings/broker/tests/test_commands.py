@@ -202,7 +202,10 @@ class WithoutBroker(unittest.TestCase):
         self.assertEqual(said, ["ann", "number 3 in line; 2 others went first, and after 16 what it needs is kept for it", "ann", "number 4 in line", full])
 
     def test_ctrl_c_while_it_begins(self) -> None:
-        """Also before anything of its own is there: by each program that begins it."""
+        """Also before anything of its own is there: by each program that begins it. Nothing else is read before it minds that."""
+        script = "import sys; before = set(sys.modules); import labrun_broker.__main__; print(*sorted(set(sys.modules) - before))"
+        read = subprocess.run([sys.executable, "-c", script], capture_output=True, text=True, timeout=LIMIT)
+        self.assertEqual((read.stdout, read.stderr), ("labrun_broker labrun_broker.__main__\n", ""))
 
         class Interrupts:
             def find_spec(self, name: str, *_: object) -> None:
