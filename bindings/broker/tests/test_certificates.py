@@ -83,7 +83,7 @@ class Certificates(OnBroker):
             self.assertEqual(told, [f"the broker at {at} can't be reached: it has another certificate than --certificate says"])
 
     def test_a_guard_reads_it_again(self) -> None:
-        """Once its broker has another one. The guard goes on."""
+        """Once its broker has another one. The guard goes on, and says which file can't be read."""
         instruments = Instruments(["scope"])
         self.addCleanup(instruments.close)
         shutil.copy(self.wrong, f"{self.folder}/its")
@@ -96,6 +96,10 @@ class Certificates(OnBroker):
         assert at.process is not None and at.process.stderr is not None
         # (before that it wasn't there)
         until(lambda: "it has another certificate than --certificate says" in at.process.stderr.readline())
+        with open(f"{self.folder}/its", "w", encoding="ascii") as file:
+            file.write("junk")
+        said = f"labrun-broker: {self.folder}/its: there is no certificate in it (as PEM); what was read before counts\n"
+        until(lambda: at.process is not None and at.process.stderr is not None and at.process.stderr.readline() == said, "that it says so")
         shutil.copy(self.known, f"{self.folder}/its")
         with at.broker.lab() as lab, lab.hold("scope", timeout=LIMIT) as held:
 
