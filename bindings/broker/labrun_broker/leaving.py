@@ -1,5 +1,6 @@
-"""A `hold` that waits no longer, because a signal came, tells the broker so. One that is stopped may read it late, and then the session may have come
-to hold, for nobody."""
+"""A `hold` that waits no longer, because a signal came, tells the broker so.
+
+A broker that is stopped may read it late, and then the session may have come to hold, for nobody."""
 
 from __future__ import annotations
 
