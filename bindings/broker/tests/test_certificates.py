@@ -43,10 +43,11 @@ class Flaps:
 
 class Looking(unittest.IsolatedAsyncioTestCase):
     async def test_why_is_known_as_soon_as_it_fails(self) -> None:
-        """Also if it tries again by the time that the others have been asked, of whom one says nothing."""
-        its = iter([Flaps(), Flaps("failed to connect to all addresses; last error: UNKNOWN: certificate verify failed")])
+        """Also if it tries again by the time that the others have been asked, of whom one says nothing, and one that stands by is told of later."""
+        why = "failed to connect to all addresses; last error: UNKNOWN: "
+        its = iter([Flaps(), Flaps(f"{why}certificate verify failed"), Flaps(f"{why}Connection refused")])
         with mock.patch.object(finding, "_channel", lambda *_: next(its)):
-            one = finding.Brokers(["a:1", "b:2"], None, [], lambda it: {"it": it})
+            one = finding.Brokers(["a:1", "b:2", "c:3"], None, [], lambda it: {"it": it})
         async with asyncio.timeout(LIMIT):
             await one.looks(10 * LIMIT)
         self.assertEqual(one.address, "b:2")
