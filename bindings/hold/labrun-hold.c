@@ -29,7 +29,7 @@
 #include <time.h>
 #include <unistd.h>
 
-enum { USAGE = 2, UNREACHABLE = 69, NOT_WRITTEN = 74, TIMED_OUT = 75, TAKEN = 76, MAY_NOT = 77, CANT_RUN = 126, NOT_FOUND = 127 };
+enum { USAGE = 2, NO_FILE = 66, UNREACHABLE = 69, NOT_WRITTEN = 74, TIMED_OUT = 75, TAKEN = 76, MAY_NOT = 77, CANT_RUN = 126, NOT_FOUND = 127 };
 /* seconds: that a broker may take to begin; that one which was there may be away; between two tries; that an answer may be late; after which it
    is said that the broker isn't told, or what still runs; between two looks at what still runs */
 static const double STARTING = 5, AWAY = 60, PAUSE = 0.3, LATE = 10, LATE_END = 2, UNTOLD = 1.5, TELLING = 1, LOOK = 0.02;
@@ -48,9 +48,10 @@ static const char HELP[] =
     "  --token-file FILE  your token, for a broker that asks who you are; without, LABRUN_BROKER_TOKEN_FILE says where it is\n"
     "  --broker ADDR      unix:PATH; without, LABRUN_BROKER says it, or it is unix:/run/labrun/bay.sock. If there is a socket\n"
     "                     PATH.http, it is asked there: labrun-broker serve BAY --listen unix:PATH --http unix:PATH.http\n\n"
-    "statuses: that of the command, or 128 and the number of the signal that ended it; 1 the broker said no; 2 the words aren't right; 69 the\n"
-    "broker can't be reached; 74 it couldn't write; 75 the time limit passed; 76 the session was taken away; 77 the station, a guest or you\n"
-    "may not use one of the instruments; 126 and 127 the command can't be run, or isn't there; 130 Ctrl-C\n";
+    "statuses: that of the command, or 128 and the number of the signal that ended it; 1 the broker said no; 2 the words aren't right; 66 the\n"
+    "token's file can't be read, or no token is in it; 69 the broker can't be reached; 74 it couldn't write; 75 the time limit passed; 76 the\n"
+    "session was taken away; 77 the station, a guest or you may not use one of the instruments; 126 and 127 the command can't be run, or\n"
+    "isn't there; 130 Ctrl-C\n";
 
 /* ---- texts */
 
@@ -259,7 +260,7 @@ static struct {
     double timeout; /* NAN: none */
 } wish = {.timeout = NAN};
 
-static char ticket[65], own_token[1024], path[sizeof((struct sockaddr_un){0}.sun_path)];
+static char ticket[65], own_token[8192], path[sizeof((struct sockaddr_un){0}.sun_path)];
 static sigset_t before; /* the signals that were blocked */
 static int signals = -1;
 /* what came before there was a command; the command, and its status (-1: it runs); when it began, as /proc says it */
@@ -690,6 +691,8 @@ static void gives_up(struct talk *wish_sent, double span) {
             says = INFINITY;
         }
     }
+    if (!is_told && span >= LATE)
+        say("as far as is known here the broker wasn't told: the session may come to hold all the same, as `labrun-broker status` says");
     came = first;
     hang_up(&it);
     free(rest.at);
@@ -745,10 +748,10 @@ static bool is_held(const struct talk *it) {
     return isnan(held.lease) || now() < it->at + held.lease / 6;
 }
 
-/* How it goes on to wait: whether its wish is to be sent, or it asks on by its ticket; whether the broker was there; since when it is away;
-   whether it would wait for itself. */
+/* How it goes on to wait: whether its wish is to be sent, or it asks on by its ticket; whether some of it was sent; whether the broker was there;
+   since when it is away; whether it would wait for itself. */
 struct line {
-    bool is_new, was_there, is_told, is_itself;
+    bool is_new, has_asked, was_there, is_told, is_itself;
     double end, lost, wait, said_at, silent_at; /* and when it is said that no word comes */
     struct text said;
 };
@@ -803,7 +806,8 @@ static int hears_nothing(struct line *its, const struct talk *it, enum outcome h
     }
     if (time > its->lost + (its->was_there ? AWAY : STARTING) || time > its->end + LATE_END || (is_first && time >= its->end)) {
         say("the broker at unix:%s %s", path, how == ABSENT ? "can't be reached: nobody listens there" : "doesn't answer");
-        gives_up(&none, 0.5);
+        if (its->has_asked)
+            gives_up(&none, 0.5);
         return UNREACHABLE;
     }
     wait_until(NULL, time + (is_first ? 0.1 : PAUSE));
@@ -823,6 +827,7 @@ static int holds(void) {
         while (how == PENDING && !came) {
             wait_until(&it, fmin(its.silent_at, now() + 3600));
             how = goes_on(&it);
+            its.has_asked |= it.written > 0;
             if (how == PENDING && !came)
                 is_silent(&its);
         }
@@ -835,7 +840,7 @@ static int holds(void) {
     bool is_cut = found < 0 || (found == 0 && came), is_over = is_cut || its.is_itself;
     if (!is_over || !its.is_new)
         hang_up(&it);
-    if (is_over)
+    if (is_over && its.has_asked) /* (else nobody need be told) */
         gives_up(&it, LATE);
     hang_up(&it);
     return is_cut ? 128 + came : found;
@@ -1041,26 +1046,39 @@ static char *who_asks(void) {
     return found.at;
 }
 
+/* What is wrong with a file that is read before anything is asked: as `labrun-broker hold` says it. */
+static int no_file(const char *by, const char *name, const char *why) {
+    say("%s %s: %s", by, name, why);
+    return NO_FILE;
+}
+
 /* 0, or the status to end with. */
 static int read_token(void) {
-    char *given = getenv("LABRUN_BROKER_TOKEN_FILE");
-    const char *name = wish.token_file != NULL ? wish.token_file : given;
+    static const char variable[] = "LABRUN_BROKER_TOKEN_FILE";
+    bool is_named = wish.token_file != NULL && *wish.token_file;
+    const char *name = is_named ? wish.token_file : getenv(variable), *by = is_named ? "--token-file" : variable;
     if (name == NULL || !*name)
         return 0;
     FILE *file = fopen(name, "re");
-    size_t length = file == NULL ? 0 : fread(own_token, 1, sizeof own_token - 1, file);
-    if (file == NULL || ferror(file)) {
-        say("%s: %s", name, strerror(errno));
-        return 1;
-    }
-    fclose(file);
+    size_t length = file == NULL ? 0 : fread(own_token, 1, sizeof own_token - 1, file), space = 0;
+    int why = file == NULL || ferror(file) ? errno : 0;
+    if (file != NULL)
+        fclose(file);
+    if (why != 0)
+        return no_file(by, name, why == ENOENT ? "there is no such file" : why == EACCES || why == EPERM ? "you may not read it" : strerror(why));
     while (length > 0 && isspace((unsigned char)own_token[length - 1]))
         length--;
+    while (space < length && isspace((unsigned char)own_token[space]))
+        space++;
+    memmove(own_token, own_token + space, length -= space);
     own_token[length] = 0;
+    bool is_odd = length + space == sizeof own_token - 1; /* (there may be more of it) */
     for (size_t at = 0; at < length; at++)
-        if (!isgraph((unsigned char)own_token[at]))
-            return wrong("there is no token in this file", name);
-    return length > 0 ? 0 : wrong("there is no token in this file", name);
+        is_odd |= !isprint((unsigned char)own_token[at]);
+    if (length > 0 && !is_odd)
+        return 0;
+    return no_file(by, name, is_odd ? "a token is one line of letters, digits and signs, and this file has something else"
+                                    : "a token is one line of letters, digits and signs, and this file is empty");
 }
 
 static int check_words(bool is_at_once) {

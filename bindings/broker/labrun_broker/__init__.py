@@ -6,8 +6,8 @@
 
 Names and errors are those of the package labrun, whose proved bay is behind it."""
 
-from typing import TYPE_CHECKING
-
+# (nothing is imported here: `labrun-broker` minds Ctrl-C only from its own first line on)
+TYPE_CHECKING = False
 if TYPE_CHECKING:
     from .client import Lab, connect
     from .errors import AnswerLost, BadWish, BrokerError, JournalError, MayNotUse, NoInstrument, NotAllowed, NotHeld, Stopped, TakenAway

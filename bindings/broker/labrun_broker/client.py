@@ -77,17 +77,19 @@ class Lab:
     async def _open(self) -> None:
         self._brokers = Brokers(addresses_of(self.address), self._certificate, OPTIONS, methods_of)
 
-    async def _reads_again(self, certificate_file: Optional[str], token_file: Optional[str]) -> None:
-        """The files may have another certificate, and another token, by now. (What is no certificate is still being written.)"""
+    async def _reads_again(self, certificate_file: Optional[str], token_file: Optional[str]) -> Optional[str]:
+        """The files may have another certificate, and another token, by now. If not, as of one that is still being written, the former ones count,
+        and what is wrong is told."""
         try:
             certificate, token = certificate_in(certificate_file), token_in(token_file)
-        except (OSError, BadWish):
-            return
+        except (OSError, BadWish) as fault:
+            return f"{fault.filename}: {fault.strerror}" if isinstance(fault, OSError) else str(fault)
         self._metadata = _as_metadata(token)
         if certificate != self._certificate:
             before, self._certificate = self._brokers, certificate
             await self._open()
             await before.close()
+        return None
 
     @property
     def _methods(self) -> dict[str, Any]:
@@ -221,6 +223,16 @@ class Lab:
 
     def _why_lost(self, code: Any, text: str) -> Exception:
         return why_lost(self.address, code, text, self._certificate is None and not self._was_there)
+
+    def _is_left(self, span: float) -> bool:
+        """Whether whoever waits no longer has told the broker so, and was answered, in so many seconds."""
+
+        async def waits() -> None:
+            if self._leaving:
+                await asyncio.wait(set(self._leaving), timeout=span)
+
+        self._run(waits())
+        return not self._leaving
 
     def close(self, lets_go: bool = True) -> None:
         """What is still held is let go, unless the program just ends: then it is kept for whoever has its ticket. Who waits, and each further call,

@@ -89,9 +89,10 @@ class Coming:
         return stream, told, sent
 
     async def _in_time(self, work: Coroutine[Any, Any, None]) -> None:
-        """Before anything is asked."""
+        """Before anything is asked. Each such step has its own while, also if the time limit was over before it: so there is a try, however short
+        that is and however busy the machine."""
         try:
-            async with asyncio.timeout_at(None if self._until is None else self._until + 2 * LATE):
+            async with asyncio.timeout_at(None if self._until is None else max(self._until, self._loop.time()) + 2 * LATE):
                 await work
         except TimeoutError:
             raise Unreachable(self._no_answer()) from None

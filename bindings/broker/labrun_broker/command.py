@@ -16,7 +16,7 @@ from typing import TYPE_CHECKING, Any, Callable, NoReturn, Optional, Sequence
 
 from .credentials import user
 from .run import add_hold, run_hold
-from .texts import aligned, counted, last, plain, session, span
+from .texts import aligned, called, counted, last, plain, session, span
 from .words import ABOUT, INTERRUPTED, MAY_NOT, NO_BAY, NO_FILE, NOT_WRITTEN, PROGRAM, STATUSES, TAKEN, TIMED_OUT, UNREACHABLE, USAGE, Word, add_client, lab_of, reading, say
 
 if TYPE_CHECKING:
@@ -71,7 +71,7 @@ def lines_of(status: dict[str, Any]) -> list[str]:
 
     if len(its := parts(status)) == 1:
         return lines_of_bay(its[0][1])
-    lines = [f"lab {plain(status['bay'])}: {counted(len(its), 'bay')}"]
+    lines = [f"{called('lab', status['bay'])}: {counted(len(its), 'bay')}"]
     return [*lines, *(line for _, one in its for line in ("", *lines_of_bay(one)))]
 
 
@@ -82,7 +82,7 @@ def lines_of_bay(status: dict[str, Any]) -> list[str]:
         holder, held_for = holder_of(one, status)
         rows.append([one["name"], holder, held_for, " ".join(one["waiting"]), plain(one.get("label", ""))])
     outs = [out_of(it, at) for it in status["instruments"] if it.get("out") is not None]
-    lines = [f"bay {plain(status['bay'])}, {counted(status['sessions'], 'session')} since {since}", *brokers_of(status), *disk_of(status), *outs, "", *aligned(rows), ""]
+    lines = [f"{called('bay', status['bay'])}, {counted(status['sessions'], 'session')} since {since}", *brokers_of(status), *disk_of(status), *outs, "", *aligned(rows), ""]
     rows = [["STATION", "", "FOR", "INSTRUMENTS", "BY"]]
     for one in status["stations"]:
         if one["state"] != "idle":
@@ -201,10 +201,9 @@ def run_bay(args: argparse.Namespace) -> int:
     if args.what == "apply":
         return apply_bay(args, isinstance(read, Lab))
     if isinstance(read, Lab):
-        print(f"ok {args.bay}: lab {read.name}, {counted(len(read.bays), 'bay')}, {counts_of(read.whole)}")
+        print(f"ok {args.bay}: {called('lab', read.name)}, {counted(len(read.bays), 'bay')}, {counts_of(read.whole)}")
     for path, bay in ((read.paths[name], bay) for name, bay in read.bays.items()) if isinstance(read, Lab) else ((args.bay, read),):
-        # (one whose file says no name is called `bay`)
-        print(f"ok {path}: bay{f' {bay.name}' if bay.name != 'bay' else ''}, {counts_of(bay)}, gone = {bay.its_gone.told()}")
+        print(f"ok {path}: {called('bay', bay.name)}, {counts_of(bay)}, gone = {bay.its_gone.told()}")
     return 0
 
 

@@ -9,7 +9,7 @@ import grpc
 
 from .errors import IS_THERE, is_for_good
 
-READY, FAILS = grpc.ChannelConnectivity.READY, (grpc.ChannelConnectivity.TRANSIENT_FAILURE, grpc.ChannelConnectivity.SHUTDOWN)
+READY, FAILS = grpc.ChannelConnectivity.READY, grpc.ChannelConnectivity.TRANSIENT_FAILURE
 LOOKS, PAUSE = 2.0, 0.1  # seconds: for so long at most all are tried at once; and between two such tries
 # for how long one of a list is waited for, if none has answered yet: as long as it takes until another leads
 FAILOVER = 20.0
@@ -57,56 +57,53 @@ class Brokers:
         """Another is asked if that of now isn't there, and one is. It tries for so long."""
         until = asyncio.get_running_loop().time() + patience
         while self.is_list and self._channels[self._at].get_state() is not READY:
-            if not await self._tries_all() and await self._finds_why():
-                return
-            if asyncio.get_running_loop().time() >= until:
+            if await self._tries_all() or asyncio.get_running_loop().time() >= until:
                 return
             await asyncio.sleep(PAUSE)
 
     async def _tries_all(self) -> bool:
-        """Whether one is there."""
-        tries = [asyncio.create_task(self._is_ready(at)) for at in range(len(self._channels))]
+        """Whether one is there, or another try changes nothing. Whoever is told why none can be asked is told of the one that leads, if there is one
+        that only this client can't speak to."""
+        tries, whys = [asyncio.create_task(self._tries(at)) for at in range(len(self._channels))], dict[int, str]()
         try:
             async with asyncio.timeout(LOOKS):
                 for one in asyncio.as_completed(tries):
-                    at, is_ready = await one
+                    at, why = await one
                     # (whoever asks one that isn't there is told at once, and why)
                     self._at = at
-                    if is_ready:
+                    if why is None:
                         return True
+                    whys[at] = why
         except TimeoutError:
             pass
         finally:
             for it in tries:
                 it.cancel()
-        return False
+        leads = next((at for at in sorted(whys) if any(it in whys[at] for it in IS_THERE)), None)
+        self._at = self._at if leads is None else leads
+        return leads is not None and is_for_good(whys[leads])
 
-    async def _finds_why(self) -> bool:
-        """Whoever is told why none can be asked is told of the one that leads, if there is one that only this client can't speak to. Whether
-        another try changes nothing."""
-        for at, channel in enumerate(self._channels):
-            why = await _why_not(channel) if channel.get_state() in FAILS else ""
-            if why is None or any(it in why for it in IS_THERE):
-                self._at = at
-                return why is not None and is_for_good(why)
-        return False
-
-    async def _is_ready(self, at: int) -> tuple[int, bool]:
+    async def _tries(self, at: int) -> tuple[int, Optional[str]]:
+        """None once it is there; else why it isn't, as gRPC says it. (That is asked as soon as it fails: a moment later it tries again, and on a busy
+        machine may do so for long.)"""
         channel = self._channels[at]
-        state = channel.get_state(try_to_connect=True)
-        while state is not READY and state not in FAILS:
-            await channel.wait_for_state_change(state)
-            state = channel.get_state(try_to_connect=True)
-        return at, state is READY
+        while (state := channel.get_state(try_to_connect=True)) is not READY:
+            if state is grpc.ChannelConnectivity.SHUTDOWN:
+                return at, ""
+            if state is not FAILS:
+                await channel.wait_for_state_change(state)
+            elif why := await _why_not(channel):
+                return at, why
+        return at, None
 
     async def close(self) -> None:
         await asyncio.gather(*(it.close() for it in self._channels))
 
 
-async def _why_not(channel: Any) -> Optional[str]:
-    """Why one can't be connected to, as gRPC says it; None: it can by now."""
+async def _why_not(channel: Any) -> str:
+    """Why one can't be connected to, as gRPC says it; nothing: it can by now, or tries again."""
     try:
         await channel.unary_unary("/there")(b"", timeout=PAUSE)
     except grpc.RpcError as fault:
-        return str(fault.details())
-    return None
+        return "" if fault.code() in (grpc.StatusCode.DEADLINE_EXCEEDED, grpc.StatusCode.UNIMPLEMENTED) else str(fault.details())
+    return ""

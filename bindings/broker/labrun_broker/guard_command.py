@@ -176,7 +176,9 @@ async def hears(its: dict[str, Guard], lab: Lab, args: argparse.Namespace) -> No
     seldom = Seldom(SELDOM)
     while True:
         try:
-            await lab._reads_again(args.certificate, args.token_file)
+            wrong = await lab._reads_again(args.certificate, args.token_file)
+            if wrong is not None and (text := seldom.text(wrong, f"{wrong}; what was read before counts")) is not None:
+                say(plain(text))
             # (of several the one that leads now)
             await lab._brokers.looks()
             async for told in lab._methods["Guard"](pb.GuardWish(instruments=list(its)), metadata=lab._metadata):

@@ -13,7 +13,8 @@ from typing import Optional, TextIO
 
 from .benches import records_of_journal
 from .sessions import ENDS, UNKNOWN, Fault, Past, Session, bays_in, first, read_records, spans_waited_for
-from .texts import aligned, plain, span
+from .texts import aligned, called, plain, span
+from .words import reading
 
 
 def local(t: Optional[float]) -> str:
@@ -134,7 +135,8 @@ Chosen = tuple[Past, list[Session], float, float]
 
 def chosen(args: argparse.Namespace) -> dict[str, Chosen]:
     """Of each bay the past, those of its sessions that reach into the span that was asked for, and the span: the same for all bays."""
-    its = pasts_of(args.folder, args.bay)
+    with reading(args.folder, "folder or file"):
+        its = pasts_of(args.folder, args.bay)
     for _, faults in its.values():
         for it in faults:
             print(f"labrun-broker: {plain(it)}", file=sys.stderr)
@@ -165,7 +167,7 @@ def run_table(args: argparse.Namespace) -> int:
 def run_report(args: argparse.Namespace) -> int:
     for at, (name, its) in enumerate(chosen(args).items()):
         if name:
-            sys.stdout.write(f"{'' if at == 0 else chr(10)}bay {name}, ")
+            sys.stdout.write(f"{'' if at == 0 else chr(10)}{called('bay', name)}, ")
         write_report(*its, sys.stdout)
     return 0
 

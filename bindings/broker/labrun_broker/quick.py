@@ -14,13 +14,13 @@ import time
 from queue import SimpleQueue
 from typing import TYPE_CHECKING, Any, Callable, NamedTuple, Optional
 
+from .leaving import leaves
 from .wire import Fields, Odd, Silent, Wire, field, fields_of, text_field, text_of
 
 if TYPE_CHECKING:
     from .client import Lab
     from .held import Held
 
-GIVING_UP = 0.5
 # the fields of Ask and of Told
 WISH, LET_GO = 1, 3
 HELD, WAITS, GONE, FAULT, TAKEN, WARNING = 1, 2, 4, 5, 6, 8
@@ -57,7 +57,7 @@ class Quick:
         # where the guards of its instruments are
         self.guards: dict[str, str] = {}
         self._taken: Any = None
-        self._is_over = self._is_let_go = False
+        self._has_asked = self._is_over = self._is_let_go = False
         self._whole: Optional[Held] = None
         # what the broker answers while it holds
         self._answers: SimpleQueue[tuple[int, Fields]] = SimpleQueue()
@@ -88,8 +88,8 @@ class Quick:
 
     def _holds(self) -> None:
         try:
-            if self._wish.timeout is not None:
-                self.wire.is_answered()
+            self.wire.is_answered()
+            self._has_asked = True
             self.wire.asks(WISH, _wish(self._wish, self.ticket, self._waits is not None))
             while (told := self.wire.told())[0] == WAITS:
                 if self.on_lacking is not None:
@@ -123,14 +123,27 @@ class Quick:
             threading.Thread(target=self._watches, daemon=True).start()
 
     def _gives_up(self) -> None:
-        """It leaves the line. If it came to hold just now, it lets go. (A session that is over has no answer, and its broker is there all the same.)"""
+        """It leaves the line; if it came to hold just now, it lets go. Whoever has asked nothing yet has nothing to tell."""
+        if not self._has_asked:
+            return
         self.wire.is_unlimited()
         self.wire.is_leaving = True
-        self.wire.socket.settimeout(GIVING_UP)
         with contextlib.suppress(Odd):
             self.wire.asks(LET_GO, b"")
-            while self.wire.told()[0] != GONE:
-                pass
+            leaves(self._has_left)
+
+    def _has_left(self, span: float) -> bool:
+        """Whether the broker says so in time. (Of a session that is over it says that.)"""
+        until = time.monotonic() + span
+        while (left := until - time.monotonic()) > 0:
+            self.wire.socket.settimeout(left)
+            try:
+                if self.wire.told()[0] in (GONE, FAULT, TAKEN):
+                    return True
+            except Odd as fault:
+                if not isinstance(fault.__cause__, TimeoutError):
+                    raise
+        return False
 
     def release(self, failed: Optional[str]) -> None:
         self._is_let_go = True

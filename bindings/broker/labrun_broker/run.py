@@ -15,6 +15,7 @@ from typing import TYPE_CHECKING, Callable, Iterator, Optional, TypeVar, Union
 
 from .credentials import DEFAULT, user
 from .family import TELLING, Family, adopting, ends
+from .leaving import leaves
 from .quick import Quick, Wish
 from .texts import addresses_of, last, plain, seconds, station_name, unreached
 from .wire import Absent, NoBroker, Odd, Silent
@@ -209,7 +210,11 @@ def holds(args: argparse.Namespace, wish: Wish, waits: Waits, signals: Signals, 
         held._ticket, held.timeout = ticket, left()
         return ends.enter_context(held)
 
-    return start.tries(wholly)
+    try:
+        return start.tries(wholly)
+    except (KeyboardInterrupt, SystemExit):
+        leaves(lab._is_left)
+        raise
 
 
 def runs(command: list[str], held: Union[Quick, Held], signals: Signals, address: str = "", more: dict[str, str] = {}) -> int:

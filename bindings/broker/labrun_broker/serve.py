@@ -17,7 +17,7 @@ from .bay import BadAddress
 from .credentials import DEFAULT
 from .labs import Lab, read_any, texts_of
 from .standby import add_etcd, until_it_leads
-from .texts import counted, mebibytes, plain, seconds
+from .texts import called, counted, mebibytes, plain, seconds
 from .words import USAGE, reading, say, tell_systemd
 
 if TYPE_CHECKING:
@@ -114,7 +114,7 @@ async def serve(args: argparse.Namespace) -> int:
             ends.push_async_callback(runner.cleanup)
         where = " ".join(its_door.addresses) + (f", by HTTP at {' '.join(args.http)}" if args.http else "")
         of = "" if lab is None else f"{counted(len(lab.bays), 'bay')} ({', '.join(lab.bays)}), "
-        say(f"{'bay' if lab is None else 'lab'} {bay.name}: {of}{counted(len(bay.instruments), 'instrument')}, at {where}")
+        say(f"{called(bay.what, bay.name)}: {of}{counted(len(bay.instruments), 'instrument')}, at {where}")
         for it in (*keeping.complaints, *entrance.complaints(), *begins):
             say(plain(it))
         keeping.says = lambda text: say(plain(text)[:MOST_TOLD]) if door.is_read() else None

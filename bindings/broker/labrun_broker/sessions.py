@@ -9,6 +9,8 @@ import re
 from dataclasses import dataclass, field
 from typing import Any, AsyncIterator, Callable, Iterator, Optional, Reversible
 
+from .words import reading
+
 Record = dict[str, Any]
 
 # how a session ends, by the record that ends it
@@ -172,10 +174,7 @@ def is_record(it: object) -> bool:
 
 def files_in(folder: str) -> list[str]:
     """The files of records of a state folder: those that somebody put aside, with numbers, and that of now."""
-    try:
-        names = os.listdir(folder)
-    except OSError as fault:
-        raise Fault(f"{folder}: {fault.strerror}") from None
+    names = os.listdir(folder)
     found = sorted((int(it[1]), it[0]) for it in map(re.compile(r"records-(\d{1,9})\.jsonl").fullmatch, names) if it)
     return [os.path.join(folder, name) for name in (*(name for _, name in found), *(["records.jsonl"] if "records.jsonl" in names else []))]
 
@@ -195,7 +194,7 @@ def read_records(folder: str) -> tuple[list[Record], list[str]]:
     if not paths:
         raise Fault(f"{folder}: there are no records (labrun-broker serve --state {folder} writes records.jsonl)")
     for path in paths:
-        with open(path, "rb") as file:
+        with reading(path), open(path, "rb") as file:
             found = [parsed(line) for line in file if line.strip()]
         whole = [it for it in found if it is not None]
         if len(whole) < len(found):

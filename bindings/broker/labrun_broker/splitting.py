@@ -12,6 +12,7 @@ from typing import Iterable, Mapping, Optional, Sequence
 
 from .sessions import Fault, Record, bays_in, read_records
 from .texts import counted, plain
+from .words import reading
 
 MOST, ORDERS, SHOWN = 64, 40, 8
 Names = frozenset[str]
@@ -91,8 +92,9 @@ def split(sessions: Mapping[Names, int], together: Iterable[Names] = (), most: i
 
 def told(folder: str, most: int) -> list[str]:
     """The lines for people."""
-    paths = [f"{folder}/{name}" for name in bays_in(folder)] or [folder]
-    sessions, together = sessions_in(record for path in paths for record in read_records(path)[0])
+    with reading(folder, "folder"):
+        paths = [f"{folder}/{name}" for name in bays_in(folder)] or [folder]
+        sessions, together = sessions_in(record for path in paths for record in read_records(path)[0])
     if not sessions:
         raise Fault(f"{folder}: nobody held anything yet")
     cut, bays = split(sessions, together, most)

@@ -44,7 +44,8 @@ class Stream:
     def __init__(self, lab: Lab) -> None:
         self._lab, self._call = lab, lab._methods["Hold"](metadata=lab._metadata)
         self.session: Optional[Held] = None
-        self.is_open = False
+        # whether there is a wish that the broker may have read
+        self.has_asked = False
         # how many came
         self._words = 0
         self._lost: Optional[Lost] = None
@@ -60,7 +61,6 @@ class Stream:
         """Returns once the broker has let the client in."""
         try:
             await self._call.wait_for_connection()
-            self.is_open = True
         except grpc.RpcError:
             await self._reader
             await self._answer()
@@ -71,6 +71,7 @@ class Stream:
         if (size := ask.ByteSize()) > MOST_BYTES:
             # (the broker would end the stream)
             raise BadWish(f"a {ask.WhichOneof('ask')} of {size} bytes; {MOST_BYTES} are the most")
+        self.has_asked = self.has_asked or "wish" in what
         await self._writes(ask)
         return await self._answer()
 
@@ -129,7 +130,7 @@ class Stream:
     async def gives_up(self, span: float = GIVING_UP) -> None:
         """The session waits no longer. If it came to hold just now, or does once a broker goes on that is stopped, it lets go."""
         self.session = None
-        if not self.is_open:
+        if not self.has_asked:
             return self.cancel()
         leaves = asyncio.create_task(self._leaves())
         self._lab._leaving.add(leaves)
@@ -146,7 +147,7 @@ class Stream:
         self.cancel()
 
     def is_idle(self) -> None:
-        self.session = None
+        self.session, self.has_asked = None, False
         self._lab._idle.append(self)
 
     def cancel(self) -> None:
@@ -157,7 +158,7 @@ class Stream:
         try:
             while (told := await self._call.read()) is not grpc.aio.EOF:
                 self._words += 1
-                self.is_open, kind = True, told.WhichOneof("told")
+                kind = told.WhichOneof("told")
                 self._is_told(kind, getattr(told, kind))
         except (grpc.RpcError, asyncio.CancelledError):  # (the latter if the call was cancelled here)
             pass

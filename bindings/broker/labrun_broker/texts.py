@@ -28,6 +28,11 @@ def counted(number: int, what: str) -> str:
     return f"{number} {what}" if number == 1 else f"{number} {what}s"
 
 
+def called(what: str, name: str) -> str:
+    """As `bay north`. One whose file says no name is called by what it is, and so it is said once."""
+    return what if name == what else f"{what} {plain(name)}"
+
+
 def aligned(rows: list[list[str]]) -> list[str]:
     """The lines of a table. (A row with fewer columns has a text as its last one, as wide as it is.)"""
     most = max(map(len, rows))

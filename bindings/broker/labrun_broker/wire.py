@@ -70,8 +70,8 @@ class Wire:
         self._sends(OPENS + _heads(token))
 
     def is_answered(self) -> None:
-        """Returns once the broker has said something: one that is stopped isn't asked. (Should this process end meanwhile, the wish would be
-        read, and perhaps not that it is withdrawn.)"""
+        """Returns once the broker has said something: one that is stopped isn't asked. (Should this process end meanwhile, by a signal or because
+        its time is over, the wish would be read, and perhaps not that it is withdrawn.)"""
         self._came += self._more()
 
     def is_unlimited(self) -> None:

@@ -6,6 +6,7 @@ import contextlib
 import glob
 import os
 import random
+import re
 import signal
 import socket
 import subprocess
@@ -73,8 +74,8 @@ def certificate(folder: str, name: str = "certificate", key: str = "key", of: st
 class Broker:
     """`labrun-broker serve`, begun anew as often as wanted."""
 
-    # what stands in the first line that it says
-    opens = ": bay "
+    # the first line that it says. (A fault of its file may begin with `bay`, too)
+    opens = r"labrun-broker: bay( [\w.-]+)?: \d+ instruments?, at "
 
     def __init__(self, folder: str, bay: str = BAY, words: tuple[str, ...] = (), command: list[str] = COMMAND) -> None:
         self.folder, self.words, self.command = folder, words, command
@@ -91,7 +92,7 @@ class Broker:
         self.process = subprocess.Popen(words, stderr=subprocess.PIPE, text=True)
         assert self.process.stderr is not None
         self.first = self.process.stderr.readline()
-        if self.opens not in self.first:
+        if re.match(self.opens, self.first) is None:
             raise AssertionError(self.first + self.process.stderr.read())
 
     def kill(self) -> None:

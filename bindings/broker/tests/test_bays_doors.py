@@ -17,7 +17,7 @@ from tests.test_bays import LAB, NORTH, SOUTH, written
 
 
 class OfLab(Broker):
-    opens = ": lab "
+    opens = r"labrun-broker: lab( [\w.-]+)?: \d+ bays? \(.*\), \d+ instruments?, at "
 
 
 class OnLab(unittest.TestCase):
@@ -154,6 +154,19 @@ class Doors(OnLab):
         os.unlink(f"{self.folder}/north.toml")
         status, said = refused()
         self.assertEqual((status, "north.toml: No such file or directory" in said), (78, True))
+
+
+    def test_a_lab_and_a_bay_without_a_name(self) -> None:
+        """Each is called by what it is, once; and a bay of a lab by the lab's name for it."""
+        path, south = f"{self.folder}/bay.toml", f"{self.folder}/more/south.toml"
+        written(self.folder, LAB.replace('lab = "physics"\n', ""), NORTH, SOUTH)
+        at = OfLab(self.folder, LAB.replace('lab = "physics"\n', ""))
+        self.addCleanup(at.ends)
+        self.assertEqual(at.first, f"labrun-broker: lab: 2 bays (north, south), 6 instruments, at {at.address}\n")
+        heads = [line.split(",")[0] for line in self.ran(at, "status").split("\n") if line.startswith(("lab", "bay"))]
+        self.assertEqual(heads, ["lab: 2 bays", "bay north", "bay south"])
+        self.assertTrue(self.ran(at, "bay", "check", path).startswith(f"ok {path}: lab, 2 bays, 6 instruments, "))
+        self.assertTrue(self.ran(at, "bay", "check", south).startswith(f"ok {south}: bay, 3 instruments, "))
 
 
 class Alone(unittest.TestCase):

@@ -186,6 +186,7 @@ class WithoutBroker(unittest.TestCase):
         first, second, *_ = lines_of({**status, "disk": "a write failed (No space left on device)", "disk_since": 984.0})
         self.assertRegex(first, "^bay north, 1 session since ")
         self.assertEqual(second, "the broker can't write for 16 s: a write failed (No space left on device). Nobody comes to hold until it can")
+        self.assertRegex(lines_of({**status, "bay": "bay", "disk": ""})[0], "^bay, 1 session since ")
         first, second, *_ = lines_of({**status, "sessions": 2, "disk": "", "disk_since": None})
         self.assertRegex(first, "^bay north, 2 sessions since ")
         self.assertEqual(second, "")
@@ -201,7 +202,10 @@ class WithoutBroker(unittest.TestCase):
         self.assertEqual(said, ["ann", "number 3 in line; 2 others went first, and after 16 what it needs is kept for it", "ann", "number 4 in line", full])
 
     def test_ctrl_c_while_it_begins(self) -> None:
-        """Also before anything of its own is there: by each program that begins it."""
+        """Also before anything of its own is there: by each program that begins it. Nothing else is read before it minds that."""
+        script = "import sys; before = set(sys.modules); import labrun_broker.__main__; print(*sorted(set(sys.modules) - before))"
+        read = subprocess.run([sys.executable, "-c", script], capture_output=True, text=True, timeout=LIMIT)
+        self.assertEqual((read.stdout, read.stderr), ("labrun_broker labrun_broker.__main__\n", ""))
 
         class Interrupts:
             def find_spec(self, name: str, *_: object) -> None:
@@ -541,6 +545,14 @@ class WithBroker(OnBroker):
         broker.begin()
         self.assertEqual(broker.ran("status").returncode, 0)
         self.assertEqual(broker.end(), 0)
+
+
+    def test_a_bay_without_a_name(self) -> None:
+        """It is called a bay, once."""
+        broker = self.broker(SHORT)
+        self.assertEqual(broker.first, f"labrun-broker: bay: 1 instrument, at {broker.address}\n")
+        self.assertRegex(broker.ran("status").stdout, "^bay, 0 sessions since ")
+        self.assertEqual(json.loads(broker.ran("status", "--json").stdout)["bay"], "bay")
 
 
 class Names(unittest.TestCase):

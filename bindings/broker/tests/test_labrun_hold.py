@@ -17,7 +17,7 @@ from importlib.util import find_spec
 
 import labrun_broker
 from tests.asking import Asking
-from tests.brokers import BAY, LIMIT, TOP, Broker, OnBroker, broker, station, until
+from tests.brokers import BAY, COMMAND, LIMIT, TOP, Broker, OnBroker, broker, station, until
 from tests.proxies import OfSockets, Ways
 from tests.test_people import ANA, BOB, PEOPLE, WITHOUT_BOB
 
@@ -87,7 +87,7 @@ class Held(OnBroker):
     def test_who_it_is(self) -> None:
         """By the token in a file; one that isn't let in any more ends its command, and holds no longer."""
         broker, _ = self.at(PEOPLE.replace(f"unix = {os.getuid()}", "unix = 4242"))
-        for name, text in (("bob", f"{BOB}\n"), ("two", "one\ntwo\n"), ("ana", ANA)):
+        for name, text in (("bob", f"{BOB}\n"), ("ana", ANA)):
             with open(f"{broker.folder}/{name}", "w", encoding="ascii") as file:
                 file.write(text)
         his = ("--token-file", f"{broker.folder}/bob")
@@ -95,8 +95,6 @@ class Held(OnBroker):
             (["load-1"], {"LABRUN_BROKER_TOKEN_FILE": his[1]}, 0, ""),
             (["scope", *his], {}, 77, "labrun-hold: bob may not have scope; operators: ana\n"),
             (["load-1"], {}, 69, "is none of the bay's people: send your token as `Authorization: Bearer TOKEN` (labrun-hold: --token-file FILE); operators: ana\n"),
-            (["load-1", "--token-file", f"{broker.folder}/two"], {}, 2, "there is no token in this file"),
-            (["load-1", "--token-file", f"{broker.folder}/none"], {}, 1, "No such file"),
         ):
             ran = self.ran(broker, *words, "--", "true", **more)
             self.assertEqual(ran.returncode, status, ran.stderr)
@@ -108,6 +106,30 @@ class Held(OnBroker):
         lab.apply(WITHOUT_BOB)
         self.assertIn("this is nobody's token, or not any more; operators: ana; the command is ended", self.ends(one, 76))
         self.assertEqual((os.path.exists(f"{broker.folder}/ended"), station(lab, "guest-1")["state"]), (True, "gone"))
+
+    def test_a_file_that_cant_be_read(self) -> None:
+        """Both holds end with 66, and say the same of it, before anything is asked."""
+        for name, text in (("empty", ""), ("blank", " \n"), ("two", "one\ntwo\n"), ("umlaut", "stra\u00dfe"), ("long", "x" * 9000 + "\n\t.")):
+            with open(f"{self.room}/{name}", "w", encoding="utf-8") as file:
+                file.write(text)
+        is_none = "a token is one line of letters, digits and signs, and this file"
+        for name, why in (
+            ("none", "there is no such file"),
+            (".", "Is a directory"),
+            ("two/none", "Not a directory"),
+            ("empty", f"{is_none} is empty"),
+            ("blank", f"{is_none} is empty"),
+            ("two", f"{is_none} has something else"),
+            ("umlaut", f"{is_none} has something else"),
+            ("long", f"{is_none} has something else"),
+        ):
+            path = f"{self.room}/{name}"
+            for words, more, by in ((["--token-file", path], {}, "--token-file"), ([], {"LABRUN_BROKER_TOKEN_FILE": path}, "LABRUN_BROKER_TOKEN_FILE")):
+                for program, called in (([self.program], "labrun-hold"), ([*COMMAND, "hold"], "labrun-broker")):
+                    with self.subTest(name, by=by, program=called):
+                        given = [*program, "scope", "-n", "--broker", f"unix:{self.room}/no.sock", *words, "--", "true"]
+                        ran = subprocess.run(given, env={**os.environ, **more}, capture_output=True, text=True, timeout=2 * LIMIT)
+                        self.assertEqual((ran.returncode, ran.stderr), (66, f"{called}: {by} {path}: {why}\n"))
 
     def test_statuses(self) -> None:
         broker, one = self.at()
@@ -206,6 +228,15 @@ class Held(OnBroker):
         waits.send_signal(signal.SIGINT)
         self.ends(waits, 130)
         self.assertEqual(one.status("guest-2")["state"], "idle")
+
+    def test_a_signal_before_anything_is_asked(self) -> None:
+        """Nobody need be told: it ends at once."""
+        with subprocess.Popen([self.program, "scope", "--broker", f"unix:{self.room}/no.sock", "--", "true"], stderr=subprocess.PIPE, text=True) as one:
+            assert one.stderr is not None
+            self.assertIn("waits for the broker: it doesn't listen yet", one.stderr.readline())
+            one.send_signal(signal.SIGINT)
+            # (it would say that it tells the broker, and tell it for ten seconds)
+            self.assertEqual((one.communicate(timeout=LIMIT)[1], one.returncode), ("", 130))
 
     def test_within_a_hold(self) -> None:
         broker, _ = self.at()

@@ -317,7 +317,11 @@ class Words(unittest.TestCase):
         with tempfile.TemporaryDirectory() as folder:
             self.assertEqual(ran("gantt", folder)[0], 1)
             self.assertIn("there are no records", ran("table", folder)[2])
-            self.assertIn("No such file or directory", ran("report", folder + "/nowhere")[2])
+            for word in ("report", "table", "gantt"):
+                self.assertEqual(ran(word, f"{folder}/no"), (66, "", f"labrun-broker: {folder}/no: there is no such folder or file\n"))
+            self.assertEqual(ran("bay", "split", f"{folder}/no"), (66, "", f"labrun-broker: {folder}/no: there is no such folder\n"))
+            os.mkdir(f"{folder}/records.jsonl")
+            self.assertEqual(ran("report", folder), (66, "", f"labrun-broker: {folder}/records.jsonl: Is a directory\n"))
         with state(DAY) as folder:
             status, _, err = ran("gantt", folder, "--to", folder + "/no/where.svg")
             self.assertEqual((status, "No such file" in err), (1, True))

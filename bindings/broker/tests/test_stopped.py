@@ -1,5 +1,6 @@
 """A broker that is stopped, as it were by SIGSTOP: what its clients in Python are told, when, and that nothing is held once it goes on."""
 
+import asyncio
 import contextlib
 import os
 import signal
@@ -11,8 +12,9 @@ from concurrent.futures import ThreadPoolExecutor
 from unittest import mock
 
 import labrun_broker
-from labrun_broker import client, coming, stream
-from tests.brokers import BAY, LIMIT, Broker, OnBroker, stopped, until
+from labrun_broker import client, coming, finding, stream
+from tests.brokers import BAY, LIMIT, Broker, OnBroker, free_port, stopped, until
+from tests.proxies import Proxy, Ways
 
 RELEASES = 'gone = "release"\n' + BAY
 TOLD = r"the broker at .* doesn't answer \(it is stopped, or the network is cut\)"
@@ -126,6 +128,21 @@ class Stopped(OnBroker):
                 with lab.hold("scope", timeout=LIMIT):
                     pass
                 until(lambda: all(it["state"] == "idle" for it in lab.status()["stations"]), "that all are idle")
+
+    def test_a_short_limit_leaves_a_try(self) -> None:
+        """Where looking for the broker took nearly all of the time, the broker that is found then is asked all the same, and its answer awaited."""
+        self.enterContext(mock.patch.object(coming, "LATE", 5.0))
+        port = free_port()
+        self.broker(BAY, "--listen", f"127.0.0.1:{port}")
+        with Ways() as ways, contextlib.closing(Proxy(ways, port)) as way:
+            way.cut("neither")
+
+            async def looks(*_: object) -> None:
+                await asyncio.sleep(10.1)
+                ways.loop.call_soon_threadsafe(ways.loop.call_later, 0.5, way._open.set)
+
+            with mock.patch.object(finding.Brokers, "looks", looks), labrun_broker.connect(way.address) as lab:
+                self.assertEqual(self.ends(lab, 0.2), "it holds")
 
     def test_one_that_answers_late(self) -> None:
         """While it says that it is there, its own answer is awaited."""

@@ -248,13 +248,27 @@ WRONG = {
         (("                if self._may_lead(self._others(), says)", "                self._tells_at = None\n                if self._may_lead(self._others(), says)"),),
     ),
     "a client that is told of a broker that stands by, and not of the one that it can't speak to": Wrong(
-        "test_texts.Network.test_who_isnt_let_in_by_one_of_several", "finding.py", ((" and await self._finds_why()", " and False"),)
+        "test_certificates.Looking.test_why_is_known_as_soon_as_it_fails", "finding.py", (("        self._at = self._at if leads is None else leads\n", ""),)
     ),
     "a wrong certificate that is named only once nobody leads": Wrong(
-        "test_certificates.Certificates.test_a_wrong_one_is_named_at_once", "finding.py", (("return why is not None and is_for_good(why)", "return False"),)
+        "test_certificates.Certificates.test_a_wrong_one_is_named_at_once", "finding.py", (("return leads is not None and is_for_good(whys[leads])", "return False"),)
     ),
     "a guard that goes by the certificate that it began with": Wrong(
-        "test_certificates.Certificates.test_a_guard_reads_it_again", "guard_command.py", (("            await lab._reads_again(args.certificate, args.token_file)\n", ""),)
+        "test_certificates.Certificates.test_a_guard_reads_it_again", "guard_command.py", (("wrong = await lab._reads_again(args.certificate, args.token_file)\n", "wrong = None\n"),)
+    ),
+    "a broker of a list that is asked why only once it tries again": Wrong(
+        "test_certificates.Looking.test_why_is_known_as_soon_as_it_fails",
+        "finding.py",
+        (("            elif why := await _why_not(channel):\n", "            elif channel.get_state() is FAILS and (why := await _why_not(channel)):\n"),),
+    ),
+    "a hold that asks before its broker has said a word": Wrong(
+        "test_leaving.Leaves.test_a_broker_that_has_said_nothing", "quick.py", (("            self.wire.is_answered()\n", ""),)
+    ),
+    "a hold that ends by a signal, and doesn't say that its session may come to hold": Wrong(
+        "test_leaving.Leaves.test_another_signal_ends_it", "leaving.py", (("        if not is_told:\n", "        if False:\n"),)
+    ),
+    "a short time limit that is over before anything is asked": Wrong(
+        "test_stopped.Stopped.test_a_short_limit_leaves_a_try", "coming.py", (("max(self._until, self._loop.time()) + 2 * LATE", "self._until + 2 * LATE"),)
     ),
     "a program that asks before it knows that its broker goes on": Wrong(
         "test_stopped.Stopped.test_a_time_limit_is_kept", "coming.py", (("await self._in_time(stream.is_answered())", "pass"),)

@@ -1,0 +1,105 @@
+"""A signal to a `hold` that waits: it ends at once where nobody need be told, and else leaves no session behind that nobody knows of."""
+
+from __future__ import annotations
+
+import contextlib
+import os
+import signal
+import socket
+import subprocess
+import sys
+import tempfile
+import unittest
+from typing import Iterator
+
+from tests.brokers import BAY, LIMIT, Broker, OnBroker, free_port, station, stopped, until
+
+TOLD = "labrun-broker: the broker doesn't answer, and is told for some seconds that this waits no longer, unless another signal comes\n"
+MAY_HOLD = "labrun-broker: as far as is known here the broker wasn't told: the session may come to hold all the same, as `labrun-broker status` says\n"
+# it waits as long as it takes; and says so soon
+PROGRAM = f"import sys; from labrun_broker import command, leaving; leaving.GIVING_UP, leaving.UNTOLD = {10 * LIMIT}, SOON; sys.exit(command.main())"
+
+
+class Leaves(OnBroker):
+    @contextlib.contextmanager
+    def waits(self, at: str, *words: str, soon: float = 10 * LIMIT) -> Iterator[subprocess.Popen[str]]:
+        line = [sys.executable, "-c", PROGRAM.replace("SOON", str(soon)), "hold", "scope", "--quiet", "--broker", at, *words, "--", "true"]
+        with subprocess.Popen(line, stderr=subprocess.PIPE, text=True) as one:
+            try:
+                yield one
+            finally:
+                one.kill()
+
+    def ends(self, one: subprocess.Popen[str], said: str, number: int = signal.SIGINT) -> None:
+        one.send_signal(number)
+        self.assertEqual((one.communicate(timeout=LIMIT)[1], one.returncode), (said, 130 if number == signal.SIGINT else 128 + number))
+
+    def test_a_broker_that_has_said_nothing(self) -> None:
+        """It isn't asked, so nobody need be told."""
+        folder = self.enterContext(tempfile.TemporaryDirectory())
+        for at, words in ((f"unix:{folder}/sock", ()), (f"unix:{folder}/sock", ("--timeout", "900")), (f"127.0.0.1:{free_port()}", ())):
+            with self.subTest(at, words=words), socket.socket(socket.AF_UNIX if at.startswith("unix") else socket.AF_INET) as silent:
+                silent.bind(f"{folder}/sock" if at.startswith("unix") else ("127.0.0.1", int(at.rpartition(":")[2])))
+                silent.listen()
+                silent.settimeout(LIMIT)
+                with self.waits(at, *words) as one:
+                    came, _ = silent.accept()
+                    came.settimeout(LIMIT)
+                    heard = came.recv(1 << 16)
+                    self.assertTrue(heard.startswith(b"PRI * HTTP/2.0"))
+                    self.ends(one, "")
+                    while some := came.recv(1 << 16):
+                        heard += some
+                    self.assertNotIn(b"scope", heard)
+                    came.close()
+                if at.startswith("unix"):
+                    os.unlink(f"{folder}/sock")
+
+    def at(self) -> tuple[Broker, tuple[str, str]]:
+        port = free_port()
+        broker = self.broker(BAY, "--listen", f"127.0.0.1:{port}")
+        return broker, (broker.address, f"127.0.0.1:{port}")
+
+    def test_one_that_is_stopped_is_told_until_it_goes_on(self) -> None:
+        broker, addresses = self.at()
+        lab = self.lab(broker)
+        with lab.hold("scope"):
+            for at in addresses:
+                with self.subTest(at), self.waits(at, soon=0.1) as one:
+                    until(lambda: station(lab, "guest-2")["state"] == "waiting", "it waits")
+                    assert one.stderr is not None
+                    with stopped(broker):
+                        one.send_signal(signal.SIGINT)
+                        self.assertEqual(one.stderr.readline(), TOLD)
+                    self.assertEqual((one.communicate(timeout=LIMIT)[1], one.returncode), ("", 130))
+                    # (it has the broker's word that it has left)
+                    self.assertEqual(station(lab, "guest-2")["state"], "idle")
+
+    def test_another_signal_ends_it(self) -> None:
+        """And it says what may come of it."""
+        broker, addresses = self.at()
+        lab = self.lab(broker)
+        with lab.hold("scope"):
+            for at in addresses:
+                with self.subTest(at), self.waits(at, soon=0.1) as one:
+                    until(lambda: station(lab, "guest-2")["state"] == "waiting", "it waits")
+                    assert one.stderr is not None
+                    with stopped(broker):
+                        one.send_signal(signal.SIGINT)
+                        self.assertEqual(one.stderr.readline(), TOLD)
+                        self.ends(one, MAY_HOLD, signal.SIGTERM)
+                until(lambda: station(lab, "guest-2")["state"] == "idle", "it has left")
+
+    def test_one_that_answers(self) -> None:
+        broker, addresses = self.at()
+        lab = self.lab(broker)
+        with lab.hold("scope"):
+            for at in addresses:
+                with self.subTest(at), self.waits(at) as one:
+                    until(lambda: station(lab, "guest-2")["state"] == "waiting", "it waits")
+                    self.ends(one, "")
+                    self.assertEqual(station(lab, "guest-2")["state"], "idle")
+
+
+if __name__ == "__main__":
+    unittest.main()
