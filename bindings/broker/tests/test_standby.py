@@ -222,7 +222,7 @@ class Lists(unittest.TestCase):
                 with self.assertRaisesRegex(Unreachable, "Connection refused"):
                     lab.status()
         self.assertTrue(1.0 < time.monotonic() - begun < SOON)
-        self.assertRegex(said[0], "^no broker of 127.0.0.1:.* answers; it is tried again for 1 s$")
+        self.assertRegex(said[0], "^none of the brokers 127.0.0.1:.* answers; trying again for 1 s$")
 
 
 class Faults(unittest.TestCase):
