@@ -146,8 +146,8 @@ def _may_not_use(wish: Wish, words: Sequence[str], bay: Bay) -> MayNotUse:
     """Because it isn't for the station, or a guest; else because it isn't for the person."""
     its, what = _places_use(wish, bay), " ".join(words)
     if bay.people and _is_there(words, its, bay):
-        some = [name for name in _may_use(wish, bay) if any(_is_there((counted(word)[1],), (name,), bay) for word in words if not is_plain(word))]
-        return rights.may_not_have(bay, wish.person, what + (f", but only {', '.join(some)}" if some else ""))
+        may = [name for name in _may_use(wish, bay) if any(_is_there((counted(word)[1],), (name,), bay) for word in words if not is_plain(word))]
+        return rights.may_not_have(bay, wish.person, what + (f", but only {some(may)}" if may else ""))
     return MayNotUse(wish.station or "a guest", what, its)
 
 

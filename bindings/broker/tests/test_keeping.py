@@ -240,6 +240,12 @@ class Sessions(OnKeeping):
         self.assertEqual([(it["station"], it["instruments"]) for it in keeping.status()["in_line"]], [("", ["load-5"]), ("", ["load-6"])])
         with self.assertRaisesRegex(TimedOut, "all 4 places for guests are taken"):
             await self.holds(keeping, "load-7", timeout=0.02)
+        # (the one to be seen to stands first, however many hold)
+        last = next(it for it in keeping.by_number.values() if it.instruments == ("load-4",))
+        keeping.gone(last, self.owner)
+        told = rf"all 4 places for guests are taken: {last.name} by somebody \(gone for \d\.\d s: see to load-4, and then run labrun-broker release {last.name} --session {last.number}\), "
+        with self.assertRaisesRegex(TimedOut, told):
+            await self.holds(keeping, "load-7", timeout=0.02)
         await keeping.let_go(first, self.owner)
         self.assertEqual(((await fifth).state, sixth.done()), ("holding", False))
         await keeping.let_go(await fifth, self.owner)
@@ -291,6 +297,15 @@ class Sessions(OnKeeping):
         await self.holds(keeping, "load-1")
         seat = await self.holds(keeping, any_of=(("load-1",), ("load-2",)))
         self.assertEqual(seat.instruments, ("load-2",))
+
+    async def test_one_of_many(self) -> None:
+        """Who writes a name wrong in a large bay isn't told all 60."""
+        names = [f"load-{at}" for at in range(1, 61)]
+        keeping = await self.keeping(f"instruments = {json.dumps(names)}\n[guests]\ncount = 4\n")
+        with self.assertRaises(NoInstrument) as caught:
+            await keeping.hold(Wish(("lod-7",)), self.owner)
+        told = "lod-7 is no instrument of this bay: there are load-1, load-2, load-3, load-4, load-5, load-6, load-7, load-8 and 52 more (did you mean load-7?)"
+        self.assertEqual(str(caught.exception), told)
 
     async def test_refused(self) -> None:
         keeping = await self.keeping()

@@ -121,7 +121,7 @@ class Sessions(OnFolder):
                 first = await keeping.hold(Wish(("scope",), station="radio", ticket=TICKET), owner)
                 was = first.is_kept
                 new, old = ("release", "what it is without a line") if was else ("keep", "what it is without a line")
-                self.assertEqual(await apply(keeping, after, "eve", False), [f"instrument_gone.scope (for who comes to hold from now on): {new}, and not {old}"])
+                self.assertEqual(await apply(keeping, after, "eve", False), [f"instrument_gone.scope (for whoever comes to hold from now on): {new}, instead of {old}"])
                 keeping.gone(first, owner)
                 await asyncio.sleep(0.4)
                 self.assertEqual((first.state, was), ("gone" if was else "over", was))
