@@ -61,7 +61,7 @@ static void who_waits_is_woken() {
 static void a_time_limit() {
     lab bay(BAY, with_stations());
     auto held = bay.station("board").hold({"scope", "supply"});
-    const std::string wanted = "still waits: scope is held by board (session 1) for _ s";
+    const std::string wanted = "still waits: scope has been held by board (session 1) for _ s";
     for (const auto span : {0ms, 30ms}) {
         const auto begun = std::chrono::steady_clock::now();
         same("who holds", why<labrun::timed_out>([&] { return bay.hold({"scope", "load-1"}, asking().timeout(span)); }), wanted);
@@ -115,7 +115,7 @@ static void any_of() {
     same("one choice of two", text(bay.any_of({{"scope", "supply"}}).instruments()), "scope supply");
     auto one = bay.hold({"load-1"}), two = bay.hold({"load-2"});
     same("late", why<labrun::timed_out>([&] { return bay.any_of(EITHER, NOW); }),
-         "still waits: load-1 is held by a guest (session 9) for _ s, load-2 is held by a guest (session 10) for _ s");
+         "still waits: load-1 has been held by a guest (session 9) for _ s, load-2 has been held by a guest (session 10) for _ s");
     auto waits = later([&] { return text(bay.any_of(EITHER, LONG).instruments()); });
     until_waits(bay, 1);
     two.finish();
@@ -229,7 +229,7 @@ static void a_station_has_one_session_at_a_time() {
     auto first = board.hold({"scope"});
     same("its name", first.station(), "board");
     same("a second one waits", why<labrun::timed_out>([&] { return board.hold({"supply"}, NOW); }),
-         "still waits: scope is held by board (session 1) for _ s");
+         "still waits: scope has been held by board (session 1) for _ s");
     expect("guests don't", bay.hold({"supply"}, NOW).is_held());
     first.finish();
     std::atomic<int> inside{0}, meetings{0};
@@ -253,7 +253,7 @@ static void places() {
     lab bay(BAY, options);
     auto one = bay.hold({"scope"}), two = bay.hold({"supply"});
     same("the third waits", why<labrun::timed_out>([&] { return bay.hold({"load-1"}, NOW); }),
-         "still waits: scope is held by a guest (session 1) for _ s, supply is held by a guest (session 2) for _ s");
+         "still waits: scope has been held by a guest (session 1) for _ s, supply has been held by a guest (session 2) for _ s");
     one.finish();
     expect("then it may", bay.hold({"load-1"}, NOW).is_held());
 }

@@ -91,7 +91,7 @@ static void a_disk_that_hangs() {
     auto held = bay.hold({"scope"});
     is_hanging = true;
     same("a time limit", why<labrun::timed_out>([&] { return bay.hold({"scope"}, asking().timeout(30ms)); }),
-         "still waits: scope is held by a guest (session 1) for _ s");
+         "still waits: scope has been held by a guest (session 1) for _ s");
     same("the disk's", why<journal_error>([&] { return bay.hold({"supply"}, asking().timeout(10ms)); }), path + ": the disk took too long");
     is_hanging = false;
     expect("it goes on", bay.hold({"supply"}, LONG).is_held());

@@ -51,7 +51,7 @@ static void who_held_comes_back() {
         expect("whoever was told, and nobody else",
                all.size() == 2 && all[0].number == 2 && all[1].number == 3 && all[0].holds && all[1].holds);
         same("they hold", why<labrun::timed_out>([&] { return bay.hold({"scope"}, NOW); }),
-             "still waits: scope is held by board (session 2) for _ s");
+             "still waits: scope has been held by board (session 2) for _ s");
         const auto next = bay.hold({"load-2"}, NOW);
         expect("what is over is free", next.number() == 5);
         expect("a larger token than the three before", next.token() == 4);

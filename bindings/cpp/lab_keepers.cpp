@@ -39,8 +39,8 @@ static void each_instrument() {
     const std::string end = "still waits for a guest (session 1), at scope for _ s: ", scope = "held by a guest (session 1) for _ s";
     const std::string supply = "supply is kept for board (session 2), which waits for scope, " + scope;
     same("kept", who_keeps(bay, {"supply"}), end + supply);
-    same("held", who_keeps(bay, {"scope"}), "still waits: scope is " + scope);
-    same("held, and kept", who_keeps(bay, {"supply", "scope"}), end + "scope is " + scope + ", " + supply);
+    same("held", who_keeps(bay, {"scope"}), "still waits: scope has been " + scope);
+    same("held, and kept", who_keeps(bay, {"supply", "scope"}), end + "scope has been " + scope + ", " + supply);
     same("kept, and free", who_keeps(bay, {"supply", "load-1"}), end + supply);
     held.finish();
     board.get();
@@ -129,7 +129,7 @@ static void a_place() {
     lab bay(BAY, passed_by(0));
     const auto who = [&] { return why<labrun::timed_out>([&] { return bay.station("board").hold({"supply"}, NOW); }); };
     auto held = bay.station("board").hold({"scope"});
-    same("the place", who(), "still waits: scope is held by board (session 1) for _ s");
+    same("the place", who(), "still waits: scope has been held by board (session 1) for _ s");
     auto guest = later([&] { bay.hold({"scope", "supply"}, LONG).finish(); });
     until_waits(bay, 1);
     same("the instrument", who(),

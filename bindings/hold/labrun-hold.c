@@ -760,7 +760,7 @@ struct line {
 static void is_silent(struct line *its) {
     if (now() < its->silent_at)
         return;
-    say("there is no word from the broker at unix:%s; labrun-hold tries on for a while, and Ctrl-C ends that", path);
+    say("there is no word from the broker at unix:%s; labrun-hold keeps trying for a while, and Ctrl-C ends that", path);
     its->silent_at = INFINITY;
 }
 
@@ -908,7 +908,7 @@ static int starts(void) {
 
 static void taken(const char *why) {
     is_taken = true;
-    say("%s; the command is ended", why);
+    say("%s; the command is being ended", why);
     send_all(SIGTERM);
 }
 

@@ -111,7 +111,7 @@ struct keeper {
     std::string who() const { return job + " (session " + std::to_string(session) + ")"; }
 
     // supply is kept for board (session 7), which waits for scope, held by radio (session 5) for 125 s
-    std::string text() const { return instrument + " is " + chain(); }
+    std::string text() const { return instrument + (holds ? " has been " : " is ") + chain(); }
     std::string chain() const {
         const std::string rest = behind ? ", which waits for " + behind->instrument + ", " + behind->chain() : "";
         return (holds ? "held by " : "kept for ") + who() + for_long() + rest;

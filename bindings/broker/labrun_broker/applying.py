@@ -34,8 +34,8 @@ def changes(before: Bay, after: Bay) -> list[str]:
         *_of_names("instrument", before.instruments, after.instruments),
         *_of_names("station", tuple(before.stations), tuple(after.stations)),
         *_of_uses(before, after),
-        *([f"guests: {after.guests} hold at once, and not {before.guests}"] if before.guests != after.guests else []),
-        *(f"{name}: {_told(value)}, and not {_told(old)}" for name, value, old in _of_numbers(before, after)),
+        *([f"guests: {after.guests} hold at once, instead of {before.guests}"] if before.guests != after.guests else []),
+        *(f"{name}: {_told(value)}, instead of {_told(old)}" for name, value, old in _of_numbers(before, after)),
         *_of_words(before, after),
         *people.changes(before.people, after.people),
     ]
@@ -48,11 +48,11 @@ def _of_names(what: str, before: tuple[str, ...], after: tuple[str, ...]) -> Ite
 
 def _of_words(before: Bay, after: Bay) -> Iterator[str]:
     for what, old, new in (("label", before.labels, after.labels), ("guard", before.guards, after.guards)):
-        yield from (f"{what} {name}: {new.get(name, 'none')}, and not {old.get(name, 'none')}" for name in {**old, **new} if new.get(name) != old.get(name))
+        yield from (f"{what} {name}: {new.get(name, 'none')}, instead of {old.get(name, 'none')}" for name in {**old, **new} if new.get(name) != old.get(name))
     for tag in {**before.tags, **after.tags}:
         was, its = (" ".join(of.get(tag, ())) or "none" for of in (before.tags, after.tags))
         if its != was:
-            yield f"tag {tag}: {its}, and not {was}"
+            yield f"tag {tag}: {its}, instead of {was}"
 
 
 def _of_uses(before: Bay, after: Bay) -> Iterator[str]:
@@ -74,13 +74,13 @@ def _of_numbers(before: Bay, after: Bay) -> Iterator[tuple[str, object, object]]
     limits += [(f"station_limits.{name}", after.station_limits.get(name), before.station_limits.get(name)) for name in names]
     for name, new, was in limits:
         if new != was:
-            yield f"{name} (for who asks from now on)", _span(new), _span(was)
+            yield f"{name} (for whoever asks from now on)", _span(new), _span(was)
     for name, word, other in _of_gone(before, after):
-        yield f"{name} (for who comes to hold from now on)", word, other
+        yield f"{name} (for whoever comes to hold from now on)", word, other
     for name in dict.fromkeys((*before.on_release, *after.on_release)):
         new_one, old_one = (of.on_release.get(name, "no command") for of in (after, before))
         if new_one != old_one:
-            yield f"on_release.{name} (for who asks from now on)", new_one, old_one
+            yield f"on_release.{name} (for whoever asks from now on)", new_one, old_one
     if after.on_release_limit != before.on_release_limit:
         yield "on_release_limit", _span(after.on_release_limit), _span(before.on_release_limit)
     for key in LATER_KEYS:
@@ -157,7 +157,7 @@ async def _apply(keeping: Keeping, text: str, after: Bay, by: str, is_check: boo
             _may(keeping, places, after)
         raise CantChange(f"the bay can't be so: {it}") from None
     if its:
-        keeping.says(f"the bay has changed, by {by}: {'; '.join(its)}")
+        keeping.says(f"the bay was changed by {by}: {'; '.join(its)}")
     for entrance in keeping.entrances:
         entrance.has_changed()
     try:

@@ -7,6 +7,7 @@ from typing import TYPE_CHECKING, Any, Coroutine, Optional
 
 from .errors import SILENT, AnswerLost, Unreachable, is_for_good, raised
 from .stream import AGAIN, LATE, Lost, Silent, Stream
+from .texts import span
 from .work import clock
 
 if TYPE_CHECKING:
@@ -110,5 +111,6 @@ class Coming:
             # (who closes each connection at once has heard nothing)
             raise AnswerLost(f"{why}; {MAY_HOLD}") if isinstance(why, AnswerLost) and lab._was_there else why from None
         if self._lost_at is None and lab._brokers.is_list:
-            self._held._waits_for(f"no broker of {lab.address} answers; it is tried again for {patience:g} s")
+            left = patience if self._until is None else min(patience, self._until - now)
+            self._held._waits_for(f"none of the brokers {lab.address} answers; trying again for {span(left)}")
         await asyncio.sleep(PAUSE)

@@ -114,7 +114,7 @@ def line_of(it: dict[str, Any], status: dict[str, Any]) -> list[str]:
     said = f"number {it['place']} in line{', urgent' if it.get('urgent') else ''}"
     if it.get("keeps_place"):
         return [f"{said}{'' if it['urgent'] else ', and an urgent one asked after it'}: nobody who asks later goes before it"]
-    return [said + (f"; {counted(it['passed'], 'other')} went first, and after {status['overtakes']} what it needs is kept for it" if it["passed"] else "")]
+    return [said + (f"; {it['passed']} that asked later went first, and after {status['overtakes']} what it needs is kept for it" if it["passed"] else "")]
 
 
 def out_of(it: dict[str, Any], at: float) -> str:
@@ -148,7 +148,7 @@ def add_release(parser: argparse.ArgumentParser) -> None:
 
 def run_release(args: argparse.Namespace) -> int:
     with lab_of(args, by=user()) as lab:
-        print(f"{args.station}'s session is ended; it held {' '.join(lab.release(args.station, args.session, args.bay))}")
+        print(f"{args.station}'s session is ended; it held {', '.join(lab.release(args.station, args.session, args.bay))}")
     return 0
 
 

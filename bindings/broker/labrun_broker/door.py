@@ -91,7 +91,7 @@ class Seldom:
             self._passed[kind] += 1
             return None
         self._next[kind] = now + self._pause
-        return f"{text} (and {passed} before it)" if (passed := self._passed.pop(kind, 0)) else text
+        return f"{text} ({passed} more since the last such line)" if (passed := self._passed.pop(kind, 0)) else text
 
 
 def is_read() -> bool:

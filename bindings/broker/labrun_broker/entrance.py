@@ -10,6 +10,7 @@ import re
 import time
 from dataclasses import dataclass, replace
 from typing import Callable, Iterator, Optional
+from urllib.parse import unquote
 
 from labrun import LabrunError
 
@@ -198,7 +199,7 @@ class Entrance:
 
     def tells(self, peer: str, why: str) -> None:
         """Also whoever looks after the broker is told, now and then."""
-        # (a socket's clients have no address that says anything)
-        who = re.sub(r"^unix\S*", "a client of the Unix socket", peer)
-        if (text := self._seldom.text(why, f"{who} isn't let in: {why}")) is not None:
+        # (a socket's clients have no address that says anything; gRPC says of the others' which kind it is)
+        who = re.sub(r"^unix\S*", "a client of the Unix socket", re.sub(r"^ipv[46]:", "", unquote(peer)))
+        if (text := self._seldom.text(why, f"{who} isn't let in, and is told: {why}")) is not None:
             self.keeping.says(text)

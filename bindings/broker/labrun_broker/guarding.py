@@ -8,7 +8,7 @@ from typing import TYPE_CHECKING, Any, AsyncIterator, Optional
 from urllib.parse import unquote
 
 from labrun import JournalError
-from labrun.picks import near
+from labrun.picks import near, some
 
 from . import broker_pb2 as pb
 from .wishes import digits_of
@@ -51,7 +51,7 @@ def why_not(keeping: Kept, wish: Any) -> Optional[str]:
     unknown = [name for name in wish.instruments if name not in keeping.bay.instruments]
     if not unknown:
         return None
-    return f"the bay has no instrument {', '.join(unknown)}: there are {', '.join(keeping.bay.instruments)}{near(unknown[0], keeping.bay.instruments)}"
+    return f"the bay has no instrument {', '.join(unknown)}: there are {some(keeping.bay.instruments)}{near(unknown[0], keeping.bay.instruments)}"
 
 
 async def holders(keeping: Kept, names: tuple[str, ...]) -> AsyncIterator[Any]:

@@ -18,6 +18,8 @@ if TYPE_CHECKING:
     from .standing import Session
     from .wishes import Wish
 
+THEN = "after that its session is taken away as soon as somebody waits for what it has"
+
 # a client is warned when so much of the limit is left, and no sooner than so many seconds before its end
 SHARE, SOONEST = 0.1, 300.0
 
@@ -50,8 +52,8 @@ def _warns(keeping: Keeping, session: Session) -> None:
     session.warning = None
     if session.owner is not None and session.limit is not None:
         left = max(0.0, session.limit - (keeping.now() - session.limit_since) / 1000)
-        what, whole = " ".join(session.instruments), _span(session.limit)
-        session.owner.warned(f"{session.name} may hold {what} for {whole}, which is over in {span(left, 1)}: then whoever waits for it gets it", left)
+        what, whole = ", ".join(session.instruments), _span(session.limit)
+        session.owner.warned(f"{session.name} may hold {what} for {whole}, which is over in {span(left, 1)}: {THEN}", left)
 
 
 def because(keeping: Keeping, session: Session, how: int) -> str:

@@ -162,7 +162,7 @@ class Leading:
             self._free_since = None
             more = ", by another bay file than this one has: this one won't lead while a broker with that file is there" if is_other else ""
             if others.applied not in ("", self._mark):
-                more = ", and this one began with another bay file than was applied last: if it leads, it goes by the one that was applied"
+                more = ", and this one's bay file isn't the one that was applied last: if it leads, it goes by the one that was applied"
             self._says(says, f"stands by: {others.leader} leads{more}")
             return False
         self._free_since = self._free_since or clock()

@@ -47,7 +47,7 @@ async def puts_out(keeping: Keeping, name: str, why: str, by: str) -> None:
     async with keeping.changing:
         await keeps(keeping, replace(keeping.places, out={**keeping.places.out, name: Out(why, by, round(time.time(), 3))}))
         keeping._record("disabled", text=f"{name}: {why}, by {by}" if why else f"{name}, by {by}", its=(name,))
-        keeping.says(f"{name} is out of order, says {by}" + (f": {why}" if why else ""))
+        keeping.says(f"{name} is out of order{f': {why}' if why else ''} (says {by})")
         _tells(keeping, name)
 
 
@@ -58,7 +58,7 @@ async def enable(keeping: Keeping, name: str, by: str) -> None:
             raise OutOfOrder(f"{name} isn't out of order")
         await keeps(keeping, replace(keeping.places, out={key: it for key, it in keeping.places.out.items() if key != name}))
         keeping._record("enabled", text=f"{name}, by {by}", its=(name,))
-        keeping.says(f"{name} is in order again, says {by}")
+        keeping.says(f"{name} is in order again (says {by})")
 
 
 def _tells(keeping: Keeping, name: str) -> None:

@@ -134,7 +134,7 @@ function lineOf(it) {
   if (!it.place) return "";
   const said = `, number ${it.place} in line${it.urgent ? ", urgent" : ""}`;
   if (it.keeps_place) return `${said}${it.urgent ? "" : ", and an urgent one asked after it"}: nobody who asks later goes before it`;
-  return `${said}${it.passed ? `; ${it.passed} ${it.passed === 1 ? "other" : "others"} went first, and after ${overtakesOf(it)} what it needs is kept for it` : ""}`;
+  return `${said}${it.passed ? `; ${it.passed} that asked later went first, and after ${overtakesOf(it)} what it needs is kept for it` : ""}`;
 }
 function chainOf(it) {
   // (a line is too short for all of it: for what it waits stands beside the instruments, too)

@@ -95,13 +95,13 @@ def changes(before: People, after: People) -> Iterator[str]:
         if count := len(set(new.tokens) - set(old.tokens)):
             yield f"person {name}: {_tokens(count)} new"
         if new.unix != old.unix:
-            yield f"person {name}: is {_all(new.unix)} at the socket, and not {_all(old.unix)}"
+            yield f"person {name}: is {_all(new.unix)} at the socket, instead of {_all(old.unix)}"
         if new.may != old.may:
-            yield f"person {name}: may ask for {_words(new.may)}, and not {_words(old.may)} (for who asks from now on)"
+            yield f"person {name}: may ask for {_words(new.may)}, instead of {_words(old.may)} (for whoever asks from now on)"
     if after.operators != before.operators:
-        yield f"operators: {_all(after.operators)}, and not {_all(before.operators)}"
+        yield f"operators: {_all(after.operators)}, instead of {_all(before.operators)}"
     if after.urgent != before.urgent:
-        yield f"urgent: {_all(after.urgent)}, and not {_all(before.urgent)}"
+        yield f"urgent: {_all(after.urgent)}, instead of {_all(before.urgent)}"
 
 
 def _tokens(count: int) -> str:

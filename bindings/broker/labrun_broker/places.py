@@ -51,9 +51,9 @@ class Places:
         stations = tuple(dict.fromkeys((*self.stations, *bay.stations)))
         for what, names, most, its in (("instruments", instruments, MOST_INSTRUMENTS, bay.instruments), ("stations", stations, MOST_STATIONS, bay.stations)):
             if len(names) > most:
-                former = " ".join([it for it in names if it not in its][:SHOWN])
-                why = f"with those that were taken out before there are {len(names)}, and {most} are the most in all the life of a state folder, or in etcd"
-                raise BayFault(what, [f"{why}: use the name of one that was taken out ({former}), or begin anew"])
+                former = [it for it in names if it not in its]
+                why = f"{len(its)} in the file and {len(former)} taken out before; a state folder, or etcd, has places for {most} of both in all its life"
+                raise BayFault(what, [f"{why}: use the name of one that was taken out ({', '.join(former[:SHOWN])}), or begin anew"])
         return replace(self, instruments=instruments, stations=stations)
 
     def classes(self, bay: Bay) -> list[tuple[int, int]]:

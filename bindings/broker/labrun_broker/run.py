@@ -131,7 +131,7 @@ class Silence:
         self._lasts(MINUTE)
 
     def _lasts(self, seconds: float) -> None:
-        self._timer = threading.Timer(seconds, say, [f"there is no word from the broker at {self._address}; hold tries on for a while, and Ctrl-C ends that"])
+        self._timer = threading.Timer(seconds, say, [f"there is no word from the broker at {self._address}; hold keeps trying for a while, and Ctrl-C ends that"])
         self._timer.daemon = True
         self._timer.start()
 
@@ -230,7 +230,7 @@ def runs(command: list[str], held: Union[Quick, Held], signals: Signals, address
 
     def is_taken(fault: object) -> None:
         taken.append(fault)
-        say(f"{plain(fault)}; the command is ended")
+        say(f"{plain(fault)}; the command is being ended")
         signals.send(signal.SIGTERM)
 
     held.on_taken, held.on_warning = is_taken, lambda text: say(plain(text))

@@ -114,7 +114,8 @@ async def serve(args: argparse.Namespace) -> int:
             ends.push_async_callback(runner.cleanup)
         where = " ".join(its_door.addresses) + (f", by HTTP at {' '.join(args.http)}" if args.http else "")
         of = "" if lab is None else f"{counted(len(lab.bays), 'bay')} ({', '.join(lab.bays)}), "
-        say(f"{called(bay.what, bay.name)}: {of}{counted(len(bay.instruments), 'instrument')}, at {where}")
+        leads = "" if args.etcd is None else "leads: "
+        say(f"{leads}{called(bay.what, bay.name)}: {of}{counted(len(bay.instruments), 'instrument')}, at {where}")
         for it in (*keeping.complaints, *entrance.complaints(), *begins):
             say(plain(it))
         keeping.says = lambda text: say(plain(text)[:MOST_TOLD]) if door.is_read() else None

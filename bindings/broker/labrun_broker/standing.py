@@ -8,6 +8,7 @@ import functools
 import itertools
 import math
 import operator
+import re
 import time
 from dataclasses import dataclass, field
 from typing import TYPE_CHECKING, Any, Iterable, Optional, Protocol
@@ -29,7 +30,7 @@ if TYPE_CHECKING:
 GONE, ONCE = "gone for", "once that is"
 # the state of a session that is over for its client, while what it had is made safe (making_safe.py)
 ENDING = "ending"
-SHOWN = 8  # guests in a text
+SHOWN = 8  # guests, or instruments, in a text
 
 
 class Owner(Protocol):
@@ -189,7 +190,7 @@ class Standings:
     def why(self, session: Session) -> str:
         """The same as a text; also if there is no place, or the disk keeps it waiting."""
         if self._holds(session):
-            return f"it is its turn, and it holds {self._once_written()}"
+            return f"it is this session's turn, and it holds {self._once_written()}"
         if self.is_full(session.kind):
             return self._is_taken(session)
         return ", ".join(it["text"] for it in self.keepers(session)) or "nobody keeps it any more"
@@ -218,7 +219,7 @@ class Standings:
             return self._is_made_safe(self._name(bit), holder)
         if self._wrong and self._is_untold(holder):
             return f"{self._name(bit)} is {holder.name}'s {self._once_written()}"
-        return f"{self._name(bit)} is held by {holder.name} for {self._for(since)}{self._about(holder)}"
+        return f"{self._name(bit)} has been held by {holder.name} for {self._for(since)}{self._about(holder)}"
 
     def _is_made_safe(self, name: str, of: Session) -> str:
         after = f"after session {of.number} of {of.name}" + (f" ({of.by})" if of.by else "")
@@ -232,7 +233,7 @@ class Standings:
     def _is_kept(self, bit: int, other: Session) -> str:
         """Also why, and until when: and for what that one waits, down to the one that holds it."""
         its = self._line(other)
-        first = f"{counted(its['passed'], 'other')} went before it" if its["passed"] else "it asked first"
+        first = f"{its['passed']} that asked later went before it" if its["passed"] else "it asked first"
         if its["keeps_place"]:
             first = "it is urgent" if its["urgent"] else "an urgent one asked after it"
         text = f"{self._name(bit)} is kept for {other.name} until it holds, since {first}"
@@ -245,14 +246,16 @@ class Standings:
             by = [(it, self._keeping.machine.keeper(other.number, it)) for it in bits_of(other.wanted)]
             kept = [(it, self._keeping.by_number.get(who.number)) for it, who in by if who is not None]
             held = [f"{self._name(it)} is kept for {who.name}" for it, who in kept if who is not None]
-        return [it.replace(" is ", ", ", 1) for it in held]
+        return [re.sub(" (is|has been) ", ", ", it, count=1) for it in held]
 
     def _is_taken(self, session: Session) -> str:
         of = [other for other, _, _ in self.holders if other.kind == session.kind]
         if session.kind and of[0].state == ENDING:
             return f"{session.name} is in one session at a time, and {self._is_made_safe(of[0].instruments[0], of[0])}"
         if session.kind:
-            return f"{session.name} is in a session of {of[0].by or 'somebody'}, and is in one at a time{self._about(of[0], is_named=True)}"
+            return f"{session.name} has been in a session for {self._for(of[0].since)}{self._about(of[0])}, and a station is in one at a time"
+        # (who has to be seen to stands first)
+        of.sort(key=lambda it: it.gone_at is None)
         its = [f"{it.name} by {it.by or 'somebody'}{self._about(it, is_named=True)}" for it in of[:SHOWN]]
         more = [f"and {len(of) - SHOWN} more"] if len(of) > SHOWN else []
         all_of = f"all {len(of)} places for guests are" if len(of) > 1 else "the only place for a guest is"
@@ -264,11 +267,17 @@ class Standings:
         if holder.crossing is not None and (waits := holder.crossing.waits_where()):
             parts.append(waits)
         if holder.gone_at is not None:
-            people = self._keeping.bay.people
-            see = f"see to it, and then run labrun-broker release {holder.name} --session {holder.number}{f'; {people.to_ask()}' if people else ''}"
-            does = see if holder.is_kept else f"it is released after {self._keeping.its_grace:g} s"
+            does = self._to_do(holder) if holder.is_kept else f"its session is released once that is {self._keeping.its_grace:g} s"
             parts.append(f"{GONE} {self._for(holder.gone_at)}: {does}")
         return f" ({', '.join(parts)})" if parts else ""
+
+    def _to_do(self, gone: Session) -> str:
+        # (the release lets go of all that it has)
+        its = [name for _, it in gone.crossing.its() for name in it.instruments] if gone.crossing else list(gone.instruments)
+        more = f" and {len(its) - SHOWN} more" if len(its) > SHOWN else ""
+        people = self._keeping.bay.people
+        who = f"; {people.to_ask()}" if people else ""
+        return f"see to {', '.join(its[:SHOWN])}{more}, and then run labrun-broker release {gone.name} --session {gone.number}{who}"
 
     def _for(self, since: int) -> str:
         return span((self._now - since) / 1000, 1)

@@ -9,7 +9,7 @@ from dataclasses import dataclass, replace
 from typing import TYPE_CHECKING, Any, Optional, Sequence
 
 from labrun import LabrunError, MayNotUse, NotHeld
-from labrun.picks import NoSuch, TooFew, TooMany, counted, is_plain, near, sets_of
+from labrun.picks import NoSuch, TooFew, TooMany, counted, is_plain, near, sets_of, some
 
 from . import rights
 from .bay import MOST_SECONDS, Bay
@@ -112,9 +112,9 @@ def check(wish: Wish, bay: Bay) -> None:
     """Whether the bay has it for this client. BadWish, NoInstrument, MayNotUse or NotAllowed says what is wrong."""
     if wish.station and wish.station not in bay.stations:
         hint = "; guests ask without one" if wish.station in bay.guest_names else near(wish.station, bay.stations)
-        raise BadWish(f"{wish.station} is no station of this {bay.what}: there are {', '.join(bay.stations) or 'none'}{hint}")
+        raise BadWish(f"{wish.station} is no station of this {bay.what}: there are {some(tuple(bay.stations)) or 'none'}{hint}")
     if not wish.station and not bay.guests:
-        raise BadWish(f"this {bay.what} has no guests: say which station you are, of {', '.join(bay.stations)}")
+        raise BadWish(f"this {bay.what} has no guests: say which station you are, of {some(tuple(bay.stations))}")
     if wish.any_of and wish.instruments:
         raise BadWish("say either which instruments, or which sets of them to choose from (any_of), and not both")
     if not all(wish.choices):
@@ -146,8 +146,8 @@ def _may_not_use(wish: Wish, words: Sequence[str], bay: Bay) -> MayNotUse:
     """Because it isn't for the station, or a guest; else because it isn't for the person."""
     its, what = _places_use(wish, bay), " ".join(words)
     if bay.people and _is_there(words, its, bay):
-        some = [name for name in _may_use(wish, bay) if any(_is_there((counted(word)[1],), (name,), bay) for word in words if not is_plain(word))]
-        return rights.may_not_have(bay, wish.person, what + (f", but only {', '.join(some)}" if some else ""))
+        may = [name for name in _may_use(wish, bay) if any(_is_there((counted(word)[1],), (name,), bay) for word in words if not is_plain(word))]
+        return rights.may_not_have(bay, wish.person, what + (f", but only {some(may)}" if may else ""))
     return MayNotUse(wish.station or "a guest", what, its)
 
 
@@ -202,16 +202,17 @@ def _is_there(words: Sequence[str], its: Sequence[str], bay: Bay) -> bool:
 def _no_such(name: str, bay: Bay) -> NoInstrument:
     its = name.split(",")
     hint = f" (each is a word of its own: {' '.join(its)})" if len(its) > 1 and set(its) <= set(bay.instruments) else near(name, bay.instruments)
-    return NoInstrument(f"{name or 'an empty name'} is no instrument of this {bay.what}: there are {', '.join(bay.instruments)}{hint}")
+    return NoInstrument(f"{name or 'an empty name'} is no instrument of this {bay.what}: there are {some(bay.instruments)}{hint}")
 
 
 def no_station(name: str, bay: Bay) -> BadWish:
     """Of those that hold, guests too."""
     # (who waits has a name, too)
     guests = (f"{'and ' if bay.stations else ''}guests that hold or wait, as guest-1",) if bay.guests else ()
+    stations = (some(tuple(bay.stations)),) if bay.stations else ()
     # (of a thousand guests the loop would look for long)
     known = (*bay.stations, *bay.guest_names[:MOST_NEAR])
-    return BadWish(f"{name[:bay.limits.name]} is no station of this {bay.what}: there are {', '.join((*bay.stations, *guests))}{near(name, known)}")
+    return BadWish(f"{name[:bay.limits.name]} is no station of this {bay.what}: there are {', '.join((*stations, *guests))}{near(name, known)}")
 
 
 def check_note(text: str, bay: Bay) -> None:

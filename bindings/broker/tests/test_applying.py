@@ -54,7 +54,7 @@ class OfAWholeLife(unittest.TestCase):
 
         most = [f"load-{it}" for it in range(64)]
         full = Places().with_bay(bay_of(bay(*most)))
-        with self.assertRaisesRegex(BayFault, r"there are 65, and 64 are the most .*: use the name of one that was taken out \(load-0\), or begin anew"):
+        with self.assertRaisesRegex(BayFault, r"^instruments: 64 in the file and 1 taken out before; a state folder, or etcd, has places for 64 of both in all its life: use the name of one that was taken out \(load-0\), or begin anew"):
             full.with_bay(bay_of(bay(*most[1:], "oven")))
         self.assertEqual(full.with_bay(bay_of(bay(*most[2:]))).with_bay(bay_of(bay(*most[1:]))), full)
 
@@ -101,12 +101,12 @@ class Applied(OnApplied):
                         "station oven: new",
                         "station radio: may use laser, too",
                         "guests: may use laser, too",
-                        "guests: 6 hold at once, and not 4",
-                        "limits.note: 100, and not 500",
-                        "gone (with the next start of the broker): release, and not keep",
+                        "guests: 6 hold at once, instead of 4",
+                        "limits.note: 100, instead of 500",
+                        "gone (with the next start of the broker): release, instead of keep",
                     ],
                 )
-                self.assertEqual(said, [f"the bay has changed, by eve: {'; '.join(told)}"])
+                self.assertEqual(said, [f"the bay was changed by eve: {'; '.join(told)}"])
                 self.assertEqual((how(keeping, "board")["state"], how(keeping, "scope")["waiting"]), ("holding", ["guest-1", "guest-2"]))
                 oven = await keeping.hold(Wish(("laser",), station="oven"), owner)
                 with self.assertRaisesRegex(BadWish, "a note of 101 characters; 100 are the most"):
@@ -245,7 +245,7 @@ class Applied(OnApplied):
 class Texts(unittest.TestCase):
     def test_what_the_rest_is(self) -> None:
         before, after = bay_of(BAY), bay_of("overtakes = 3\n" + BAY + "may_use = [\"load-1\", \"load-2\"]\n")
-        self.assertEqual(changes(before, after), ["guests: may no longer use scope supply", "overtakes (with the next start of the broker): 3, and not what it is without a line"])
+        self.assertEqual(changes(before, after), ["guests: may no longer use scope supply", "overtakes (with the next start of the broker): 3, instead of what it is without a line"])
         self.assertEqual(changes(after, after), [])
 
 
@@ -285,7 +285,7 @@ class Commands(OnBroker):
         self.assertEqual(bad.returncode, 1)
         lab.close()
         self.assertEqual(broker.end(), 0)
-        self.assertRegex(broker.said, "the bay has changed, by a signal: instrument scope: taken out")
+        self.assertRegex(broker.said, "the bay was changed by a signal: instrument scope: taken out")
 
 
 COMMAND = [sys.executable, f"{TOP}/checks/bay/simulated.py"]

@@ -339,7 +339,7 @@ class Changes(OnBays):
         bays = await self.bays(state=False)
         with self.assertRaisesRegex(BadWish, "the file doesn't say which bay it is, of north, south"):
             await self.applies(bays, SOUTH)
-        self.assertEqual(await self.applies(bays, SOUTH.replace("count = 2", "count = 3"), "south"), ["guests: 3 hold at once, and not 2"])
+        self.assertEqual(await self.applies(bays, SOUTH.replace("count = 2", "count = 3"), "south"), ["guests: 3 hold at once, instead of 2"])
         with self.assertRaisesRegex(BadWish, "calls this bay south, and not north"):
             await self.applies(bays, NORTH, "south")
 

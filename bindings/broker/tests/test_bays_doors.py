@@ -75,11 +75,11 @@ class Doors(OnLab):
     def test_the_bays_files_are_applied(self) -> None:
         at, path = self.broker(), f"{self.folder}/bay.toml"
         written(self.folder, LAB, NORTH.replace("count = 2", "count = 3"))
-        self.assertEqual(self.ran(at, "bay", "apply", f"{self.folder}/north.toml"), "guests: 3 hold at once, and not 2\n")
+        self.assertEqual(self.ran(at, "bay", "apply", f"{self.folder}/north.toml"), "guests: 3 hold at once, instead of 2\n")
         written(self.folder, LAB, NORTH, SOUTH.replace("count = 2", "count = 5"))
         self.assertIn("say so (--bay)", self.ran(at, "bay", "apply", f"{self.folder}/more/south.toml", status=1))
-        self.assertEqual(self.ran(at, "bay", "apply", "--bay", "south", f"{self.folder}/more/south.toml"), "guests: 5 hold at once, and not 2\n")
-        self.assertEqual(self.ran(at, "bay", "apply", path), "north: guests: 2 hold at once, and not 3\n")
+        self.assertEqual(self.ran(at, "bay", "apply", "--bay", "south", f"{self.folder}/more/south.toml"), "guests: 5 hold at once, instead of 2\n")
+        self.assertEqual(self.ran(at, "bay", "apply", path), "north: guests: 2 hold at once, instead of 3\n")
         written(self.folder, LAB, NORTH)
         assert at.process is not None
         at.process.send_signal(signal.SIGHUP)

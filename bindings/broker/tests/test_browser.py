@@ -310,7 +310,7 @@ class Browser(unittest.TestCase):
         order = "return [...document.querySelectorAll('#instruments > *')].map(it => it.dataset.instrument || it.textContent)"
         self.assertEqual(self.browser.execute_script(order), ["north", "scope", "supply", "south", "oven"])
         passed = "return [{bay: 'south', place: 1, passed: 2}, {bay: '', place: 1, passed: 2}].map(lineOf)"
-        self.assertEqual([it.split("; ")[1] for it in self.browser.execute_script(passed)], [f"2 others went first, and after {most} what it needs is kept for it" for most in (8, 9)])
+        self.assertEqual([it.split("; ")[1] for it in self.browser.execute_script(passed)], [f"2 that asked later went first, and after {most} what it needs is kept for it" for most in (8, 9)])
         keeps = "return [[1, false, true], [2, true, true], [3, true, false]].map(([place, urgent, keeps_place]) => lineOf({place, urgent, keeps_place}))"
         said = [", number 1 in line, and an urgent one asked after it", ", number 2 in line, urgent", ", number 3 in line, urgent"]
         self.assertEqual(self.browser.execute_script(keeps), [*(f"{it}: nobody who asks later goes before it" for it in said[:2]), said[2]])

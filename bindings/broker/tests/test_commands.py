@@ -199,7 +199,7 @@ class WithoutBroker(unittest.TestCase):
         said = [it.split("  ")[-1].strip() for it in lines[-5:]]
         full = "all places for guests are taken (guests.count says how many hold at once)"
         # (of one for which there is no place nothing bounds who goes first)
-        self.assertEqual(said, ["ann", "number 3 in line; 2 others went first, and after 16 what it needs is kept for it", "ann", "number 4 in line", full])
+        self.assertEqual(said, ["ann", "number 3 in line; 2 that asked later went first, and after 16 what it needs is kept for it", "ann", "number 4 in line", full])
 
     def test_ctrl_c_while_it_begins(self) -> None:
         """Also before anything of its own is there: by each program that begins it. Nothing else is read before it minds that."""
@@ -245,7 +245,7 @@ class WithBroker(OnBroker):
                 (["hold", "scope", "--", "sh", "-c", "kill -TERM $$"], 143, "", ""),
                 (["hold", "scope", "--", "./nothing"], 127, "", "./nothing: No such file or directory"),
                 (["hold", "scope", "--", "/"], 126, "", "/: Permission denied"),
-                (["hold", "supply", "--timeout", "0.1", "--", "echo", "ran"], 75, "", "supply is held by board for"),
+                (["hold", "supply", "--timeout", "0.1", "--", "echo", "ran"], 75, "", "supply has been held by board for"),
                 (["hold", "lamp", "--", "echo", "ran"], 2, "", "lamp is no instrument of this bay: there are scope, supply, load-1, load-2\n"),
                 (["hold", "scop", "--station", "radio", "--", "echo", "ran"], 2, "", "there are scope, supply, load-1, load-2 (did you mean scope?)\n"),
                 (["hold", "--any", "scope", "lod-1", "--", "echo", "ran"], 2, "", "lod-1 is no instrument of this bay"),
@@ -275,14 +275,14 @@ class WithBroker(OnBroker):
                 (["--any", "load-*"], 0, "load-2\n", ""),
                 (["--any", "supply", "l*2"], 0, "load-2\n", ""),
                 (["load-*"], 0, "load-2\n", ""),
-                (["2 of load-*", "-n"], 75, "", "load-1 is held by guest-1"),
+                (["2 of load-*", "-n"], 75, "", "load-1 has been held by guest-1"),
                 (["3 of load-*"], 2, "", "labrun-broker: 3 of load-* are wanted; there are 2: load-1, load-2\n"),
                 (["--station", "radio", "l*"], 77, "", "radio may not use l*: it may use scope"),
                 (["--any", "0 of load-*"], 2, "", "labrun-broker: 0 of load-*: ask for 1 or more; there are 2: load-1, load-2\n"),
                 (["--any", "lamp-*"], 2, "", "labrun-broker: no instrument is like lamp-*: there are scope, supply, load-1, load-2\n"),
                 (["tag:lamps"], 2, "", "labrun-broker: lamps is no tag; there are none\n"),
-                (["-n", "load-1"], 75, "", "refused, because it doesn't wait (-n, or a timeout of 0): load-1 is held by guest-1 for"),
-                (["--timeout", "0.1", "load-1"], 75, "", "given up when its time was over: load-1 is held by guest-1 for"),
+                (["-n", "load-1"], 75, "", "refused, because it doesn't wait (-n, or a timeout of 0): load-1 has been held by guest-1 for"),
+                (["--timeout", "0.1", "load-1"], 75, "", "given up when its time was over: load-1 has been held by guest-1 for"),
                 (["--no-wait", "scope"], 0, "scope\n", ""),
             )
             for words, status, out, fault in rows:
@@ -340,7 +340,7 @@ class WithBroker(OnBroker):
         held.acquire()
         waits = broker.started("hold", "scope", "--", "echo", "ran")
         assert waits.stderr is not None
-        self.assertRegex(waits.stderr.readline(), r"^labrun-broker: waits: scope is held by board for \d")
+        self.assertRegex(waits.stderr.readline(), r"^labrun-broker: waits: scope has been held by board for \d")
         held.release()
         self.assertEqual((waits.communicate(timeout=LIMIT)[0], waits.returncode), ("ran\n", 0))
 
@@ -469,7 +469,7 @@ class WithBroker(OnBroker):
             self.assertRegex(text, r"(?m)^load-1 +-$")
             self.assertRegex(text, r"(?m)^board +holding +\d+ s +scope supply +tester \| \\x1b\[2J12.5 V$")
             self.assertRegex(text, r"(?m)^guest-1 +waiting +\d+ s +supply +\S")
-            self.assertRegex(text, r"(?m)^ +supply is held by board for \d")
+            self.assertRegex(text, r"(?m)^ +supply has been held by board for \d")
             status = json.loads(broker.ran("status", "--json").stdout)
             self.assertEqual([it["holder"] for it in status["instruments"]], ["board", "board", None, None])
         self.assertEqual(waits.wait(LIMIT), 0)

@@ -78,13 +78,13 @@ class Holds(OnCrossings):
         task, asked = await self.waits(bays, "south", "scope", "oven", "supply")
         self.assertEqual(self.stands(bays), {"scope": "guest-2", "supply": "guest-2", "oven": "guest-1"})
         keepers, text, _ = bays.for_whom(asked)
-        self.assertRegex(text, r"^in the bay south: oven is held by guest-1 for .*; it holds scope and supply already$")
+        self.assertRegex(text, r"^in the bay south: oven has been held by guest-1 for .*; it holds scope and supply already$")
         self.assertEqual([(it["instrument"], it["station"]) for it in keepers], [("oven", "guest-1")])
         rows = {(it["bay"], it["name"]): it for it in bays.status()["stations"]}
         self.assertEqual([rows[bay, "guest-2"]["state"] for bay in ("north", "south")], ["holding", "waiting"])
         # who waits for what it holds is told for whom in the end
         one, others = await self.waits_for(bays, "scope")
-        self.assertRegex(others[0].home.for_whom(others[0])[1], r"^scope is held by guest-2 for .*which waits in the bay south, too: oven is held by guest-1")  # type: ignore[union-attr]
+        self.assertRegex(others[0].home.for_whom(others[0])[1], r"^scope has been held by guest-2 for .*which waits in the bay south, too: oven has been held by guest-1")  # type: ignore[union-attr]
         one.cancel()
         await bays.let_go(oven, self.owner)
         it = await asyncio.wait_for(task, LIMIT)
@@ -110,14 +110,14 @@ class Holds(OnCrossings):
     async def test_who_waits_for_nothing_has_nothing(self) -> None:
         bays = await self.bays()
         await self.holds(bays, "oven")
-        with self.assertRaisesRegex(TimedOut, "can't have all that it asks for at once: oven is held by guest-1"):
+        with self.assertRaisesRegex(TimedOut, "can't have all that it asks for at once: oven has been held by guest-1"):
             await self.crosses(bays, "scope", "oven", timeout=0.0)
         self.assertEqual(self.stands(bays), {"oven": "guest-1"})
 
     async def test_a_time_limit_that_passes_in_the_second(self) -> None:
         bays = await self.bays()
         await self.holds(bays, "oven")
-        with self.assertRaisesRegex(TimedOut, "was given up when its time was over: oven is held by guest-1"):
+        with self.assertRaisesRegex(TimedOut, "was given up when its time was over: oven has been held by guest-1"):
             await self.crosses(bays, "scope", "oven", timeout=0.3)
         self.assertEqual((self.stands(bays), bays.crossings, self.owner.told), ({"oven": "guest-1"}, {}, []))
         for home in bays.peers:

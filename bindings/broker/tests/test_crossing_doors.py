@@ -40,7 +40,7 @@ class Doors(OnCrossings):
                 self.assertEqual(self.holders(at), {"scope": "guest-1", "oven": "guest-1"})
                 said = self.ran(at, "status")
                 self.assertRegex(said, r"(?s)bay north.*scope.*guest-1.*bay south.*oven.*guest-1")
-                self.assertIn("oven is held by guest-1", self.ran(at, "hold", "-n", "oven", "load-1", "--", "true", status=75))
+                self.assertIn("oven has been held by guest-1", self.ran(at, "hold", "-n", "oven", "load-1", "--", "true", status=75))
             until(lambda: not self.holders(at))
             # (a stream that was used for it is used again)
             with lab.hold("oven", "supply"):
@@ -61,11 +61,11 @@ class Doors(OnCrossings):
         at = self.broker()
         with at.lab() as lab, lab.hold("oven"):
             told = list[str]()
-            with self.assertRaisesRegex(labrun_broker.TimeoutError, "oven is held by guest-1"):
+            with self.assertRaisesRegex(labrun_broker.TimeoutError, "oven has been held by guest-1"):
                 with lab.hold("scope", "oven", timeout=3, waits=told.append):
                     self.fail("it holds")
             self.assertEqual(self.holders(at), {"oven": "guest-1"})
-            self.assertTrue(any("in the bay south: oven is held by guest-1" in it and "it holds scope already" in it for it in told), told)
+            self.assertTrue(any("in the bay south: oven has been held by guest-1" in it and "it holds scope already" in it for it in told), told)
 
     def test_a_client_that_dies_while_it_waits_in_the_second(self) -> None:
         at = self.broker()
@@ -86,7 +86,7 @@ class Doors(OnCrossings):
         self.assertEqual(asks.of(ticket, "/notes", "POST", {"text": "V = 5.003"})[0], 200)
         status, waits = asks.asks("oven", "load-1")
         self.assertEqual((status, waits["state"]), (202, "waiting"))
-        until(lambda: "oven is held by guest-1" in asks.of(waits["ticket"])[1]["text"])
+        until(lambda: "oven has been held by guest-1" in asks.of(waits["ticket"])[1]["text"])
         self.assertIn("load-1", self.holders(at))
         self.assertEqual(asks.lets_go(waits["ticket"])[0], 200)
         self.assertEqual(asks.lets_go(ticket)[0], 200)
@@ -95,7 +95,7 @@ class Doors(OnCrossings):
     def test_a_release_ends_both(self) -> None:
         at = self.broker()
         with at.lab() as lab, self.assertRaises(labrun_broker.TakenAway), lab.hold("oven", "scope"):
-            self.assertEqual(self.ran(at, "release", "guest-1", "--bay", "south"), "guest-1's session is ended; it held oven scope\n")
+            self.assertEqual(self.ran(at, "release", "guest-1", "--bay", "south"), "guest-1's session is ended; it held oven, scope\n")
             until(lambda: not self.holders(at))
 
 
@@ -166,7 +166,7 @@ class Killed(OnCrossings):
             at.begin()
             found.append(set(self.holders(at)))
             for name in found[-1] and ["guest-1"]:
-                self.assertIn("guest-1's session is ended; it held scope oven", self.ran(at, "release", name))
+                self.assertIn("guest-1's session is ended; it held scope, oven", self.ran(at, "release", name))
             until(lambda: not self.holders(at), "nothing is left")  # noqa: B023
             at.end()
         self.assertGreater(len(found), 3, "it was killed at some writes")

@@ -244,7 +244,7 @@ class Changes(OnCrossings):
         task, _ = await self.waits(bays, "south", "scope", "oven", ticket=TICKET)
         for name, text in (("north", NORTH), ("south", SOUTH)):
             its = await lab_applying.apply_one(bays, name, text.replace("count = 2", "count = 3"), "me", False)
-            self.assertEqual(its, ["guests: 3 hold at once, and not 2"])
+            self.assertEqual(its, ["guests: 3 hold at once, instead of 2"])
         await bays.let_go(oven, self.owner)
         it = await asyncio.wait_for(task, LIMIT)
         # (what a new page has of it says that it is a part, too)

@@ -194,7 +194,7 @@ class Commands(OnAWay):
         proxy.mend()
         _, said = one.communicate(timeout=LIMIT)
         self.assertEqual(one.returncode, 76)
-        self.assertIn("nothing was heard from the broker for 6 s, so the session is over, and others may hold these soon: scope; the command is ended", said)
+        self.assertIn("nothing was heard from the broker for 6 s, so the session is over, and others may hold these soon: scope; the command is being ended", said)
 
     def test_hold_is_killed(self) -> None:
         """Its command ends if others may have the instruments, and else goes on."""

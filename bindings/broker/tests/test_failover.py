@@ -340,14 +340,14 @@ class Applied(OnPair):
             self.assertEqual(self.statuses(*tries), wanted, f"after {at + 1} that were killed")
             said = [it for it in self.brokers[1 - at].said if "applied" in it]
             self.assertRegex(said[-1], r"it goes by the bay that was applied by ana: .*, \d{4}-\d\d-\d\d \d\d:\d\d, and .*/bay.toml is another one: to go by that, apply it$")
-            self.assertIn("this one began with another bay file than was applied last: if it leads, it goes by the one that was applied", self.brokers[at].said[-1])
+            self.assertIn("this one's bay file isn't the one that was applied last: if it leads, it goes by the one that was applied", self.brokers[at].said[-1])
 
     def test_by_a_signal(self) -> None:
         """The file of the one that leads is another by now."""
         self.pair(PEOPLE)
         with open(f"{self.brokers[0].folder}/bay.toml", "w", encoding="utf-8") as file:
             file.write(WITHOUT_BOB.replace("north", self.bay))
-        told = "the bay has changed, by a signal: person bob: taken out"
+        told = "the bay was changed by a signal: person bob: taken out"
 
         def tries() -> bool:
             self.brokers[0].process.send_signal(signal.SIGHUP)

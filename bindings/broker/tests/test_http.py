@@ -109,7 +109,7 @@ class Sessions(OnHttp):
         with lab.hold("scope"):
             status, told = one.asks("scope", by="ben")
             self.assertEqual((status, told["state"], told["station"], told["instruments"]), (202, "waiting", "guest-1", ["scope"]))
-            self.assertIn("scope is held by board for", told["text"])
+            self.assertIn("scope has been held by board for", told["text"])
             self.assertEqual([(it["instrument"], it["station"], it["holds"]) for it in told["waits_for"]], [("scope", "board", True)])
             self.told((409, "NotHeld", "the session waits"), one.of(told["ticket"], "/notes", "POST", {"text": "early"}))
             began = time.monotonic()
@@ -124,7 +124,7 @@ class Sessions(OnHttp):
         thread.join(LIMIT)
         self.assertLess(time.monotonic() - began, SOON)
         self.assertEqual((answers[0][0], answers[0][1]["state"]), (200, "holding"))
-        with self.assertRaisesRegex(labrun_broker.TimeoutError, r"scope is held by guest-1 for .* \(ben\)"):
+        with self.assertRaisesRegex(labrun_broker.TimeoutError, r"scope has been held by guest-1 for .* \(ben\)"):
             lab.hold("scope", timeout=0.1).acquire()
 
     def test_choices(self) -> None:
@@ -140,9 +140,9 @@ class Sessions(OnHttp):
         began = time.monotonic()
         answer = one.asks("scope", timeout=0.4, ticket="t" * 20, wait=LIMIT)
         self.assertTrue(0.4 <= time.monotonic() - began < SOON)
-        self.told((409, "TimeoutError", "scope is held by board for"), answer)
+        self.told((409, "TimeoutError", "scope has been held by board for"), answer)
         self.assertEqual(one.of("t" * 20), answer)
-        self.told((409, "TimeoutError", "was refused, because it doesn't wait (-n, or a timeout of 0): scope is held by board for"), one.asks("scope", timeout=0, wait=LIMIT))
+        self.told((409, "TimeoutError", "was refused, because it doesn't wait (-n, or a timeout of 0): scope has been held by board for"), one.asks("scope", timeout=0, wait=LIMIT))
 
     def test_one_that_waits_gives_up(self) -> None:
         _, one = self.http()

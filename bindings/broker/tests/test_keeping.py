@@ -125,7 +125,7 @@ class Sessions(OnKeeping):
             await keeping.let_go(await self.holds(keeping, "load-2"), self.owner)
         last = await self.asks(keeping, "load-2")
         text = how(keeping, "guest-3")["waits_for"][0]["text"]
-        self.assertRegex(text, r"^load-2 is kept for guest-2 until it holds, since 2 others went before it and it waits for load-1, held by guest-1 for \d+\.\d s$")
+        self.assertRegex(text, r"^load-2 is kept for guest-2 until it holds, since 2 that asked later went before it and it waits for load-1, held by guest-1 for \d+\.\d s$")
         await keeping.let_go(holds, self.owner)
         for one in (board, last):
             await keeping.let_go(await one, self.owner)
@@ -183,13 +183,13 @@ class Sessions(OnKeeping):
     def cost_of_a_line(self, keeping: Keeping) -> float:
         """What whoever waits is told."""
         session, begun = next(it for it in keeping.by_number.values() if it.state == "waiting"), time.thread_time()
-        self.assertIn("is held by", Standings(keeping).for_whom(session)[1])
+        self.assertIn("has been held by", Standings(keeping).for_whom(session)[1])
         return time.thread_time() - begun
 
     async def test_timeout(self) -> None:
         keeping = await self.keeping()
         await self.holds(keeping, "scope", station="board")
-        with self.assertRaisesRegex(labrun.TimeoutError, r"scope is held by board for \d+\.\d s"):
+        with self.assertRaisesRegex(labrun.TimeoutError, r"scope has been held by board for \d+\.\d s"):
             await self.holds(keeping, "scope", station="radio", timeout=0.05)
         self.assertEqual(whats(keeping, "radio"), ["asked", "gave_up"])
         self.assertEqual(how(keeping, "radio")["state"], "idle")
@@ -198,10 +198,10 @@ class Sessions(OnKeeping):
         """It is told so, and never that its time was over; and who keeps it, and since when."""
         keeping = await self.keeping()
         await self.holds(keeping, "scope", station="board", by="ann@bench-3 4711 sh")
-        told = r"of radio was refused, because it doesn't wait \(-n, or a timeout of 0\): scope is held by board for \d+\.\d s \(ann@bench-3 4711 sh\)$"
+        told = r"of radio was refused, because it doesn't wait \(-n, or a timeout of 0\): scope has been held by board for \d+\.\d s \(ann@bench-3 4711 sh\)$"
         with self.assertRaisesRegex(labrun.TimeoutError, told):
             await self.holds(keeping, "scope", station="radio", timeout=0)
-        with self.assertRaisesRegex(labrun.TimeoutError, "of radio was given up when its time was over: scope is held by board"):
+        with self.assertRaisesRegex(labrun.TimeoutError, "of radio was given up when its time was over: scope has been held by board"):
             await self.holds(keeping, "scope", station="radio", timeout=0.001)
 
     async def test_who_is_cancelled_leaves_the_line(self) -> None:
@@ -240,6 +240,12 @@ class Sessions(OnKeeping):
         self.assertEqual([(it["station"], it["instruments"]) for it in keeping.status()["in_line"]], [("", ["load-5"]), ("", ["load-6"])])
         with self.assertRaisesRegex(TimedOut, "all 4 places for guests are taken"):
             await self.holds(keeping, "load-7", timeout=0.02)
+        # (the one to be seen to stands first, however many hold)
+        last = next(it for it in keeping.by_number.values() if it.instruments == ("load-4",))
+        keeping.gone(last, self.owner)
+        told = rf"all 4 places for guests are taken: {last.name} by somebody \(gone for \d\.\d s: see to load-4, and then run labrun-broker release {last.name} --session {last.number}\), "
+        with self.assertRaisesRegex(TimedOut, told):
+            await self.holds(keeping, "load-7", timeout=0.02)
         await keeping.let_go(first, self.owner)
         self.assertEqual(((await fifth).state, sixth.done()), ("holding", False))
         await keeping.let_go(await fifth, self.owner)
@@ -266,7 +272,7 @@ class Sessions(OnKeeping):
     async def test_a_station_is_in_one_session(self) -> None:
         keeping = await self.keeping()
         seat = await self.holds(keeping, "supply", station="board", by="ann")
-        with self.assertRaisesRegex(TimedOut, "board is in a session of ann, and is in one at a time"):
+        with self.assertRaisesRegex(TimedOut, r"board has been in a session for \d\.\d s \(ann\), and a station is in one at a time"):
             await self.holds(keeping, "scope", station="board", timeout=0.02)
         waits = await self.asks(keeping, "scope", station="board")
         await keeping.let_go(seat, self.owner)
@@ -291,6 +297,15 @@ class Sessions(OnKeeping):
         await self.holds(keeping, "load-1")
         seat = await self.holds(keeping, any_of=(("load-1",), ("load-2",)))
         self.assertEqual(seat.instruments, ("load-2",))
+
+    async def test_one_of_many(self) -> None:
+        """Who writes a name wrong in a large bay isn't told all 60."""
+        names = [f"load-{at}" for at in range(1, 61)]
+        keeping = await self.keeping(f"instruments = {json.dumps(names)}\n[guests]\ncount = 4\n")
+        with self.assertRaises(NoInstrument) as caught:
+            await keeping.hold(Wish(("lod-7",)), self.owner)
+        told = "lod-7 is no instrument of this bay: there are load-1, load-2, load-3, load-4, load-5, load-6, load-7, load-8 and 52 more (did you mean load-7?)"
+        self.assertEqual(str(caught.exception), told)
 
     async def test_refused(self) -> None:
         keeping = await self.keeping()
@@ -490,7 +505,7 @@ class Gone(OnKeeping):
         keeping = await self.keeping()
         await self.holds(keeping, "scope", "load-1", station="", by="ben@bench-1 7 sh")
         waits = [await self.asks(keeping, "scope", station="radio", by="ann@bench-3 4711 sh")]
-        why = r"radio holds nothing: it waits for scope \(ann@bench-3 4711 sh\): scope is held by guest-1 for \d+\.\d s \(ben@bench-1 7 sh\)"
+        why = r"radio holds nothing: it waits for scope \(ann@bench-3 4711 sh\): scope has been held by guest-1 for \d+\.\d s \(ben@bench-1 7 sh\)"
         ends = r"\. To end that, end its client, as by Ctrl-C there: it leaves the line$"
         with self.assertRaisesRegex(labrun.NotHeld, why + ends):
             await keeping.release("radio", "eve")
@@ -498,7 +513,7 @@ class Gone(OnKeeping):
         with self.assertRaisesRegex(labrun.NotHeld, why + r"; 1 more waits as radio" + ends):
             await keeping.release("radio", "eve")
         waits.append(await self.asks(keeping, any_of=(("scope",), ("load-1",))))
-        with self.assertRaisesRegex(labrun.NotHeld, r"guest-2 holds nothing: it waits for scope load-1: scope is held by guest-1 for .*, load-1 is held by guest-1 for "):
+        with self.assertRaisesRegex(labrun.NotHeld, r"guest-2 holds nothing: it waits for scope load-1: scope has been held by guest-1 for .*, load-1 has been held by guest-1 for "):
             await keeping.release("guest-2", "eve")
         self.assertEqual([it.done() for it in waits], [False] * 3)
         for it in waits:

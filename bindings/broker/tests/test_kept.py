@@ -71,9 +71,9 @@ class Sessions(OnFolder):
         for session in (radio, load, both):
             keeping.gone(session, owner)
         texts = [Standings(keeping).why(it) for it in keeping.by_number.values() if it.state == "waiting"]
-        self.assertRegex(texts[0], r"gone for \d\.\d s: it is released after 0\.2 s\)$")
-        self.assertRegex(texts[1], r"it is released after 0\.2 s\)$")
-        self.assertRegex(texts[2], rf"see to it, and then run labrun-broker release {both.name} --session {both.number}\)$")
+        self.assertRegex(texts[0], r"gone for \d\.\d s: its session is released once that is 0\.2 s\)$")
+        self.assertRegex(texts[1], r"its session is released once that is 0\.2 s\)$")
+        self.assertRegex(texts[2], rf"see to load-2, supply, and then run labrun-broker release {both.name} --session {both.number}\)$")
         self.assertEqual([it.instruments for it in await asyncio.gather(*waits[:2])], [("scope",), ("load-1",)])
         await asyncio.sleep(0.4)
         self.assertEqual((both.state, waits[2].done()), ("gone", False))
@@ -121,7 +121,7 @@ class Sessions(OnFolder):
                 first = await keeping.hold(Wish(("scope",), station="radio", ticket=TICKET), owner)
                 was = first.is_kept
                 new, old = ("release", "what it is without a line") if was else ("keep", "what it is without a line")
-                self.assertEqual(await apply(keeping, after, "eve", False), [f"instrument_gone.scope (for who comes to hold from now on): {new}, and not {old}"])
+                self.assertEqual(await apply(keeping, after, "eve", False), [f"instrument_gone.scope (for whoever comes to hold from now on): {new}, instead of {old}"])
                 keeping.gone(first, owner)
                 await asyncio.sleep(0.4)
                 self.assertEqual((first.state, was), ("gone" if was else "over", was))

@@ -104,7 +104,7 @@ class Held(OnBroker):
         self.addCleanup(lab.close)
         self.assertEqual(station(lab, "guest-1")["by"], "bob: night")
         lab.apply(WITHOUT_BOB)
-        self.assertIn("this is nobody's token, or not any more; operators: ana; the command is ended", self.ends(one, 76))
+        self.assertIn("this is nobody's token, or not any more; operators: ana; the command is being ended", self.ends(one, 76))
         self.assertEqual((os.path.exists(f"{broker.folder}/ended"), station(lab, "guest-1")["state"]), (True, "gone"))
 
     def test_a_file_that_cant_be_read(self) -> None:
@@ -148,9 +148,9 @@ class Held(OnBroker):
             (["scope", "--timeout", "soon", "--", "true"], 2, "--timeout: this is no number of seconds, 0 or more and below 1000000000: soon"),
             (["scope", "--timeout", "-1", "--broker", "unix:/nowhere/bay.sock", "--", "true"], 2, "0 or more and below 1000000000: -1"),
             (["scope", "--tiemout", "1", "--", "true"], 2, "no such option: --tiemout"),
-            (["supply", "-n", "--", "true"], 75, "refused, because it doesn't wait (-n, or a timeout of 0): supply is held by board for"),
+            (["supply", "-n", "--", "true"], 75, "refused, because it doesn't wait (-n, or a timeout of 0): supply has been held by board for"),
             (["supply", "--timeout=0.5", "--", "true"], 75, r"(b\u202en)"),
-            (["supply", "--timeout=0.5", "--quiet", "--", "true"], 75, "given up when its time was over: supply is held by board for"),
+            (["supply", "--timeout=0.5", "--quiet", "--", "true"], 75, "given up when its time was over: supply has been held by board for"),
             (["supply", "--station", "radio", "--", "true"], 77, "radio may not use supply"),
             (["scope", "--station", "bord", "--", "true"], 1, "bord is no station"),
             (["scope", "--broker", "bench-1:7443", "--", "true"], 2, "a broker of this machine is wanted"),
@@ -187,7 +187,7 @@ class Held(OnBroker):
         waits = subprocess.Popen([self.program, "scope", "--", "true"], env=self.environment(broker), stderr=subprocess.PIPE, text=True)
         self.addCleanup(waits.kill)
         assert waits.stderr is not None
-        self.assertRegex(waits.stderr.readline(), r"^labrun-hold: waits: scope is held by board for .* \(ben\)$")
+        self.assertRegex(waits.stderr.readline(), r"^labrun-hold: waits: scope has been held by board for .* \(ben\)$")
         one.lets_go(ticket)
         self.assertEqual((waits.wait(LIMIT), waits.stderr.read()), (0, ""))
         waits.stderr.close()
@@ -199,10 +199,10 @@ class Held(OnBroker):
         self.addCleanup(waits.communicate)
         self.addCleanup(waits.kill)
         assert waits.stderr is not None
-        self.assertRegex(waits.stderr.readline(), r"^labrun-hold: waits: scope is held by board for .*ann")
+        self.assertRegex(waits.stderr.readline(), r"^labrun-hold: waits: scope has been held by board for .*ann")
         dies.kill()
         killed = time.monotonic()
-        self.assertRegex(waits.stderr.readline(), r"gone for .*: see to it, and then run labrun-broker release board --session 1\)$")
+        self.assertRegex(waits.stderr.readline(), r"gone for .*: see to scope, and then run labrun-broker release board --session 1\)$")
         # (and not just because it says all again each minute)
         self.assertLess(time.monotonic() - killed, 40)
 
@@ -291,7 +291,7 @@ class Held(OnBroker):
         broker, one = self.at()
         hold = self.started(broker, "scope", "--", "sh", "-c", MINDS)
         one.ask("POST", "/v1/release", {"station": "guest-1", "by": "ben"})
-        self.assertIn("the session with scope was taken away by ben; the command is ended", self.ends(hold, 76))
+        self.assertIn("the session with scope was taken away by ben; the command is being ended", self.ends(hold, 76))
         self.assertTrue(os.path.exists(f"{broker.folder}/ended"))
 
     def test_it_is_killed(self) -> None:
@@ -365,7 +365,7 @@ class Held(OnBroker):
             self.addCleanup(broker.process.send_signal, signal.SIGCONT)
             with self.waits(broker, "load-1", "--", "true") as asks:
                 assert asks.stderr is not None
-                text = f"labrun-hold: there is no word from the broker at {broker.address}.http; labrun-hold tries on for a while, and Ctrl-C ends that\n"
+                text = f"labrun-hold: there is no word from the broker at {broker.address}.http; labrun-hold keeps trying for a while, and Ctrl-C ends that\n"
                 self.assertEqual((asks.stderr.readline(), waits.stderr.readline()), (text, text))
                 with open(f"{broker.folder}/over", "w", encoding="ascii"):
                     pass

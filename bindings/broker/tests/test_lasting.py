@@ -65,7 +65,7 @@ class Limits(OnFolder):
         await asyncio.sleep(0.5)
         self.assertTrue(held.holds and quiet.holds, "nobody waits")
         [(text, seconds)] = owner.warnings
-        self.assertEqual((text, silent.warnings), ("board may hold scope for 0.4 s, which is over in 0.0 s: then whoever waits for it gets it", []))
+        self.assertEqual((text, silent.warnings), ("board may hold scope for 0.4 s, which is over in 0.0 s: after that its session is taken away as soon as somebody waits for what it has", []))
         self.assertTrue(0 <= seconds <= 0.04 + 0.001)
         new = await keeping.hold(Wish(("scope",), timeout=LIMIT), other)
         why = "by the broker, because it held for longer than its limit of 0.4 s, and somebody waits for what it had"
@@ -138,7 +138,7 @@ class Clients(OnBroker):
         held.on_taken = taken.append
         held.acquire()
         self.assertTrue(is_warned.wait(LIMIT))
-        self.assertRegex(warnings[0], "^board may hold scope for 1 s, which is over in 0.[01] s: then whoever waits for it gets it$")
+        self.assertRegex(warnings[0], "^board may hold scope for 1 s, which is over in 0.[01] s: after that its session is taken away as soon as somebody waits for what it has$")
         with other.hold("scope", timeout=LIMIT):
             until(lambda: taken, "it is told")
             with self.assertRaisesRegex(labrun.TakenAway, "longer than its limit of 1 s"):
@@ -161,7 +161,7 @@ class Clients(OnBroker):
                 _, said = holds.communicate(timeout=LIMIT)
                 self.assertEqual(holds.returncode, 76)
                 self.assertRegex(said, r"labrun-broker: guest-1 may hold scope for 12 s, which is over in [01].[0-9] s")
-                self.assertRegex(said, r"taken away by the broker, because it held for longer than its limit of 12 s, .*; the command is ended")
+                self.assertRegex(said, r"taken away by the broker, because it held for longer than its limit of 12 s, .*; the command is being ended")
 
 
 if __name__ == "__main__":

@@ -199,7 +199,7 @@ class AfterASession(OnScript):
                 with self.assertRaisesRegex(OutOfOrder, f"^scope has been out of order for .*: it wasn't made safe after session 1 of board: .*{why}.* .says the broker.$"):
                     await asyncio.wait_for(waits, LIMIT)
                 self.assertEqual(((await chooses).instruments, load.instruments), (("load-1",), ("load-2",)))
-                self.assertRegex(self.said.pop(), f"^scope is out of order, says the broker: it wasn't made safe after .*{why}")
+                self.assertRegex(self.said.pop(), f"^scope is out of order: it wasn't made safe after .*{why}.* .says the broker.$")
                 self.assertRegex(how(keeping, "scope")["out"], why)
                 with self.assertRaisesRegex(OutOfOrder, "it wasn't made safe"):
                     await keeping.hold(Wish(("scope",)), self.owner)
@@ -291,9 +291,9 @@ class WhenTheBayChanges(OnScript):
         self.assertEqual(
             told,
             [
-                f"on_release.scope (for who asks from now on): false, and not {self.at}/safe 5",
-                "on_release.supply (for who asks from now on): true, and not no command",
-                "on_release_limit: 5 s, and not 30 s",
+                f"on_release.scope (for whoever asks from now on): false, instead of {self.at}/safe 5",
+                "on_release.supply (for whoever asks from now on): true, instead of no command",
+                "on_release_limit: 5 s, instead of 30 s",
             ],
         )
         waits = await self.asks(keeping, "scope")
@@ -476,7 +476,7 @@ class Brokers(OnBroker):
         self.assertEqual(done.returncode, 1)
         self.assertRegex(done.stderr, why)
         broker.kill()
-        self.assertRegex(broker.said, rf"labrun-broker: scope is out of order, says the broker: {why}\n")
+        self.assertRegex(broker.said, rf"labrun-broker: scope is out of order: {why} \(says the broker\)\n")
         broker.begin()
         self.assertRegex(broker.ran("status").stdout, why)
         self.assertEqual(broker.ran("enable", "scope").returncode, 0)

@@ -34,7 +34,7 @@ class Outages(OnFolder):
             await keeping.hold(Wish(("scope", "load-1"), timeout=60), owner)
         other = await keeping.hold(Wish(any_of=(("load-1",), ("load-2",))), owner)
         self.assertEqual(other.instruments, ("load-2",))
-        with self.assertRaisesRegex(TimedOut, "load-2 is held by guest-1"):
+        with self.assertRaisesRegex(TimedOut, "load-2 has been held by guest-1"):
             await keeping.hold(Wish(any_of=(("load-1",), ("load-2",)), timeout=0.05), owner)
         self.assertEqual(how(keeping, "load-1")["out"], "calibration until Friday")
         self.assertEqual((how(keeping, "load-1")["out_by"], how(keeping, "load-2")["out"]), ("ann", None))
@@ -115,7 +115,7 @@ class Commands(OnBroker):
         with self.assertRaisesRegex(NoInstrument, "did you mean scope"):
             lab.disable("scop")
         self.assertEqual(broker.end(), 0)
-        self.assertRegex(broker.said, "scope is out of order, says .*: calibration until Friday\n.*scope is in order again, says")
+        self.assertRegex(broker.said, "scope is out of order: calibration until Friday .says .*.\n.*scope is in order again .says")
 
     def test_what_cant_be_written_isnt_so(self) -> None:
         broker = self.broker(BAY, "--state", "FOLDER/state")

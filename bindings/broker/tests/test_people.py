@@ -124,10 +124,10 @@ jon = {{unix = "ana", may = ["load-9*", "tag:small", "2 of load-*"]}}\nkim = {{u
     def test_another_file(self) -> None:
         """What changes is told, and no hash."""
         before, after = bay_of(PEOPLE).people, bay_of(WITHOUT_HIS_OLD.replace("dan = ", "fay = ").replace('"dan"', '"fay"').replace('["ana"]', '["bob"]')).people
-        self.assertEqual(list(people.changes(before, after)), ["person fay: new", "person bob: a token is taken out", "person dan: taken out", "operators: bob, and not ana"])
+        self.assertEqual(list(people.changes(before, after)), ["person fay: new", "person bob: a token is taken out", "person dan: taken out", "operators: bob, instead of ana"])
         after = bay_of(PEOPLE.replace('may = ["load-*"]', f'unix = "ben", may = ["scope"]').replace(hash_of(BOB), hash_of(EVE))).people
-        told = ["person bob: a token is taken out", "person bob: a token is new", "person bob: is ben at the socket, and not nobody"]
-        self.assertEqual(list(people.changes(before, after)), [*told, "person bob: may ask for scope supply, and not load-* supply (for who asks from now on)"])
+        told = ["person bob: a token is taken out", "person bob: a token is new", "person bob: is ben at the socket, instead of nobody"]
+        self.assertEqual(list(people.changes(before, after)), [*told, "person bob: may ask for scope supply, instead of load-* supply (for whoever asks from now on)"])
 
 
 class Rights(OnFolder):
@@ -150,7 +150,7 @@ class Rights(OnFolder):
                 self.assertEqual(str(caught.exception), why)
         self.assertEqual((await keeping.hold(Wish(("tag:precise",), person="cat", by="cat"), owner)).instruments, ("scope",))
         # (of its words only what is for cat)
-        with self.assertRaisesRegex(labrun_broker.TimeoutError, "load-1 is held by guest-1 for .* \\(bob: bob@bench-3 4711 sh\\)"):
+        with self.assertRaisesRegex(labrun_broker.TimeoutError, "load-1 has been held by guest-1 for .* \\(bob: bob@bench-3 4711 sh\\)"):
             await keeping.hold(Wish(("load-*",), person="cat", timeout=0.05), owner)
         self.assertEqual((how(keeping, "guest-2")["by"], (await keeping.hold(Wish(("load-2",), person="ana"), owner)).by), ("cat", "ana"))
 
@@ -322,7 +322,7 @@ class Brokers(OnPeople):
         self.assertIn("the broker's own", str(caught.exception.details()))
         self.assertEqual((os.stat(f"{broker.folder}/bay.sock").st_mode & 0o777, os.stat(f"{broker.folder}/bay.sock.in").st_mode & 0o777), (0o660, 0o600))
         self.assertEqual(broker.end(), 0)
-        self.assertIn("labrun-broker: a client of the Unix socket isn't let in: this is nobody's token, or not any more; operators: ana\n", broker.said)
+        self.assertIn("labrun-broker: a client of the Unix socket isn't let in, and is told: this is nobody's token, or not any more; operators: ana\n", broker.said)
         self.assertFalse([it for it in os.listdir(broker.folder) if ".sock" in it])
 
     def test_who_has_gone_already(self) -> None:
@@ -384,7 +384,7 @@ class Brokers(OnPeople):
         row = station(ana, held.station)
         self.assertEqual((row["state"], row["by"], row["instruments"]), ("gone", "bob: tester", ["load-1"]))
         # (who waits for it is told who may end it)
-        see = f"see to it, and then run labrun-broker release {held.station} --session {held.number}; operators: ana"
+        see = f"see to load-1, and then run labrun-broker release {held.station} --session {held.number}; operators: ana"
         with self.assertRaisesRegex(labrun.TimeoutError, see):
             ana.hold("load-1", timeout=0.1).acquire()
         self.assertFalse([it for it in ana.status()["stations"] if it["state"] == "waiting"])

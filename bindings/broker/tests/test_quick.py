@@ -68,7 +68,7 @@ class Quick(OnBroker):
         with subprocess.Popen(words, env={**os.environ, "LABRUN_BROKER": broker.address}, stderr=subprocess.PIPE, stdout=subprocess.PIPE, text=True) as runs:
             assert runs.stderr is not None
             said = runs.stderr.readline()
-            self.assertEqual(said, f"labrun-broker: there is no word from the broker at {broker.address}; hold tries on for a while, and Ctrl-C ends that\n")
+            self.assertEqual(said, f"labrun-broker: there is no word from the broker at {broker.address}; hold keeps trying for a while, and Ctrl-C ends that\n")
             os.kill(broker.process.pid, signal.SIGCONT)
             out, said = runs.communicate(timeout=LIMIT)
         self.assertEqual((runs.returncode, out, said), (0, "ran\n", ""))

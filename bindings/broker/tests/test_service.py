@@ -84,7 +84,7 @@ class Clients(OnBroker):
         lab = self.lab(self.broker())
         with lab.hold("scope", station="board"):
             for kind in (labrun_broker.TimeoutError, labrun.TimeoutError, TimeoutError):
-                with self.assertRaisesRegex(kind, "scope is held by board for"):
+                with self.assertRaisesRegex(kind, "scope has been held by board for"):
                     lab.hold("scope", timeout=0.05).acquire()
         with self.assertRaisesRegex(labrun.MayNotUse, "radio may not use supply"):
             lab.hold("supply", station="radio").acquire()
@@ -172,7 +172,7 @@ class Clients(OnBroker):
         self.assertEqual(one.stdout.readline(), "guest-1\n")
         one.kill()
         until(lambda: station(lab, "guest-1")["state"] == "gone")
-        with self.assertRaisesRegex(labrun.TimeoutError, "supply is held by guest-1"):
+        with self.assertRaisesRegex(labrun.TimeoutError, "supply has been held by guest-1"):
             lab.hold("supply", timeout=0.5).acquire()
         self.assertEqual(lab.release("guest-1"), ("scope", "supply"))
         with lab.hold("supply", timeout=SOON):
@@ -192,10 +192,10 @@ class Clients(OnBroker):
         thread.start()
         until(lambda: len(told) >= 2, "it is told again, though nothing has changed")
         for line in told:
-            self.assertRegex(line, r"^scope is held by guest-1 for \d+(\.\d)? s \(a program\)$")
+            self.assertRegex(line, r"^scope has been held by guest-1 for \d+(\.\d)? s \(a program\)$")
         one.kill()
         until(lambda: len(told) > 2 and "gone" in told[-1])
-        see = f"see to it, and then run labrun-broker release guest-1 --session {station(lab, 'guest-1')['session']}"
+        see = f"see to scope, and then run labrun-broker release guest-1 --session {station(lab, 'guest-1')['session']}"
         self.assertRegex(told[-1], rf"guest-1 for .* \(a program, gone for \d+(\.\d)? s: {see}\)$")
         (shown,) = station(lab, "guest-2")["waits_for"]
         self.assertIn(see, shown["text"])
@@ -255,7 +255,7 @@ class Clients(OnBroker):
         begun, told = time.monotonic(), list[str]()
         with lab.hold("scope", timeout=LIMIT, waits=told.append):
             self.assertGreater(time.monotonic() - begun, 2)
-        self.assertRegex(told[-1], r"^scope is held by guest-1 for .* \(a program, gone for \d\.\d s: it is released after 4 s\)$")
+        self.assertRegex(told[-1], r"^scope has been held by guest-1 for .* \(a program, gone for \d\.\d s: its session is released once that is 4 s\)$")
         broker.end()
         line = "labrun-broker: session 1 of guest-1 with scope was taken away by the broker, because its client was gone for 4 s\n"
         self.assertEqual(broker.said, line)
@@ -464,8 +464,8 @@ class WhoIsLetIn(OnBroker):
         broker.end()
         # (of each kind a line a minute at most)
         first, second = (line for line in broker.said.splitlines() if line.startswith("labrun-broker: "))
-        self.assertRegex(first, r"^labrun-broker: ipv[46]:\S+ isn't let in: this broker asks for its token: give its file by --token-file$")
-        self.assertRegex(second, r"^labrun-broker: ipv[46]:\S+ isn't let in: this isn't its token$")
+        self.assertRegex(first, r"^labrun-broker: (127\.0\.0\.1|\[::1\]):\d+ isn't let in, and is told: this broker asks for its token: give its file by --token-file$")
+        self.assertRegex(second, r"^labrun-broker: (127\.0\.0\.1|\[::1\]):\d+ isn't let in, and is told: this isn't its token$")
 
 
 class Floods(OnBroker):
@@ -629,7 +629,7 @@ class Floods(OnBroker):
             one.release()
         self.goes_on(lab)
         broker.end()
-        self.assertEqual(broker.said, "labrun-broker: a client of the Unix socket isn't let in: 3 clients are here, and no more may come\n")
+        self.assertEqual(broker.said, "labrun-broker: a client of the Unix socket isn't let in, and is told: 3 clients are here, and no more may come\n")
 
     def test_a_flood_of_notes(self) -> None:
         """One client's notes come at its pace, and another goes on meanwhile."""
@@ -679,7 +679,7 @@ class Floods(OnBroker):
             now, seldom = 100.0, Seldom(60)
             self.assertEqual([seldom.text(kind, kind) for kind in ("a", "a", "b", "a")], ["a", None, "b", None])
             now = 161.0
-            self.assertEqual([seldom.text(kind, kind) for kind in ("a", "a", "b")], ["a (and 2 before it)", None, "b"])
+            self.assertEqual([seldom.text(kind, kind) for kind in ("a", "a", "b")], ["a (2 more since the last such line)", None, "b"])
 
     def test_pace(self) -> None:
         """Ten at once, and from there on ten a second."""

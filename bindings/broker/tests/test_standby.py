@@ -97,7 +97,7 @@ class Standing(OnEtcd):
         other.start()
         time.sleep(0.3)
         self.assertEqual(self.brokers[0].end(signal.SIGKILL), -signal.SIGKILL)
-        self.brokers[1].says("4 instruments, at ")
+        self.brokers[1].says("labrun-broker: leads: bay north: 4 instruments, at ")
         until(lambda: station(lab, "guest-1")["state"] == "holding", "guest-1 is back")
         mine.note("12.5 V")
         self.assertEqual(held, [])
@@ -222,7 +222,15 @@ class Lists(unittest.TestCase):
                 with self.assertRaisesRegex(Unreachable, "Connection refused"):
                     lab.status()
         self.assertTrue(1.0 < time.monotonic() - begun < SOON)
-        self.assertRegex(said[0], "^no broker of 127.0.0.1:.* answers; it is tried again for 1 s$")
+        self.assertRegex(said[0], "^none of the brokers 127.0.0.1:.* answers; trying again for 1 s$")
+
+    def test_none_answers_in_time(self) -> None:
+        """Who wants to wait for a shorter time isn't told of a longer one."""
+        said = list[str]()
+        with labrun_broker.connect(f"127.0.0.1:{free_port()},127.0.0.1:{free_port()}") as lab:
+            with mock.patch.object(finding, "FAILOVER", 30.0), self.assertRaises(Unreachable):
+                lab.hold("scope", waits=said.append, timeout=2.0).acquire()
+        self.assertRegex(said[0], "^none of the brokers 127.0.0.1:.* answers; trying again for [0-2] s$")
 
 
 class Faults(unittest.TestCase):

@@ -45,7 +45,7 @@ class State(OnBroker):
         other = self.lab(broker)
         until(lambda: station(other, "board")["state"] == "holding", "it has come back")
         self.assertEqual((station(other, "board")["note"], station(other, "board")["by"]), ("12.5 V", "tester"))
-        with self.assertRaisesRegex(labrun.TimeoutError, "supply is held by board"):
+        with self.assertRaisesRegex(labrun.TimeoutError, "supply has been held by board"):
             other.hold("supply", timeout=0.1).acquire()
         order.append("board")
         held.note("13 V")
@@ -120,7 +120,7 @@ class State(OnBroker):
         broker.begin()
         with self.lab(broker) as again:
             self.assertEqual(station(again, "board")["state"], "gone")
-            with self.assertRaisesRegex(labrun.TimeoutError, "scope is held by board"):
+            with self.assertRaisesRegex(labrun.TimeoutError, "scope has been held by board"):
                 again.hold("scope", timeout=0.1).acquire()
             self.assertEqual(again.release("board"), ("scope",))
             with again.hold("scope", timeout=LIMIT):

@@ -124,7 +124,7 @@ class Rights(OnFolder):
     def test_the_file(self) -> None:
         before, after = bay_of(PEOPLE).people, bay_of(f"{FREE}\n{PEOPLE}").people
         self.assertEqual((before.urgent, after.urgent), ((), ("bob",)))
-        self.assertEqual(list(people.changes(before, after)), ["urgent: bob, and not nobody"])
+        self.assertEqual(list(people.changes(before, after)), ["urgent: bob, instead of nobody"])
         self.assertIn("urgent", OF_THE_LAB)
         with self.assertRaisesRegex(ValueError, "urgent: zoe is none of the people"):
             bay_of(f'urgent = ["zoe"]\n{PEOPLE}')

@@ -303,7 +303,7 @@ class Hanging(OnFolder):
                 await keeping.hold(Wish(("supply",), timeout=0), owner)
             given_up = time.time()
             self.assertLess(given_up - began, SOON)
-            self.assertEqual(Standings(keeping).why(asks[0]), "it is its turn, and it holds once that is on the disk (the disk doesn't answer)")
+            self.assertEqual(Standings(keeping).why(asks[0]), "it is this session's turn, and it holds once that is on the disk (the disk doesn't answer)")
             status = keeping.status()
             self.assertEqual(status["disk"], "the disk doesn't answer")
             # (since when it is at fault, and not when that was told)
@@ -346,7 +346,7 @@ class Since(OnFolder):
             keeping = await self.keeping(folder)
         self.assertAlmostEqual(how(keeping, "board")["gone_since"], since, delta=0.6)
         self.assertGreater(how(keeping, "guest-1")["gone_since"], since + 0.8)
-        with self.assertRaisesRegex(labrun.TimeoutError, r"gone for ([2-9]\.\d|\d\d+(\.\d)?) s: see to it"):
+        with self.assertRaisesRegex(labrun.TimeoutError, r"gone for ([2-9]\.\d|\d\d+(\.\d)?) s: see to "):
             await keeping.hold(Wish(("scope",), timeout=0), owner)
 
     async def test_spans_after_a_restart(self) -> None:
@@ -362,7 +362,7 @@ class Since(OnFolder):
         self.assertAlmostEqual(how(keeping, "scope")["since"], since, delta=0.6)
         with self.assertRaises(labrun.TimeoutError) as caught:
             await keeping.hold(Wish(("scope",), timeout=0), owner)
-        told = re.search(r"scope is held by board for ([\d.]+) s \(ann, gone for ([\d.]+) s: see to it", str(caught.exception))
+        told = re.search(r"scope has been held by board for ([\d.]+) s \(ann, gone for ([\d.]+) s: see to ", str(caught.exception))
         assert told is not None
         # (it is gone since the broker began again)
         self.assertGreater(float(told[1]) - float(told[2]), 1.0)
@@ -431,7 +431,7 @@ class FullDisk(OnFolder):
         waits = asyncio.create_task(keeping.hold(Wish(("scope",), station="board"), self.owner, asks.append))
         await asyncio.sleep(1)
         self.assertFalse(waits.done())
-        why = "it is its turn, and it holds once that is on the disk (a write failed (No space left on device))"
+        why = "it is this session's turn, and it holds once that is on the disk (a write failed (No space left on device))"
         self.assertEqual(Standings(keeping).for_whom(asks[0])[:2], ([], why))
         self.breaks("")
         self.assertEqual((await waits).name, "board")
@@ -457,7 +457,7 @@ class FullDisk(OnFolder):
         await keeping.note(await first, self.owner, "5 V")
         self.assertEqual(how(keeping, "board")["state"], "holding")
         _, why, again = Standings(keeping).for_whom(asks[1])
-        self.assertRegex(why, "^scope is held by board for ")
+        self.assertRegex(why, "^scope has been held by board for ")
         self.assertNotEqual(told, again)
 
     async def test_records(self) -> None:

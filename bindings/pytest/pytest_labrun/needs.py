@@ -12,7 +12,7 @@ from dataclasses import dataclass, field
 from typing import Any, Callable, Iterable, Mapping, Optional, Sequence, TypeVar, Union
 
 import pytest
-from labrun.picks import A_NAME, NoSuch, counted, is_name, is_plain, matching
+from labrun.picks import A_NAME, NoSuch, counted, is_name, is_plain, matching, some
 
 MARK, MISSPELT = "instruments", "instrument"
 MOST_WAYS = 1000
@@ -63,7 +63,7 @@ class Wish:
         count, what = counted(word)
         its = self._like(word, what, bay)
         if not 0 < count <= len(its):
-            raise Fault(f"{self.where(word)}: {count} of {what} are wanted; there {'is' if len(its) == 1 else 'are'} {len(its)}: {', '.join(its)}")
+            raise Fault(f"{self.where(word)}: {count} of {what} are wanted; there {'is' if len(its) == 1 else 'are'} {len(its)}: {some(its)}")
         return [its] * count
 
     def _like(self, word: str, what: str, bay: Bay) -> tuple[str, ...]:
@@ -79,7 +79,7 @@ class Wish:
 
 def _unknown(name: str, bay: Iterable[str]) -> str:
     near = difflib.get_close_matches(name, bay, 1)
-    return f"unknown instrument {name!r}: there are {', '.join(bay) or 'none'}" + (f" (did you mean {near[0]!r}?)" if near else "")
+    return f"unknown instrument {name!r}: there are {some(tuple(bay)) or 'none'}" + (f" (did you mean {near[0]!r}?)" if near else "")
 
 
 def read_wish(args: tuple[Any, ...], kwargs: Mapping[str, Any], where: Where) -> Wish:

@@ -137,7 +137,7 @@ def test_one_waits_for_the_other_or_takes_another(server: Server) -> None:
     assert one.hold("test_one", [("load-1",), ("load-2",)], None)[0] == ("load-1",)
     assert other.hold("test_other", [("load-1",), ("load-2",)], None)[0] == ("load-2",)
     other.let_go()
-    with pytest.raises(NotHeld, match=r"^waited 0\.[12] s for load-1: load-1 is held by test_one \(gw0\) for 0\.\d s$"):
+    with pytest.raises(NotHeld, match=r"^waited 0\.[12] s for load-1: load-1 has been held by test_one \(gw0\) for 0\.\d s$"):
         other.hold("test_other", [("load-1",)], 0.1)
     threading.Timer(0.2, one.let_go).start()
     way, waited = other.hold("test_other", [("load-1", "scope")], 10)
@@ -184,7 +184,7 @@ def test_the_child_of_a_fork_holds_nothing(server: Server) -> None:
         os._exit(0)
     assert os.waitstatus_to_exitcode(os.wait()[1]) == 17
     other = desk_of(server, "gw1")
-    with pytest.raises(NotHeld, match="scope is held by test_it"):
+    with pytest.raises(NotHeld, match="scope has been held by test_it"):
         other.hold("test_other", [("scope",)], 0.05)
     # and one that outlives its parent's connection keeps nothing
     child = os.fork()

@@ -5,6 +5,8 @@ from __future__ import annotations
 import builtins
 from typing import TYPE_CHECKING, Optional, Union
 
+from .picks import some
+
 if TYPE_CHECKING:
     from ._held import Held
     from ._keepers import Keeper
@@ -109,7 +111,7 @@ class MayNotUse(LabrunError, ValueError):
     """A station or a guest may not use an instrument: that was settled when the lab was opened."""
 
     def __init__(self, job: str, wrong: str, may: tuple[str, ...]) -> None:
-        super().__init__(f"{job} may not use {wrong}: it may use {', '.join(may) or 'nothing'}")
+        super().__init__(f"{job} may not use {wrong}: it may use {some(may) or 'nothing'}")
         self.job, self.wrong, self.may = job, wrong, may
 
     def __reduce__(self) -> tuple[type[MayNotUse], tuple[str, str, tuple[str, ...]]]:

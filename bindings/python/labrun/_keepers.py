@@ -32,7 +32,7 @@ class Keeper:
         return "" if self.seconds is None else f" for {self.seconds:.{0 if self.seconds >= 10 else 1}f} s"
 
     def __str__(self) -> str:
-        text = f"{self.instrument} is {self._by}"
+        text = f"{self.instrument} {'is' if self.seconds is None else 'has been'} {self._by}"
         one = self.behind
         while one is not None:
             text, one = f"{text}, which waits for {one.instrument}, {one._by}", one.behind

@@ -21,6 +21,7 @@ NAME = re.compile(r"[A-Za-z][A-Za-z0-9._-]{0,63}")
 A_NAME = "at most 64 letters, digits, `-`, `_` and `.`, a letter first"
 MOST_SETS = 100
 MOST_WAYS = 10000  # with those in which an instrument is named twice
+MOST_SHOWN, SHOWN = 16, 8
 TAG = "tag:"
 _SIGNS = frozenset("*?[")
 _COUNTED = re.compile(r"(\d{1,3}) +of +(.+)")
@@ -105,7 +106,7 @@ def counted(word: str) -> tuple[int, str]:
 def _parts(count: int, what: str, names: Sequence[str], tags: Mapping[str, Sequence[str]]) -> list[Names]:
     """So many of these: each way once."""
     its = matching(what, names, tags)
-    there = f"there {'is' if len(its) == 1 else 'are'} {len(its)}: {', '.join(its)}"
+    there = f"there {'is' if len(its) == 1 else 'are'} {len(its)}: {some(its)}"
     if count < 1:
         raise TooFew(f"{count} of {what}: ask for 1 or more; {there}")
     if count > len(its):
@@ -129,7 +130,12 @@ def matching(word: str, names: Sequence[str], tags: Mapping[str, Sequence[str]])
 
 def _unknown(word: str, names: Sequence[str]) -> NoSuch:
     what = f"{word} is none of the instruments: " if is_plain(word) else f"no instrument is like {word}: {'there are ' if names else ''}"
-    return NoSuch(f"{what}{', '.join(names) or 'there are none'}{near(word, names)}")
+    return NoSuch(f"{what}{some(names) or 'there are none'}{near(word, names)}")
+
+
+def some(names: Sequence[str]) -> str:
+    """For a text: all of these, or of many the first ones, and how many more there are."""
+    return ", ".join(names) if len(names) <= MOST_SHOWN else f"{', '.join(names[:SHOWN])} and {len(names) - SHOWN} more"
 
 
 def near(word: str, known: Iterable[str]) -> str:

@@ -53,7 +53,7 @@ class Holding(OnLab):
             # (its place is taken, though the supply is free)
             thread_saw: list[BaseException] = []
             back(self.waits_in_vain(board.hold("supply", timeout=0.01), thread_saw))
-            self.assertRegex(str(thread_saw[0]), r"the place of board is held by session 1 of board for \d\.\d s")
+            self.assertRegex(str(thread_saw[0]), r"the place of board has been held by session 1 of board for \d\.\d s")
             with lab.hold("supply", timeout=0):
                 pass
         with self.assertRaises(ValueError):
@@ -142,7 +142,7 @@ class Holding(OnLab):
         with labrun.Lab(names, stations={f"s{at}": names for at in range(31)}) as lab:
             sessions = [self.held(lab, f"s{at}" if at < 31 else "", names[at]) for at in range(64)]
             self.assertEqual([it.instruments for it in sessions], [(name,) for name in names])
-            self.in_vain(lab.hold(*names, timeout=0), "i63 is held by session 64 of a guest")
+            self.in_vain(lab.hold(*names, timeout=0), "i63 has been held by session 64 of a guest")
             for it in sessions:
                 it.release()
             with lab.hold(*names, timeout=math.inf) as held:
@@ -151,7 +151,7 @@ class Holding(OnLab):
     def test_places(self) -> None:
         lab = self.lab(places=2)
         first, second = self.held(lab, "", "scope"), self.held(lab, "", "supply")
-        self.in_vain(lab.hold("load-1", timeout=0), "a guest's place is held by session 1 of a guest")
+        self.in_vain(lab.hold("load-1", timeout=0), "a guest's place has been held by session 1 of a guest")
         self.held(lab, "host", "load-1").release()
         thread = self.waits(lab.hold("load-1"))
         second.release()
@@ -178,7 +178,7 @@ class Holding(OnLab):
         lab = self.lab()
         with lab.hold("scope", timeout=0), lab.hold("supply", note="calibration") as other:
             begun = time.monotonic()
-            told = r"session 3 of a guest was given up when its time was over: scope is held by session 1 of a guest for \d+\.\d s"
+            told = r"session 3 of a guest was given up when its time was over: scope has been held by session 1 of a guest for \d+\.\d s"
             self.in_vain(lab.hold("scope", timeout=0), told)
             self.assertLess(time.monotonic() - begun, LIMIT / 2)
             late = lab.hold("load-1", "supply", timeout=0.05)

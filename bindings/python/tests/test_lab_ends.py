@@ -260,7 +260,7 @@ class Ends(OnLab):
             lab = labrun.Lab(["x"])
             with lab.hold("x"):
                 if has_timer:
-                    self.in_vain(lab.hold("x", timeout=0.001), "x is held")
+                    self.in_vain(lab.hold("x", timeout=0.001), "x has been held")
             self.assertEqual(len(threads_since(before)), has_timer)
             seen = weakref.ref(lab), weakref.ref(lab._shell)
             del lab

@@ -214,7 +214,7 @@ class ComesBack(OnFile):
             self.assertEqual((it.number, it.station, it.instruments), (1, "board", ("scope",)))
             self.assertEqual((it.resumed, it.state, it.notes), (True, "held", ("one", "two")))
             self.assertEqual([one[:4] for one in lab.sessions()], [(1, "board", ("scope",), True)])
-            self.in_vain(lab.hold("scope", timeout=0), r"scope is held by session 1 of board \(two\)")
+            self.in_vain(lab.hold("scope", timeout=0), r"scope has been held by session 1 of board \(two\)")
             lab.close()
         lab = self.opened()
         (it,) = lab.resumed
@@ -267,7 +267,7 @@ class ComesBack(OnFile):
             with mock.patch.object(time, "time_ns", lambda: real() + shift * 10**9):
                 lab = self.opened()
                 begun = time.monotonic()
-                self.in_vain(lab.hold("scope", timeout=0.05), r"scope is held by session 1 of a guest for \d")
+                self.in_vain(lab.hold("scope", timeout=0.05), r"scope has been held by session 1 of a guest for \d")
                 self.assertGreaterEqual(time.monotonic() - begun, 0.05)
                 if not shift:
                     self.assertAlmostEqual(lab.sessions()[0].since, before, delta=0.1)

@@ -43,7 +43,7 @@ class Tasks(OnLab):
                 self.assertEqual(held.notes, ("ripple", "3.3 V"))
                 task = asyncio.ensure_future(self.once(lab, "scope"))
                 await self.waiting(lab)
-                with self.assertRaisesRegex(labrun.TimeoutError, r"scope is held by session \d of a guest \(3.3 V\)"):
+                with self.assertRaisesRegex(labrun.TimeoutError, r"scope has been held by session \d of a guest \(3.3 V\)"):
                     await self.once(lab, "scope", timeout=0.01)
                 self.assertFalse(task.done())
             self.assertEqual(await task, ("scope",))

@@ -51,6 +51,20 @@ class Sets(unittest.TestCase):
                 sets_of(words, NAMES, TAGS)
             self.assertEqual(str(told.exception), why)
 
+    def test_many(self) -> None:
+        """Up to sixteen are all named; of more the first eight, so that what was meant can be seen."""
+        most = [f"load-{at}" for at in range(1, 18)]
+        first = ", ".join(most[:8])
+        for count, told in ((16, ", ".join(most[:16])), (17, f"{first} and 9 more")):
+            for words, why in (
+                (["lod-3"], f"lod-3 is none of the instruments: {told} (did you mean load-3?)"),
+                (["q*"], f"no instrument is like q*: there are {told}"),
+                (["99 of load-*"], f"99 of load-* are wanted; there are {count}: {told}"),
+            ):
+                with self.subTest(words, count=count), self.assertRaises(ValueError) as caught:
+                    sets_of(words, most[:count], {})
+                self.assertEqual(str(caught.exception), why)
+
     def test_most(self) -> None:
         """14 of which 2 are wanted have 91 ways, 15 have 105."""
         names = [f"load-{at}" for at in range(15)]

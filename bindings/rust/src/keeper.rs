@@ -8,7 +8,7 @@ use std::time::Duration;
 /// let lab = labrun::Lab::new(["scope"])?;
 /// let held = lab.hold(&["scope"]).begin()?;
 /// let Err(labrun::Error::TimedOut(keepers)) = lab.hold(&["scope"]).timeout(std::time::Duration::ZERO).begin() else { panic!() };
-/// assert!(keepers[0].holds && keepers[0].to_string().starts_with("scope is held by guest 1 for "));
+/// assert!(keepers[0].holds && keepers[0].to_string().starts_with("scope has been held by guest 1 for "));
 /// # drop(held);
 /// # Ok::<(), labrun::Error>(())
 /// ```
@@ -58,7 +58,7 @@ pub(crate) fn because(keepers: &[Keeper]) -> String {
 
 impl fmt::Display for Keeper {
     fn fmt(&self, out: &mut fmt::Formatter<'_>) -> fmt::Result {
-        let (mut it, mut joins) = (self, " is");
+        let (mut it, mut joins) = (self, if self.held_for.is_some() { " has been" } else { " is" });
         loop {
             write!(out, "{}{joins} {} {}{}", it.instrument, if it.holds { "held by" } else { "kept for" }, it.job, it.for_long())?;
             let Some(next) = &it.behind else { return Ok(()) };

@@ -71,7 +71,7 @@ fn a_timeout() {
     let late = lab.hold(&["scope"]).timeout(SHORT).begin().err().unwrap().to_string();
     assert!(begun.elapsed() >= SHORT && begun.elapsed() < LONG);
     let for_long: f64 =
-        late.strip_prefix("still waits: scope is held by guest 1 for ").and_then(|it| it.strip_suffix(" s")).unwrap().parse().unwrap();
+        late.strip_prefix("still waits: scope has been held by guest 1 for ").and_then(|it| it.strip_suffix(" s")).unwrap().parse().unwrap();
     assert!((0.0..300.0).contains(&for_long));
     assert_eq!(waiting(&lab), 0);
     first.finish().unwrap();

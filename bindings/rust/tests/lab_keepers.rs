@@ -138,7 +138,7 @@ fn who_keeps_two_that_wait_for_each_other() {
 fn who_holds_comes_before_the_line() {
     let lab = lab(0);
     let found = kept_from(&lab, &["scope"], &[&[&["scope", "supply"]]], held(&lab, &["scope"]));
-    assert_eq!(told(&found), "still waits: scope is held by guest 1 for _ s");
+    assert_eq!(told(&found), "still waits: scope has been held by guest 1 for _ s");
 }
 
 /// So it is of what one in line lacks: the scope is kept from it, and the load is held.
