@@ -47,6 +47,12 @@ class Leaves(OnBroker):
                     came.settimeout(LIMIT)
                     heard = came.recv(1 << 16)
                     self.assertTrue(heard.startswith(b"PRI * HTTP/2.0"))
+                    # (a moment in which it would ask)
+                    came.settimeout(2)
+                    with contextlib.suppress(TimeoutError):
+                        while some := came.recv(1 << 16):
+                            heard += some
+                    came.settimeout(LIMIT)
                     self.ends(one, "")
                     while some := came.recv(1 << 16):
                         heard += some
