@@ -1002,7 +1002,7 @@ static int lets_go(int ended) {
                 say("the command ran, and ended with status %d, but:", ended);
                 found = refused(&it);
             } else if (!is_untold && now() > began + UNTOLD) {
-                say("the command has ended with status %d; the broker doesn't answer, and is told again for a minute, unless Ctrl-C gives that up", ended);
+                say("the command has ended with status %d; the broker doesn't answer; labrun-hold keeps trying to tell it for a minute, and Ctrl-C ends that", ended);
                 is_untold = true;
             }
             if (found < 0 && is_untold && came) {

@@ -72,7 +72,7 @@ async def releases(keeping: Keeping, station: str, by: str, number: int, person:
     rights.check_release(keeping.bay, person, session)
     instruments, session.taken_by = session.chosen(needs), people.told(person, by)
     if session.holds:
-        keeping._notes(session, "taken", by)
+        keeping._notes(session, "taken", session.taken_by)
     if session.holds and session.is_followed:
         making_safe.takes(keeping, session, TAKEN)
     else:

@@ -343,7 +343,7 @@ class Signals:
                 first.append(signal.setitimer(signal.ITIMER_REAL, LATE / 5))
                 return
             self.is_late = True
-            say(f"the command has ended with status {status}; the broker doesn't answer, and is told again for a minute, unless Ctrl-C gives that up")
+            say(f"the command has ended with status {status}; the broker doesn't answer; hold keeps trying to tell it for a minute, and Ctrl-C ends that")
             self.gives_up()
 
         first: list[object] = []

@@ -193,7 +193,7 @@ class Standings:
             return f"it is this session's turn, and it holds {self._once_written()}"
         if self.is_full(session.kind):
             return self._is_taken(session)
-        return ", ".join(it["text"] for it in self.keepers(session)) or "nobody keeps it any more"
+        return ", ".join(it["text"] for it in self.keepers(session)) or "by now nobody holds what it wants"
 
     def instead(self, name: str) -> str:
         """What a station, or a guest, does that holds nothing: it may wait, and no release ends that."""

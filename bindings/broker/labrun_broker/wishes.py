@@ -184,9 +184,19 @@ def _sets(words: Sequence[str], wish: Wish, bay: Bay) -> tuple[tuple[str, ...], 
     except (NoSuch, TooFew) as fault:
         if _is_there(words, bay.instruments, bay):
             raise _may_not_use(wish, words, bay) from None
-        raise NoInstrument(str(fault)) from None
+        # (there are all the bay's, and not only those that this client may use)
+        raise NoInstrument(_lacking(words, bay) or str(fault)) from None
     except TooMany as fault:
         raise BadWish(str(fault)) from None
+
+
+def _lacking(words: Sequence[str], bay: Bay) -> str:
+    """Why the whole bay has no such instruments."""
+    try:
+        sets_of(words, bay.instruments, bay.tags)
+    except ValueError as fault:
+        return str(fault)
+    return ""
 
 
 def _is_there(words: Sequence[str], its: Sequence[str], bay: Bay) -> bool:

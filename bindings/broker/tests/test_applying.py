@@ -76,7 +76,7 @@ class Applied(OnApplied):
         """A file in which only tags, labels or guards are other is taken, too."""
         keeping = await self.opened(None)
         more = BAY + '\n[tags]\nprecise = ["scope"]\n[labels]\nscope = "by the window"\n[guards]\nsupply = "bench-2:5025"\n'
-        its = ["label scope: by the window, and not none", "guard supply: bench-2:5025, and not none", "tag precise: scope, and not none"]
+        its = ["label scope: by the window, instead of none", "guard supply: bench-2:5025, instead of none", "tag precise: scope, instead of none"]
         self.assertEqual(await apply(keeping, more, "eve", False), its)
         self.assertEqual((keeping.bay.tags, keeping.bay.labels, keeping.bay.guards), ({"precise": ("scope",)}, {"scope": "by the window"}, {"supply": "bench-2:5025"}))
         self.assertEqual((await keeping.hold(Wish(("tag:precise",)), Owner())).instruments, ("scope",))

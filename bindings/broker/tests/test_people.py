@@ -26,7 +26,7 @@ from labrun_broker.client import methods_of
 from labrun_broker.command import main
 from labrun_broker.door import Door
 from labrun_broker.entrance import Entrance, NotLetIn
-from labrun_broker.errors import CantChange, NotAllowed, Unreachable
+from labrun_broker.errors import CantChange, NoInstrument, NotAllowed, Unreachable
 from labrun_broker.front import Fronts
 from labrun_broker.keeping import Keeping
 from labrun_broker.people import digest_of
@@ -148,6 +148,14 @@ class Rights(OnFolder):
                 with self.assertRaises(labrun.MayNotUse) as caught:
                     await keeping.hold(wish, owner)
                 self.assertEqual(str(caught.exception), why)
+        # (which there are is said of the whole bay, and not of what bob may have)
+        for words, why in (
+            (("laser-*",), "no instrument is like laser-*: there are scope, supply, load-1, load-2"),
+            (("9 of *",), "9 of * are wanted; there are 4: scope, supply, load-1, load-2"),
+        ):
+            with self.subTest(why), self.assertRaises(NoInstrument) as none:
+                await keeping.hold(Wish(words, person="bob"), owner)
+            self.assertEqual(str(none.exception), why)
         self.assertEqual((await keeping.hold(Wish(("tag:precise",), person="cat", by="cat"), owner)).instruments, ("scope",))
         # (of its words only what is for cat)
         with self.assertRaisesRegex(labrun_broker.TimeoutError, "load-1 has been held by guest-1 for .* \\(bob: bob@bench-3 4711 sh\\)"):
@@ -174,6 +182,12 @@ class Rights(OnFolder):
         held = await keeping.hold(Wish(("load-1",), person="bob"), owner)
         await keeping.release(held.name, "", person="ana")
         self.assertEqual([it["text"] for it in keeping.history if it["what"] == "taken"][-1], "by ana")
+        # (the journal says it, too, and not only what the client says of itself)
+        await keeping.close()
+        os.remove(f"{folder}/records.jsonl")
+        keeping = await self.keeping(folder, PEOPLE)
+        texts = [it["text"] for it in keeping.history if it["what"] == "taken"]
+        self.assertEqual(texts, ["by bob: bob@bench-3, as the journal has it", "by ana, as the journal has it"])
 
     async def test_people_come_later(self) -> None:
         """What was held before is of whoever has its ticket."""

@@ -97,7 +97,7 @@ class Standing(OnEtcd):
         other.start()
         time.sleep(0.3)
         self.assertEqual(self.brokers[0].end(signal.SIGKILL), -signal.SIGKILL)
-        self.brokers[1].says("labrun-broker: leads: bay north: 4 instruments, at ")
+        self.brokers[1].says(f"labrun-broker: leads: bay {self.bay}: 4 instruments, at ")
         until(lambda: station(lab, "guest-1")["state"] == "holding", "guest-1 is back")
         mine.note("12.5 V")
         self.assertEqual(held, [])
