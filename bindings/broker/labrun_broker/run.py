@@ -18,6 +18,7 @@ from .family import TELLING, Family, adopting, ends
 from .leaving import leaves
 from .quick import Quick, Wish
 from .texts import addresses_of, last, plain, seconds, station_name, unreached
+from .waking import waking
 from .wire import Absent, NoBroker, Odd, Silent
 from .within import Within, around
 from .words import CANT_RUN, ENVIRONMENT, NOT_FOUND, PROGRAM, TAKEN, USAGE, add_client, files_of, lab_of, say
@@ -365,9 +366,10 @@ class Signals:
 def passing_on() -> Iterator[Signals]:
     signals = Signals()
     numbers = (signal.SIGINT, signal.SIGTERM, signal.SIGHUP, signal.SIGQUIT)
-    before = {number: signal.signal(number, signals.comes) for number in numbers}
-    try:
-        yield signals
-    finally:
-        for number, what in before.items():
-            signal.signal(number, what)
+    with waking():
+        before = {number: signal.signal(number, signals.comes) for number in numbers}
+        try:
+            yield signals
+        finally:
+            for number, what in before.items():
+                signal.signal(number, what)
