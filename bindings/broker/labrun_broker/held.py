@@ -214,8 +214,8 @@ class Held:
     def _looks_at_the_time(self) -> None:
         if self.state != "held" or clock() < self._until:
             return
-        what = f"so the session is over, and others may hold these soon: {', '.join(self.instruments)}"
-        fault = TakenAway(f"{self.station}: nothing was heard from the broker for {self._lease or 0:g} s, {what}")
+        what = f"so the session is over, and others may hold these by now: {', '.join(self.instruments)}"
+        fault = TakenAway(f"{self.station}: nothing was heard from the broker for more than {self._lease or 0:g} s, {what}")
         stream, returns = self._stream, self._returns
         if returns is None and stream is not None:
             self._is_taken(stream, fault)
