@@ -28,7 +28,7 @@ from .bay import BadAddress, is_here
 from .sockets import family_of, listens, parsed, tls_of, written
 from .texts import plain, seconds
 from .waking import kept
-from .words import add_client, lab_of, say
+from .words import add_client, lab_of, reading, say
 
 if TYPE_CHECKING:
     from .client import Lab
@@ -65,7 +65,7 @@ class BadTable(BadAddress):
 def read_table(path: str, args: argparse.Namespace) -> dict[str, dict[str, Any]]:
     """For each instrument its five keys. BadTable names every fault."""
     try:
-        with open(path, "rb") as file:
+        with reading(path), open(path, "rb") as file:
             given = tomllib.load(file)
     except (tomllib.TOMLDecodeError, UnicodeDecodeError) as fault:
         raise BadTable(f"{path}: {fault}") from None
