@@ -206,7 +206,7 @@ def run_bay(args: argparse.Namespace) -> int:
     for path, bay in ((read.paths[name], bay) for name, bay in read.bays.items()) if isinstance(read, Lab) else ((args.bay, read),):
         print(f"ok {path}: {called('bay', bay.name)}, {counts_of(bay)}, gone = {bay.its_gone.told()}")
     for line in lacks(read):
-        say(plain(line))
+        say(plain(f"{args.bay}: {line}"))
     return 0
 
 
