@@ -55,6 +55,8 @@ class Held:
         # where the guards of its instruments are, and the ports that lead there
         self.guards: dict[str, str] = {}
         self._ways: Optional[Ways] = None
+        # for how long it may hold while somebody waits for what it has
+        self.limit: Optional[float] = None
         # it is called, on another thread, if the session was taken away while its owner works
         self.on_taken: Optional[Callable[[Exception], None]] = None
         # and if its limit is over soon
@@ -181,6 +183,7 @@ class Held:
         self.instruments, self.station = tuple(told.instruments), told.station
         self.number, self.token = told.session, told.token
         self.guards = dict(told.guards)
+        self.limit = told.limit if told.HasField("limit") else None
 
     async def _address(self, instrument: str) -> tuple[str, int]:
         self._raises_taken()

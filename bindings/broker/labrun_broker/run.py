@@ -17,7 +17,7 @@ from .credentials import DEFAULT, user
 from .family import TELLING, Family, adopting, ends
 from .leaving import leaves
 from .quick import Quick, Wish
-from .texts import addresses_of, last, plain, seconds, station_name, unreached
+from .texts import addresses_of, last, plain, seconds, span, station_name, unreached
 from .waking import waking
 from .wire import FIRST, Absent, NoBroker, Odd, Silent
 from .within import Within, around
@@ -77,6 +77,8 @@ def run_hold(args: argparse.Namespace) -> int:
             if not args.quiet:
                 until_held.enter_context(silence)
             held = holds(args, wish, None if args.quiet and not within.stations else waits, signals, ends, within)
+        if args.limit is not None and held.limit is not None and held.limit < args.limit:
+            say(f"the bay's limit counts, which is shorter: {span(held.limit, 1)}, and not {span(args.limit, 1)}")
         variables, passes = ends.enter_context(leads(held, args))
         status = runs(args.command, held, signals, address_of(args), variables)
         if held.held:
