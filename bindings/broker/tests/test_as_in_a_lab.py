@@ -5,6 +5,7 @@ import concurrent.futures
 import unittest
 
 import labrun
+import labrun_broker
 from tests.brokers import LIMIT, OnBroker, station, until
 
 
@@ -48,6 +49,23 @@ class Entering(OnBroker):
                 with self.subTest(it), self.assertRaisesRegex(labrun.NotHeld, f"^{it}: it is entered once$"):
                     again()
             self.assertEqual({one["state"] for one in lab.status()["stations"]}, {"idle"})
+
+
+class Notes(OnBroker):
+    def test_a_note_is_what_str_makes_of_it(self) -> None:
+        """A `labrun.Lab` takes none of these; there a note is a `str` of one line, of 500 bytes at most."""
+        lab, notes = self.lab(self.broker()), (5, "two\nlines", "two\r\nlines", "é" * 500)
+        with lab.hold("scope") as held, labrun.Lab(["scope"]) as of_one, of_one.hold("scope") as other:
+            for note in notes:
+                with self.subTest(note):
+                    held.note(note)
+                    self.assertEqual(station(lab, held.station)["note"], str(note))
+                    with self.assertRaises(ValueError):
+                        other.note(note)  # type: ignore[arg-type]
+            with self.assertRaisesRegex(labrun_broker.BadWish, "a note of 501 characters; 500 are the most") as told:
+                held.note("é" * 501)
+            self.assertIsInstance(told.exception, ValueError)
+            self.assertEqual(other.notes, ())
 
 
 if __name__ == "__main__":
