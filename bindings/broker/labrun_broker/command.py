@@ -133,7 +133,7 @@ def brokers_of(status: dict[str, Any]) -> list[str]:
 def disk_of(status: dict[str, Any]) -> list[str]:
     if not status["disk"]:
         return []
-    return [f"the broker can't write for {span(status['at'] - status['disk_since'])}: {plain(status['disk'])}. Nobody comes to hold until it can"]
+    return [f"the broker hasn't been able to write for {span(status['at'] - status['disk_since'])}: {plain(status['disk'])}. Nobody comes to hold until it can"]
 
 
 # ---- for who looks after the bay

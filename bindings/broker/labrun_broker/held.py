@@ -25,12 +25,12 @@ if TYPE_CHECKING:
 MOST_FAILED = 10000  # characters that are told of work that failed
 
 
-class Entered(labrun.LabrunError):
-    """Somebody is in the session already, and stays there."""
+class Entered(NotHeld):
+    """Somebody was in the session before, or is in it, and stays there."""
 
 
 class Held:
-    """A session, as the broker keeps it. `with` it, or call `acquire` and `release`. `instruments`, `station`, `number` and
+    """A session, as the broker keeps it. `with` it, or call `acquire` and `release`, once. `instruments`, `station`, `number` and
     `token` are known once it holds. Its token is larger than that of each session that was told before that it holds: so a server
     before an instrument can refuse whoever comes with a smaller one than it has seen."""
 
@@ -106,7 +106,11 @@ class Held:
         return await self.lab._run_async(self._address(instrument))
 
     def _may_sleep(self) -> None:
-        may_sleep(self, f"session {self.number} of {self.station}" if self.number else "a session")
+        may_sleep(self, self._called)
+
+    @property
+    def _called(self) -> str:
+        return f"session {self.number} of {self.station}" if self.number else "a session"
 
     @property
     def ticket(self) -> str:
@@ -157,10 +161,10 @@ class Held:
 
     async def _acquire(self) -> None:
         self.lab._may_go_on()
-        if self.state in ("waiting", "held"):
-            raise Entered(f"the session is {self.state} already: it is entered once")
+        if self.state != "new":
+            raise Entered(f"{self._called} is {self.state}: it is entered once")
         self._wish.ticket, self._ticket = self._ticket or secrets.token_urlsafe(), ""
-        self._taken, self.state = None, "waiting"
+        self.state = "waiting"
         try:
             self._holds(*await Coming(self).holds())
         except BaseException:

@@ -7,13 +7,15 @@ const PACE = 800;                // milliseconds between two pictures, at least
 const MANY = 16;                 // instruments that make two columns
 const MOST_RECORDS = 14, MOST_NOTES = 4, MOST_CHAINS = 4;
 const WALL = new URLSearchParams(location.search).has("wall") && innerWidth > 860;   // all is seen at once: nobody scrolls there
-const WALL_RECORDS = 60, WALL_WAITS = 20, WALL_ALARMS = 3;
+const WALL_RECORDS = 60, WALL_WAITS = 20, WALL_ALARMS = 3, PADDING = 4;   // pixels, below the last line
 const SPANS = {"15 min": 900, "1 h": 3600, "4 h": 14400, "12 h": 43200};
+// (WHO is the station, ITS are the instruments)
 const WORDS = {
-  opened: "the broker opened the bay", asked: "asks for", held: "holds", note: "notes", let_go: "let go", gave_up: "gave up", taken: "was ended",
-  failed: "failed", gone: "is gone", back: "is back", closed: "the broker closed the bay", made_safe: "is over, and made safe is",
+  opened: "the broker opened the bay", closed: "the broker closed the bay", changed: "the bay was changed", note: "WHO notes",
+  asked: "WHO asks for ITS", held: "WHO holds ITS", let_go: "WHO let go of ITS", failed: "WHO failed with ITS", gave_up: "WHO gave up on ITS",
+  taken: "WHO’s session with ITS was ended", gone: "WHO’s client is gone; it holds ITS", back: "WHO’s client is back; it holds ITS",
+  made_safe: "ITS was made safe after WHO", disabled: "ITS is out of order", enabled: "ITS is in order again",
 };
-const PLAIN = new Set(["opened", "closed", "note"]);     // told without instruments
 const BAD = new Set(["failed", "gone", "taken", "gave_up"]);
 
 let drawing = 0, drawn = 0;
@@ -171,16 +173,21 @@ function rowHeight() {
   return Math.max(12, Math.min(38, high));
 }
 function recordOf(it) {
-  const parts = it.station ? [bold(it.station), " "] : [];
-  parts.push(make("span", "what", WORDS[it.what] || it.what));
-  if (it.instruments && it.instruments.length && !PLAIN.has(it.what)) parts.push(" ", ...list(it.instruments));
+  const its = it.instruments || [], text = it.text || "", words = WORDS[it.what] || `${it.station ? "WHO: " : ""}${it.what}`;
+  const said = {WHO: () => [bold(it.station || "somebody")], ITS: () => its.length ? list(its) : ["its instruments"]};
+  const all = words.split(/(WHO|ITS)/).filter(it => it), last = all.findLastIndex(it => !said[it]);
+  const parts = all.flatMap((it, at) => said[it] ? said[it]() : [at === last ? make("span", "what", it) : it]);
   // (a text that names the one instrument first needn't do so twice)
-  const text = (it.text || "").replace((it.instruments || []).length === 1 ? `${it.instruments[0]}: ` : "", "");
-  if (text) parts.push(": ", make("bdi", "", text.length > 300 ? text.slice(0, 300) + "…" : text));
+  const twice = its.length === 1 && [": ", ", "].map(it => its[0] + it).find(it => text.startsWith(it)) || "", more = text.slice(twice.length);
+  if (more) parts.push(": ", make("bdi", "", more.length > 300 ? more.slice(0, 300) + "…" : more));
   return make("div", `record${BAD.has(it.what) ? " bad" : ""}`, make("time", "", hours(it.t)), make("span", "", ...parts));
 }
 function drawRecords() {
   $("records").replaceChildren(...newest(WALL ? WALL_RECORDS : MOST_RECORDS, WALL ? 0 : MOST_NOTES).reverse().map(recordOf));
+  if (!WALL) return;
+  // (those for which there is room, and no half line)
+  const end = $("records").parentElement.getBoundingClientRect().bottom - PADDING;
+  [...$("records").children].filter(it => it.getBoundingClientRect().bottom > end).forEach(it => it.remove());
 }
 function newest(most, mostNotes) {
   // (one that notes each second drives nothing else out)
@@ -332,4 +339,4 @@ drawSpans();
 listen();
 setInterval(tick, 1000);
 let resized;
-addEventListener("resize", () => { clearTimeout(resized); resized = setTimeout(() => { if (status) { drawNow(); drawGantt(); } }, 100); });
+addEventListener("resize", () => { clearTimeout(resized); resized = setTimeout(() => { if (status) { drawNow(); drawRecords(); drawGantt(); } }, 100); });

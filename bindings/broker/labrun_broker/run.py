@@ -209,12 +209,11 @@ def holds(args: argparse.Namespace, wish: Wish, waits: Waits, signals: Signals, 
         except Odd:
             was_there, ticket = tried[0].wire.was_there, tried[0].ticket
     lab = ends.enter_context(connects(was_there))
-    held = lab.hold(*wish.instruments, any_of=wish.any_of, waits=waits, limit=wish.limit, urgent=wish.urgent)
-    held.on_lacking = within.lacks
 
     def wholly() -> Held:
+        held = lab.hold(*wish.instruments, any_of=wish.any_of, timeout=left(), waits=waits, limit=wish.limit, urgent=wish.urgent)
         # (it may hold by now, and the broker's word be lost)
-        held._ticket, held.timeout = ticket, left()
+        held.on_lacking, held._ticket = within.lacks, ticket
         return ends.enter_context(held)
 
     try:

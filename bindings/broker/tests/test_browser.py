@@ -87,7 +87,7 @@ class Browser(unittest.TestCase):
             self.do("end", "board")
             free.append(self.seen(self.row("scope"), lambda text: "free" in text))
             looks.append(self.seen("h1", bool))
-        self.assertIn("board let go scope, supply", self.text("#records"))
+        self.assertIn("board let go of scope, supply", self.text("#records"))
         for took in (held, free):
             # (a look takes some milliseconds, where the machine does nothing else)
             self.assertLess(min(took), 1 + 10 * min(looks), took)
@@ -255,6 +255,61 @@ class Browser(unittest.TestCase):
         self.assertEqual(self.browser.execute_script("return [window.heard, document.querySelectorAll('[role=status] .ticks, [aria-live] .ticks').length]"), [0, 0])
         self.do("end", "board")
         self.seen("#told", lambda text: text == "Nothing is stuck.")
+
+    def test_what_happened_reads_as_english(self) -> None:
+        its = ["scope", "supply"]
+        told = [
+            ("asked", "board", its, "", "board asks for scope, supply"),
+            ("held", "board", its, "", "board holds scope, supply"),
+            ("note", "board", its, "5 V", "board notes: 5 V"),
+            ("let_go", "board", its, "", "board let go of scope, supply"),
+            ("failed", "board", its, "status 1", "board failed with scope, supply: status 1"),
+            ("gave_up", "board", its, "its time was over", "board gave up on scope, supply: its time was over"),
+            ("taken", "board", its, "by ann", "board’s session with scope, supply was ended: by ann"),
+            ("gone", "board", its, "", "board’s client is gone; it holds scope, supply"),
+            ("back", "board", its, "", "board’s client is back; it holds scope, supply"),
+            ("made_safe", "board", ["supply"], "off.sh ended well after 0.5 s", "supply was made safe after board: off.sh ended well after 0.5 s"),
+            ("disabled", None, ["scope"], "scope: no signal, by ann", "scope is out of order: no signal, by ann"),
+            ("enabled", None, ["scope"], "scope, by ann", "scope is in order again: by ann"),
+            ("changed", None, [], "by ann: oven is new", "the bay was changed: by ann: oven is new"),
+            ("opened", None, its, "", "the broker opened the bay"),
+            ("closed", None, its, "", "the broker closed the bay"),
+            ("asked", "board", [], "", "board asks for its instruments"),
+            ("else", "board", its, "new", "board: else: new"),
+        ]
+        about = [{"t": 0, "what": what, "station": station, "instruments": names, "text": text} for what, station, names, text, _ in told]
+        said = self.browser.execute_script("return arguments[0].map(it => recordOf(it).lastChild.textContent)", about)
+        self.assertEqual(said, [it[-1] for it in told])
+
+    def test_no_line_of_the_wall_is_cut(self) -> None:
+        """As many lines of what happened last as there is room for, each whole; also when others wait, and there is less."""
+        for number in range(80):
+            self.do("hold", "board", "scope", by=f"ana {number}")
+        self.width_at(1920, 1080)
+        self.browser.get(f"http://127.0.0.1:{self.web.port}/?wall")
+        counts = list[int]()
+        for waits, width, height in (("", 1920, 1080), ("radio", 1920, 1080), ("", 1920, 1075), ("night", 1920, 1075), ("", 1280, 800), ("", 1920, 1080)):
+            with self.subTest(waits, width=width, height=height):
+                self.width_at(width, height)
+                if waits:
+                    self.do("ask", waits, "scope")
+                self.seen("#waits", lambda text: waits in text)
+                counts.append(self.whole_lines(height))
+        self.assertTrue(counts[0] > counts[4] < counts[5], counts)
+
+    def whole_lines(self, height: int) -> int:
+        """How many there are, once each is whole and there is no room for another."""
+        lines = (
+            "const of = document.querySelector('#records'), its = [...of.children].map(it => it.getBoundingClientRect());"
+            "return [its.length, Math.max(...its.map(it => it.bottom)), Math.min(...its.map(it => it.height)), of.parentElement.getBoundingClientRect().bottom]"
+        )
+        end = time.monotonic() + LIMIT
+        while time.monotonic() < end:
+            count, last, high, bottom = self.browser.execute_script(lines)
+            if last <= bottom < height and bottom < last + 2 * high:
+                return int(count)
+            time.sleep(0.05)
+        self.fail(f"of {count} lines of {high} the last ends at {last}, and the box at {bottom} of {height}")
 
     def test_notes_drive_nothing_out(self) -> None:
         self.do("hold", "board", "scope")

@@ -209,7 +209,7 @@ class WithoutBroker(unittest.TestCase):
         status: dict[str, Any] = {"bay": "north", "at": 1000.0, "since": 900.0, "instruments": [], "stations": [], "in_line": [], "sessions": 1}
         first, second, *_ = lines_of({**status, "disk": "a write failed (No space left on device)", "disk_since": 984.0})
         self.assertRegex(first, "^bay north, 1 session since ")
-        self.assertEqual(second, "the broker can't write for 16 s: a write failed (No space left on device). Nobody comes to hold until it can")
+        self.assertEqual(second, "the broker hasn't been able to write for 16 s: a write failed (No space left on device). Nobody comes to hold until it can")
         self.assertRegex(lines_of({**status, "bay": "bay", "disk": ""})[0], "^bay, 1 session since ")
         first, second, *_ = lines_of({**status, "sessions": 2, "disk": "", "disk_since": None})
         self.assertRegex(first, "^bay north, 2 sessions since ")

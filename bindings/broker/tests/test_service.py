@@ -98,18 +98,6 @@ class Clients(OnBroker):
         with self.assertRaisesRegex(labrun.NotHeld, "radio holds nothing"):
             lab.release("radio")
 
-    def test_who_enters_twice_stays_in(self) -> None:
-        """The second time is refused, and takes nothing from who is in it."""
-        broker = self.broker()
-        with broker.lab() as lab:
-            held = lab.hold("scope")
-            with held:
-                for again in (held.acquire, held.__enter__):
-                    with self.assertRaisesRegex(labrun.LabrunError, "the session is held already: it is entered once"):
-                        again()
-                    self.assertEqual((held.held, station(lab, "guest-1")["state"]), (True, "holding"))
-            self.assertEqual(station(lab, "guest-1")["state"], "idle")
-
     def test_async(self) -> None:
         lab = self.lab(self.broker())
         order = []

@@ -85,9 +85,8 @@ class LabScheduling(LoadScheduling):  # type: ignore[misc]
         self._undealt = Undealt()
         # what each worker is at, and since when
         self._at: dict[Any, tuple[UnitTold, Way, float]] = {}
-        # since when each idle worker is so, and what kept a test from it then
+        # since when each idle worker is so
         self._idle: dict[Any, float] = {}
-        self._kept: dict[Any, dict[str, str]] = {}
 
     # what xdist calls
 
@@ -193,7 +192,7 @@ class LabScheduling(LoadScheduling):  # type: ignore[misc]
         return found
 
     def _is_idle(self, node: Any) -> None:
-        self._idle[node], self._kept[node] = self.server.past.now(), {}
+        self._idle[node] = self.server.past.now()
 
     def _deal(self) -> None:
         """As many tests as can run now, but for those that would take what another gets soon that goes before them."""
@@ -201,27 +200,19 @@ class LabScheduling(LoadScheduling):  # type: ignore[misc]
             used, soon = self._used().union(self.server.lab.in_use()), self._soon()
             found, is_kept = self._undealt.first(used, frozenset(soon))
             if found is None:
-                self._note_who_keeps(used)
+                self.server.sees_others()
                 if is_kept:
                     self.server.later(min(soon.values()) + 0.001, self.deal)
                 return
             self._send(next(iter(self._idle)), *found)
 
-    def _note_who_keeps(self, used: set[str]) -> None:
-        """Each idle worker waits for a test that it could have run."""
-        users = {name: "another" for name in used} | self.server.lab.in_use()
-        users.update({name: self.collection[unit.tests[0]] for unit, way, _ in self._at.values() for name in way})
-        for node, ways in zip(self._idle, self._undealt.by_need()):
-            if not self._kept[node]:
-                self._kept[node] = {name: users[name] for way in ways for name in way if name in used}
-
     def _send(self, node: Any, ways: Ways, way: Way) -> None:
-        since, kept = self._idle.pop(node), self._kept.pop(node)
+        since = self._idle.pop(node)
         if node.shutting_down:
             return
         unit = self._undealt.take(ways) if way else UnitTold(tuple(self._undealt.take_plain(len(self.nodes))), PLAIN)
         if way:
-            self.server.dealt[self.collection[unit.tests[0]]] = Dealt(since if kept else None, kept, way)
+            self.server.dealt[self.collection[unit.tests[0]]] = Dealt(since, way)
         try:
             node.send_runtest_some([*unit.tests, len(self.collection)])
         except OSError:  # it is down, and xdist doesn't know yet

@@ -10,8 +10,8 @@ from typing import Mapping, Optional
 @dataclass
 class Held:
     """One session, of one test or of several that hold as one. Times are seconds since the run began; `held` and `let_go` are None if it
-    never came to that. `kept` says which instruments kept it waiting, each with who was at it; `end` is
-    `done`, `late` (it never held), `gone` (its worker crashed) or `taken` (it was taken away)."""
+    never came to that. `kept` says which of its instruments kept it waiting, each with who had it, the last of several; `end` is `done`,
+    `late` (it never held), `gone` (its worker crashed) or `taken` (it was taken away)."""
 
     test: str
     worker: str
@@ -60,7 +60,7 @@ class Past:
     def now(self) -> float:
         return time.monotonic() - self._begun
 
-    def asks(self, test: str, worker: str, instruments: tuple[str, ...], since: Optional[float] = None) -> Held:
-        session = Held(test, worker, instruments, self.now() if since is None else since)
+    def asks(self, test: str, worker: str, instruments: tuple[str, ...]) -> Held:
+        session = Held(test, worker, instruments, self.now())
         self.sessions.append(session)
         return session

@@ -12,7 +12,7 @@ import os
 import shutil
 import tempfile
 import threading
-from dataclasses import dataclass, field
+from dataclasses import dataclass
 from typing import Any, Callable, Optional, Sequence
 
 from .labs import Lab, LabFault, Way
@@ -31,11 +31,9 @@ class UnitTold:
 
 @dataclass
 class Dealt:
-    """What the scheduler knows of a test that it sends to a worker: since when the worker stood idle for it, what kept it, and the way that
-    is free now."""
+    """What the scheduler knows of a test that it sends to a worker: since when the worker stood idle, and the way that is free now."""
 
     since: Optional[float] = None
-    kept: dict[str, str] = field(default_factory=dict)
     way: Optional[Way] = None
 
 
@@ -52,6 +50,8 @@ class Server:
         self._folder = tempfile.mkdtemp(prefix="labrun-")
         self.path = os.path.join(self._folder, "lab.sock")
         self._users: dict[str, Held] = {}
+        # who had each instrument last, and until when
+        self._last: dict[str, tuple[str, float]] = {}
         self._tasks: set[asyncio.Task[None]] = set()
         self._is_up = threading.Event()
         self._failed: Optional[BaseException] = None
@@ -140,6 +140,24 @@ class Server:
             return {}
         return {name: users[name] for way in ways for name in way if name in users}
 
+    def had(self, names: Sequence[str], since: float) -> dict[str, str]:
+        """Which of these instruments were in use since then, but no longer, each with who had it last."""
+        return {name: who for name, (who, until) in self._last.items() if name in names and until > since}
+
+    def begins(self, held: Held) -> None:
+        self._users.update(dict.fromkeys(held.instruments, held))
+
+    def ends(self, held: Held) -> None:
+        for name in held.instruments:
+            if self._users.get(name) is held:
+                del self._users[name]
+                self._last[name] = held.test, self.past.now()
+
+    def sees_others(self) -> None:
+        """Notes at which instruments others than this run are now. Any thread may ask."""
+        now = self.past.now()
+        self._last.update({name: (who, now) for name, who in self.lab.in_use().items()})
+
 
 class _Worker:
     """The talk with one worker."""
@@ -193,8 +211,11 @@ class _Worker:
         dealt = server.dealt.pop(test, Dealt())
         if dealt.way in ways:
             ways = (dealt.way, *(way for way in ways if way != dealt.way))
-        held = self.held = past.asks(test, self.name, ways[0] if len(ways) == 1 else (), dealt.since)
-        held.kept = dealt.kept or server.kept(ways)
+        held = self.held = past.asks(test, self.name, ways[0] if len(ways) == 1 else ())
+        held.kept = server.kept(ways)
+        # (a worker that was idle for want of something else didn't wait for this test)
+        if dealt.since is not None and (held.kept or server.had(dealt.way or (), dealt.since)):
+            held.asked = dealt.since
         try:
             await self._holds(held, ways, timeout)
         except TimeoutError as late:
@@ -210,9 +231,7 @@ class _Worker:
             self.tell(fault=server.lab.who(f"{type(fault).__name__}: {fault}"))
         finally:
             held.let_go = held.let_go or past.now()
-            for name in held.instruments:
-                if server._users.get(name) is held:
-                    del server._users[name]
+            server.ends(held)
         if held.end == "done":
             self.tell(ok=True)
 
@@ -223,9 +242,9 @@ class _Worker:
             held.held, self.at = past.now(), session
             taken = next(at for at, way in enumerate(ways) if set(way) == set(session.instruments))
             held.instruments = ways[taken]
-            server._users.update(dict.fromkeys(held.instruments, held))
-            if not held.instruments or held.waited < 0.01:
-                held.kept = {}
+            server.begins(held)
+            its = {name: by for name, by in held.kept.items() if name in held.instruments}
+            held.kept = {} if held.waited < 0.01 else its | server.had(held.instruments, held.asked)
             self.tell(held=held.instruments, waited=held.waited)
             await self.lets_go.wait()
             self.at = None

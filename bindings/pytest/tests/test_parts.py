@@ -6,7 +6,7 @@ import os
 import signal
 import threading
 import time
-from typing import Iterator
+from typing import Callable, Iterator
 
 import pytest
 
@@ -15,7 +15,7 @@ from pytest_labrun.labs import OwnLab
 from pytest_labrun.needs import Bay, Fault, Need, Wish, chosen_for, need_of, ways_of
 from pytest_labrun.past import Held, Past, Times
 from pytest_labrun.seen import rows, table
-from pytest_labrun.server import Server, UnitTold
+from pytest_labrun.server import Dealt, Server, UnitTold
 
 LOADS = ("load-1", "load-2", "load-3")
 BAY: Bay = {name: () for name in (*LOADS, "scope", "supply")}
@@ -145,6 +145,59 @@ def test_one_waits_for_the_other_or_takes_another(server: Server) -> None:
     other.let_go()
     assert [it.end for it in server.past.sessions] == ["done", "done", "late", "done"]
     assert server.past.sessions[3].kept == {"load-1": "test_one"}
+
+
+def sleeps_until(is_so: Callable[[], bool]) -> None:
+    for _ in range(6000):
+        if is_so():
+            return
+        time.sleep(0.01)
+    raise AssertionError("a minute has passed")
+
+
+def test_who_kept_it_is_who_had_what_it_got(server: Server) -> None:
+    """It waits for the scope alone: one load is in use, the other is free."""
+    one, other, third = (desk_of(server, f"gw{at}") for at in range(3))
+    one.hold("test_scope", [("scope",)], None)
+    other.hold("test_load", [("load-1",)], None)
+    waits = threading.Thread(target=third.hold, args=("test_both", [("scope", "load-1"), ("scope", "load-2")], 60), daemon=True)
+    waits.start()
+    sleeps_until(lambda: len(server.past.sessions) == 3)
+    time.sleep(0.2)
+    one.let_go()
+    waits.join(60)
+    held = server.past.sessions[2]
+    assert (held.instruments, held.kept) == (("scope", "load-2"), {"scope": "test_scope"})
+
+
+def test_of_several_the_last_kept_it(server: Server) -> None:
+    desks = [desk_of(server, f"gw{at}") for at in range(3)]
+    desks[0].hold("test_0", [("scope",)], None)
+    threads = [threading.Thread(target=desks[at].hold, args=(f"test_{at}", [("scope",)], 60), daemon=True) for at in (1, 2)]
+    for at, thread in enumerate(threads, 1):
+        thread.start()
+        sleeps_until(lambda: len(server.past.sessions) == at + 1)
+        time.sleep(0.2)
+    for at, thread in enumerate(threads):
+        desks[at].let_go()
+        thread.join(60)
+    assert [it.kept for it in server.past.sessions] == [{}, {"scope": "test_0"}, {"scope": "test_1"}]
+
+
+def test_a_worker_that_was_idle_for_something_else_did_not_wait(server: Server) -> None:
+    desk = desk_of(server, "gw0")
+    for is_before, kept in (True, {"supply": "test_before"}), (False, {}):
+        desk.hold("test_before", [("supply",)], None)
+        # (since before it was let go, or behind that)
+        before = server.past.now()
+        desk.let_go()
+        since = before if is_before else server.past.now()
+        server.dealt["test_it"] = Dealt(since, ("supply", "scope"))
+        time.sleep(0.1)
+        desk.hold("test_it", [("supply", "scope")], None)
+        desk.let_go()
+        held = server.past.sessions[-1]
+        assert held.kept == kept and (held.asked == since) == is_before and held.asked >= since
 
 
 def test_a_connection_that_ends_lets_go(server: Server) -> None:
