@@ -157,10 +157,11 @@ class Held:
         self.lab._may_go_on()
         if self.state in ("waiting", "held"):
             raise Entered(f"the session is {self.state} already: it is entered once")
+        coming = Coming(self, bool(self._ticket))
         self._wish.ticket, self._ticket = self._ticket or secrets.token_urlsafe(), ""
         self._taken, self.state = None, "waiting"
         try:
-            self._holds(*await Coming(self).holds())
+            self._holds(*await coming.holds())
         except BaseException:
             self.state = "withdrawn"
             raise

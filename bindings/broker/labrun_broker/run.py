@@ -200,7 +200,7 @@ def holds(args: argparse.Namespace, wish: Wish, waits: Waits, signals: Signals, 
             # (the whole client would find out no more, and begins late)
             raise type(fault)(unreached(address, str(fault))) from None
         except Odd:
-            was_there, ticket = tried[0].wire.was_there, tried[0].ticket
+            was_there, ticket = tried[0].wire.was_there, tried[0].ticket if tried[0].has_asked else ""
     lab = ends.enter_context(connects(was_there))
     held = lab.hold(*wish.instruments, any_of=wish.any_of, waits=waits, limit=wish.limit, urgent=wish.urgent)
     held.on_lacking = within.lacks
