@@ -148,6 +148,7 @@ class Lab:
         """A session that holds on a stream which is of another client, or was cut."""
         held = Held(self, pb.Wish(instruments=of.instruments, ticket=ticket, by=self.by, wants_warning=True), None, None)
         held.station, held.number, held.token = of.station, of.number, of.token
+        held.on_taken, held.on_warning = of._is_taken, of._is_warned
         self._run(held._resumes(waits))
         return held
 

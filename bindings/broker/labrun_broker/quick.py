@@ -187,8 +187,7 @@ class Quick:
 
     def _comes_back(self, waits: bool) -> None:
         self._whole = self._connects(True)._resumed(self, self.ticket, waits)
-        self._whole.on_taken, self.is_released_if_gone = self._is_taken, self._whole.is_released_if_gone
-        self._whole.on_warning = self._is_warned
+        self.is_released_if_gone = self._whole.is_released_if_gone
 
 
 def _fault(of: Fields) -> Exception:
