@@ -223,7 +223,7 @@ class Lab:
             raise why from None
 
     def _why_lost(self, code: Any, text: str) -> Exception:
-        return why_lost(self.address, code, text, self._certificate is None and not self._was_there)
+        return why_lost(self.address, code, text, self._certificate is None and not self._was_there, self._certificate)
 
     def _is_left(self, span: float) -> bool:
         """Whether whoever waits no longer has told the broker so, and was answered, in so many seconds."""

@@ -19,6 +19,7 @@ import grpc
 from .bay import BadAddress, is_here
 from .credentials import is_token
 from .sockets import check_group, clear, family_of, parsed, tls_of
+from .validity import outdated
 from .words import reading
 
 
@@ -49,6 +50,14 @@ class Door:
         if self.certificate is None or self.key is None:
             return None
         return tls_of(self.certificate, self.key)
+
+    def complaints(self) -> list[str]:
+        """What whoever looks after the broker should know of its certificate."""
+        if self.certificate is None:
+            return []
+        with open(self.certificate, "rb") as file:
+            its = outdated(file.read())
+        return [] if its is None else [f"--tls-certificate {self.certificate}: it {its.why}, and clients of the network refuse it; start the broker again with another one"]
 
     def credentials(self) -> Any:
         # (gRPC would say in thirty lines what is wrong with them)

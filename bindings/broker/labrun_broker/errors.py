@@ -5,7 +5,7 @@ from __future__ import annotations
 import grp
 import os
 import re
-from typing import Any, Callable
+from typing import Any, Callable, Optional
 
 import grpc
 import labrun
@@ -98,14 +98,14 @@ def raised(fault: Any) -> Exception:
     return KINDS.get(fault.kind, BrokerError)(fault.text)
 
 
-CLOSED = "it closed the connection"
+CLOSED, ANOTHER = "it closed the connection", "it has another certificate than --certificate says"
 # of whom no word comes
 SILENT = "(it is stopped, or the network is cut)"
 # what gRPC says where it can't connect, and what that means; first what is so however often it is tried, then where somebody listens
 FOR_GOOD = {
     "wrong version number": "it has no TLS: come without --certificate",
     "not in peer certificate": "its certificate is for another name: call it by that",
-    "certificate verify failed": "it has another certificate than --certificate says",
+    "certificate verify failed": ANOTHER,
     "http1.x server": HTTP_THERE,
 }
 IS_THERE = {"Socket closed": CLOSED, "Connection reset by peer": CLOSED, **FOR_GOOD}
@@ -147,12 +147,23 @@ def plainly(address: str, text: str, may_want_tls: bool) -> str:
 NO_MORE = "it doesn't answer any more"
 
 
-def why_lost(address: str, code: Any, text: str, may_want_tls: bool = False) -> Exception:
-    """`may_want_tls`: it was never reached, and without a certificate."""
+def _another(certificate: bytes) -> str:
+    """(gRPC says of one that has expired no more than of any other.)"""
+    from .validity import outdated
+
+    if (its := outdated(certificate)) is None:
+        return ANOTHER
+    new = "make another one for the broker, and give it to its clients"
+    return f"the certificate in --certificate {its.why}: {new}" if its.are_all else f"{ANOTHER}, or the one there that {its.why}"
+
+
+def why_lost(address: str, code: Any, text: str, may_want_tls: bool = False, certificate: Optional[bytes] = None) -> Exception:
+    """`may_want_tls`: it was never reached, and without a certificate. `certificate` is by what the broker is known."""
     if code is grpc.StatusCode.DEADLINE_EXCEEDED:
         return AnswerLost(f"the broker at {address} doesn't answer {SILENT}")
     if code in (grpc.StatusCode.UNAVAILABLE, grpc.StatusCode.UNKNOWN, grpc.StatusCode.CANCELLED):
         why = plainly(address, text, may_want_tls)
+        why = _another(certificate) if why == ANOTHER and certificate is not None else why
         return (AnswerLost if why in (CLOSED, NO_MORE) else Unreachable)(unreached(address, why))
     if code in (grpc.StatusCode.UNAUTHENTICATED, grpc.StatusCode.RESOURCE_EXHAUSTED):
         return Unreachable(f"the broker at {address} doesn't let this client in: {text}")

@@ -36,7 +36,7 @@ STATUSES = (
     ("0", "done; `hold` gives the status of what it ran, or 128 and the number of the signal that ended it"),
     ("1", "the broker said no, as to a release of a station that holds nothing; `bay check` found faults"),
     (str(USAGE), "the words aren't right, or the bay has no instrument of that name"),
-    (str(NO_FILE), "the file of a bay, a token or a certificate can't be read, or that isn't in it; a state folder can't be read"),
+    (str(NO_FILE), "the file of a bay, a token, a certificate, a key or a password can't be read, or that isn't in it; a state folder can't be read"),
     (str(UNREACHABLE), "the broker can't be reached, or doesn't let this client in; of `hold`, the command may have run"),
     (str(NOT_WRITTEN), "the broker couldn't write down what it did; of `hold`, the command may have run"),
     (str(TIMED_OUT), "the time limit passed; nothing was run"),

@@ -147,6 +147,9 @@ class Standing(OnEtcd):
         self.brokers[0].process.send_signal(signal.SIGCONT)
         self.assertEqual(self.brokers[0].process.wait(LIMIT), 74)
         self.brokers[0].says("labrun-broker: ends: ")
+        # (etcd answered all the time)
+        whys = (f"nothing was heard from etcd for {LEASE} s: it doesn't answer, or this broker was stopped", "its lease is over", "it leads no more")
+        self.assertIn(self.brokers[0].said[-1], [f"labrun-broker: ends: {it}" for it in whys])
 
 
 @unittest.skipUnless(shutil.which("etcd") and shutil.which("etcdctl") and shutil.which("openssl"), "there is no etcd, or etcdctl, or openssl")
@@ -248,6 +251,9 @@ class Faults(unittest.TestCase):
                 self.assertEqual(status_of(refused, sessions, is_fault, is_safe), status)
 
 
+FILES = (("--etcd-ca",), ("--etcd-cert", "--etcd-key", "FOLDER/bay.toml"), ("--etcd-key", "--etcd-cert", "FOLDER/bay.toml"), ("--etcd-password-file", "--etcd-user", "ann"))
+
+
 class Words(unittest.TestCase):
     def says(self, *words: str) -> tuple[int, str]:
         with tempfile.TemporaryDirectory() as folder:
@@ -258,12 +264,13 @@ class Words(unittest.TestCase):
                 file.write("a line\n")
             line = [*COMMAND, "serve", f"{folder}/bay.toml", "--listen", f"unix:{folder}/bay.sock", *(it.replace("FOLDER", folder) for it in words)]
             done = subprocess.run(line, capture_output=True, text=True, timeout=LIMIT)
-            return done.returncode, done.stderr
+            return done.returncode, done.stderr.replace(folder, "FOLDER")
 
     def test_faults(self) -> None:
         for words, status, text in (
             (("--etcd", "127.0.0.1:1", "--lease", "1"), 2, "whole seconds from 2 to 10"),
-            (("--etcd", "nowhere"), 78, "nowhere: unix:PATH or HOST:PORT is wanted"),
+            *((("--etcd", it), 78, f"--etcd {it.split(',')[-1]}: HOST:PORT is wanted") for it in ("nowhere", "unix:/tmp/x", "127.0.0.1:1,unix:/tmp:1", "http://")),
+            *((("--etcd", "127.0.0.1:1", it, "FOLDER/no", *more), 66, f"labrun-broker: {it} FOLDER/no: there is no such file\n") for it, *more in FILES),
             (("--etcd", "127.0.0.1:1", "--etcd-cert", "FOLDER/bay.toml"), 78, "--etcd-cert FILE --etcd-key FILE"),
             (("--etcd", "127.0.0.1:1", "--etcd-user", "ann"), 78, "--etcd-user NAME --etcd-password-file FILE"),
             (("--etcd", "127.0.0.1:1", "--state", "FOLDER/state"), 1, "a broker without --etcd kept it"),
