@@ -71,7 +71,9 @@ class Door:
         if (self.certificate is None) != (self.key is None):
             raise BadAddress("a certificate and its key belong together: --tls-certificate FILE --tls-key FILE")
         if (seen := self.seen()) is not None and (self.certificate is None or self.token_file is None and not self.has_people):
-            raise BadAddress(f"{seen} is seen by other machines: that takes a certificate and a token, --tls-certificate FILE --tls-key FILE --token-file FILE")
+            # (where each of the bay's people has a token, one for all lets nobody in)
+            what, more = ("a certificate", "") if self.has_people else ("a certificate and a token", " --token-file FILE")
+            raise BadAddress(f"{seen} is seen by other machines: that takes {what}, --tls-certificate FILE --tls-key FILE{more}")
 
     def seen_without_token(self, other: Door) -> Optional[str]:
         """Of this one and another, where only people have tokens."""

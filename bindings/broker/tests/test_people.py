@@ -256,6 +256,8 @@ class Doors(OnFolder):
         at = "0.0.0.0:7443"
         with self.assertRaisesRegex(BadAddress, "is seen by other machines"):
             Door((at,), "certificate", "key").check()
+        with self.assertRaisesRegex(BadAddress, "is seen by other machines: that takes a certificate, --tls-certificate FILE --tls-key FILE$"):
+            Door((at,), has_people=True).check()
         door = Door((at,), "certificate", "key", has_people=True)
         door.check()
         entrance = await self.entrance(PEOPLE, None, door.seen_without_token(Door(())))
