@@ -70,6 +70,8 @@ class Lab:
         self._leaving: set[asyncio.Task[None]] = set()
         self._loop = loop_of_this_process()
         self._process = os.getpid()
+        # it is called, once for each question, while no broker of a list answers
+        self._on_wait: Optional[Callable[[str], None]] = None
         self._was_there = self._is_closed = self._has_left = False
         self._run(self._open())
         atexit.register(self._at_exit)
@@ -167,7 +169,7 @@ class Lab:
 
     async def _watch(self) -> Any:
         self._may_go_on()
-        await self._brokers.looks(self._brokers.patience)
+        await self._brokers.looks(self._brokers.patience, self._on_wait)
         return self._methods["Watch"](pb.StatusWish(), metadata=self._metadata)
 
     async def _reads(self, call: Any) -> Any:
@@ -209,7 +211,7 @@ class Lab:
 
     async def _unary(self, name: str, wish: Any, within: Optional[float] = ANSWER) -> Any:
         self._may_go_on()
-        await self._brokers.looks(self._brokers.patience)
+        await self._brokers.looks(self._brokers.patience, self._on_wait)
         try:
             answer = await self._methods[name](wish, metadata=self._metadata, timeout=within)
             self._was_there = True

@@ -7,7 +7,7 @@ from typing import TYPE_CHECKING, Any, Coroutine, Optional
 
 from .errors import SILENT, AnswerLost, Unreachable, is_for_good, raised
 from .stream import AGAIN, LATE, Lost, Silent, Stream
-from .texts import span
+from .texts import none_answers
 from .work import clock
 
 if TYPE_CHECKING:
@@ -121,5 +121,5 @@ class Coming:
             raise why from None
         if self._lost_at is None and lab._brokers.is_list:
             left = patience if self._until is None else min(patience, self._until - now)
-            self._held._waits_for(f"none of the brokers {lab.address} answers; trying again for {span(left)}")
+            self._held._waits_for(none_answers(lab.address, left))
         await asyncio.sleep(PAUSE)

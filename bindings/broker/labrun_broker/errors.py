@@ -71,6 +71,10 @@ class CantChange(labrun.LabrunError):
     """The bay can't be as the file has it: somebody is in the way."""
 
 
+class StillHeld(labrun.JournalError):
+    """The bay doesn't open, because somebody holds what its file no longer has."""
+
+
 class NotAllowed(BrokerError):
     """Only the bay's operators may do that, or only whose session it is."""
 
@@ -128,13 +132,15 @@ def plainly(address: str, text: str, may_want_tls: bool) -> str:
         return f"a socket's path is written unix:{address}" if "/" in address else "unix:PATH or HOST:PORT is wanted"
     if not re.fullmatch(r"unix:.+|dns:.+|[^/]+:\d+", address) or int((re.search(r":(\d+)$", address) or ["", "0"])[1]) > 65535:
         return "unix:PATH or HOST:PORT is wanted, with a port of up to 65535"
-    text = re.sub(r"^failed to connect to all addresses; last error: \w+: (?:ipv[46]|unix):\S+: ", "", text)
+    text = re.sub(r"^failed to connect to all addresses; last error: \w+: (?:ipv[46]|unix):\S+: (?:Failed to connect to remote host: )?", "", text)
     text = next((hint for told, hint in HINTS.items() if told in text), text)
     if text.startswith("recvmsg:"):
         # (there was a connection)
         return NO_MORE
     if text == CLOSED and may_want_tls and not address.startswith("unix:"):
         return f"{text} (a broker with TLS wants --certificate FILE)"
+    if text == "Connection refused" and re.fullmatch(r"[^/,]+:\d+", address) and not address.startswith("unix:"):
+        return f"{text} (no broker runs there, or it stands by for another one: name all of them, with commas between)"
     if text == "permission denied" and address.startswith("unix:"):
         try:
             group = grp.getgrgid(os.stat(address.removeprefix("unix:")).st_gid).gr_name

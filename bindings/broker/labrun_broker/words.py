@@ -42,7 +42,7 @@ STATUSES = (
     (str(TIMED_OUT), "the time limit passed; nothing was run"),
     (str(TAKEN), "the session was taken away while the command ran, which got SIGTERM"),
     (str(MAY_NOT), "the station, a guest or you may not use one of the instruments, or only operators may do that"),
-    (str(NO_BAY), "the bay's file has faults, or the broker may not listen there"),
+    (str(NO_BAY), "the bay's file has faults, or lacks what somebody holds; or the broker may not listen there"),
     (f"{CANT_RUN}, {NOT_FOUND}", "what `hold` was to run can't be run, or isn't there"),
     (str(INTERRUPTED), "Ctrl-C"),
 )
@@ -106,4 +106,6 @@ def lab_of(args: argparse.Namespace, station: str = "", by: Optional[str] = None
     os.environ.setdefault("GRPC_ENABLE_FORK_SUPPORT", "0")
     from .client import lab_at
 
-    return lab_at(args.broker, station, by, token, certificate)
+    lab = lab_at(args.broker, station, by, token, certificate)
+    lab._on_wait = lambda text: say(f"waits: {text}")
+    return lab

@@ -3,6 +3,8 @@
 from __future__ import annotations
 
 import argparse
+import contextlib
+import io
 import json
 import os
 import shutil
@@ -18,6 +20,7 @@ from unittest import mock
 
 import labrun_broker
 from labrun_broker import finding
+from labrun_broker.command import main
 from labrun_broker.errors import Unreachable
 from labrun_broker.etcd import EtcdError, NoAnswer, put
 from labrun_broker.standby import add_etcd, etcd_of, listens_at
@@ -227,6 +230,24 @@ class Lists(unittest.TestCase):
         self.assertTrue(1.0 < time.monotonic() - begun < SOON)
         self.assertRegex(said[0], "^none of the brokers 127.0.0.1:.* answers; trying again for 1 s$")
 
+    def test_a_question_that_none_answers(self) -> None:
+        """Each word of the command says, before it is over, that it tries, and for how long."""
+        at = f"127.0.0.1:{free_port()},127.0.0.1:{free_port()}"
+        tries = f"labrun-broker: waits: none of the brokers {at} answers; trying again for "
+        for words in (["status"], ["top"], ["release", "board"], ["disable", "scope"]):
+            with self.subTest(words), mock.patch.object(finding, "FAILOVER", 2.0), contextlib.redirect_stderr(io.StringIO()) as said:
+                self.assertEqual(main([*words, "--broker", at]), 69)
+                self.assertRegex(said.getvalue(), rf"^{tries}[12] s\nlabrun-broker: the broker at {at} can't be reached: Connection refused\n$")
+
+    def test_one_that_may_stand_by(self) -> None:
+        at = f"127.0.0.1:{free_port()}"
+        with labrun_broker.connect(at) as lab:
+            for asks in (lab.status, lab.hold("scope").acquire):
+                with self.assertRaises(Unreachable) as fault:
+                    asks()
+                why = "Connection refused (no broker runs there, or it stands by for another one: name all of them, with commas between)"
+                self.assertEqual(str(fault.exception), f"the broker at {at} can't be reached: {why}")
+
     def test_none_answers_in_time(self) -> None:
         """Who wants to wait for a shorter time isn't told of a longer one."""
         said = list[str]()
@@ -234,6 +255,10 @@ class Lists(unittest.TestCase):
             with mock.patch.object(finding, "FAILOVER", 30.0), self.assertRaises(Unreachable):
                 lab.hold("scope", waits=said.append, timeout=2.0).acquire()
         self.assertRegex(said[0], "^none of the brokers 127.0.0.1:.* answers; trying again for [0-2] s$")
+        at = f"127.0.0.1:{free_port()},127.0.0.1:{free_port()}"
+        with mock.patch.object(finding, "FAILOVER", 30.0), contextlib.redirect_stderr(io.StringIO()) as told:
+            self.assertEqual(main(["hold", "scope", "--timeout", "2", "--broker", at, "--", "true"]), 69)
+        self.assertRegex(told.getvalue(), f"^labrun-broker: waits: none of the brokers {at} answers; trying again for [0-2] s\n")
 
 
 class Faults(unittest.TestCase):
