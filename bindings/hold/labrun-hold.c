@@ -269,7 +269,7 @@ static int came;
 static pid_t command;
 static int status = -1;
 static unsigned long long since;
-static bool were_sent, is_taken, is_telling, is_untold;
+static bool were_sent, is_taken, is_let_in = true, is_telling, is_untold;
 static double says_at = INFINITY; /* when it is said that the command goes on after a signal */
 
 /* Seconds, by a clock that goes on while the machine sleeps. */
@@ -929,6 +929,7 @@ static void is_answered(struct talk *it, double *next) {
         *next = it->at + 0.1;
     } else if (answer == 404 || answer == 410 || answer == 401) { /* (401: this client isn't let in any more) */
         char *why = text_of(value_of(body_of(it), "text"));
+        is_let_in = answer != 401;
         taken(why);
         free(why);
     }
@@ -985,6 +986,14 @@ static void works(void) {
     }
     hang_up(&it);
     free(rest.at);
+}
+
+/* The status to end with, where the broker lets this client in no more and keeps what it holds. */
+static int kept(int ended) {
+    say("the command ran, and ended with status %d, but:", ended);
+    say("the session may go on holding, as `labrun-broker status` says, until %s",
+        isnan(held.lease) ? "an operator releases it" : "the broker releases it (gone = \"release\")");
+    return UNREACHABLE;
 }
 
 /* The status to end with. The broker is told for a minute, and no signal keeps it from that unless it is late. */
@@ -1191,7 +1200,7 @@ int main(int count, char **words) {
         found = starts();
         if (found == 0) {
             works();
-            found = is_taken ? TAKEN : status;
+            found = !is_taken ? status : is_let_in ? TAKEN : kept(status);
         }
         if (!is_taken)
             found = lets_go(found);

@@ -16,7 +16,7 @@ from labrun import LabrunError
 from . import outage, over, turning, wishes
 from .bay import Bay
 from .crossing import Crossing
-from .errors import BadWish
+from .errors import BadWish, StillHeld
 from .folder import JOURNAL
 from .journals import sessions_of
 from .keeping import Keeping
@@ -266,7 +266,7 @@ def _of_one(name: str, says: Callable[[str], None]) -> Callable[[str], None]:
 
 
 def _looks_at(state: str, bays: Iterable[str]) -> None:
-    """LabrunError: somebody may still hold in a journal that nobody opens, what is free by all that are opened."""
+    """LabrunError, or StillHeld: somebody may still hold in a journal that nobody opens, what is free by all that are opened."""
     if os.path.exists(f"{state}/{JOURNAL}"):
         raise LabrunError(f"{state}: the journal of one bay is there ({JOURNAL}): move all that is in the folder to a folder below it, called as the bay is")
     its = set(bays)
@@ -274,7 +274,7 @@ def _looks_at(state: str, bays: Iterable[str]) -> None:
         if name in its or not os.path.exists(path := f"{state}/{name}/{JOURNAL}"):
             continue
         if held := _still_holds(path):
-            raise LabrunError(f"{state}/{name}: {held} still hold there, and the lab has no bay {name}: begin with it once more, until that is over")
+            raise StillHeld(f"{state}/{name}", f"{held} still hold there, and the lab has no bay {name}: begin with it once more, until that is over")
 
 
 def _still_holds(path: str) -> str:

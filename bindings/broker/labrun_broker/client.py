@@ -70,6 +70,8 @@ class Lab:
         self._leaving: set[asyncio.Task[None]] = set()
         self._loop = loop_of_this_process()
         self._process = os.getpid()
+        # it is called, once for each question, while no broker of a list answers
+        self._on_wait: Optional[Callable[[str], None]] = None
         self._was_there = self._is_closed = self._has_left = False
         self._run(self._open())
         atexit.register(self._at_exit)
@@ -148,6 +150,7 @@ class Lab:
         """A session that holds on a stream which is of another client, or was cut."""
         held = Held(self, pb.Wish(instruments=of.instruments, ticket=ticket, by=self.by, wants_warning=True), None, None)
         held.station, held.number, held.token = of.station, of.number, of.token
+        held.on_taken, held.on_warning = of._is_taken, of._is_warned
         self._run(held._resumes(waits))
         return held
 
@@ -166,7 +169,7 @@ class Lab:
 
     async def _watch(self) -> Any:
         self._may_go_on()
-        await self._brokers.looks(self._brokers.patience)
+        await self._brokers.looks(self._brokers.patience, self._on_wait)
         return self._methods["Watch"](pb.StatusWish(), metadata=self._metadata)
 
     async def _reads(self, call: Any) -> Any:
@@ -208,7 +211,7 @@ class Lab:
 
     async def _unary(self, name: str, wish: Any, within: Optional[float] = ANSWER) -> Any:
         self._may_go_on()
-        await self._brokers.looks(self._brokers.patience)
+        await self._brokers.looks(self._brokers.patience, self._on_wait)
         try:
             answer = await self._methods[name](wish, metadata=self._metadata, timeout=within)
             self._was_there = True
@@ -222,7 +225,7 @@ class Lab:
             raise why from None
 
     def _why_lost(self, code: Any, text: str) -> Exception:
-        return why_lost(self.address, code, text, self._certificate is None and not self._was_there)
+        return why_lost(self.address, code, text, self._certificate is None and not self._was_there, self._certificate)
 
     def _is_left(self, span: float) -> bool:
         """Whether whoever waits no longer has told the broker so, and was answered, in so many seconds."""

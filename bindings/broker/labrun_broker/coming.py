@@ -8,14 +8,14 @@ from typing import TYPE_CHECKING, Any, Coroutine, Optional
 
 from .errors import AnswerLost, Unreachable, is_for_good, plainly, raised
 from .stream import AGAIN, LATE, Lost, Silent, Stream
-from .texts import SILENT, span
+from .texts import SILENT, none_answers
 from .wire import FIRST
 from .work import clock
 
 if TYPE_CHECKING:
     from .held import Held
 
-MAY_HOLD = "the session may hold all the same: see `labrun-broker status`"
+MAY_HOLD = "the session may hold all the same: if `labrun-broker status` shows it as gone, end it by `labrun-broker release`"
 # for how long a client tries to reach a broker again that it waits for
 GRACE = 60.0
 PAUSE = 0.1  # between such tries
@@ -25,15 +25,17 @@ BEATS = 6
 
 
 class Coming:
-    """A session that asks until it holds."""
+    """A session that asks until it holds. `may_hold`: another client has asked for it, and was told nothing."""
 
-    def __init__(self, held: Held) -> None:
+    def __init__(self, held: Held, may_hold: bool = False) -> None:
         self._held, self._lab, self._loop = held, held.lab, asyncio.get_running_loop()
         self._until = None if held.timeout is None else self._loop.time() + held.timeout
         # until when a new client tries one that is there, and says nothing
         self._first_until = self._loop.time() + FIRST
         # since when the broker can't be reached
         self._lost_at: Optional[float] = None
+        # whether a wish was lost that a broker may have written down: then whoever keeps its journal now has the session
+        self._may_hold = may_hold
 
     async def holds(self) -> tuple[Stream, Any, float]:
         """The stream on which it holds, what the broker said, and when that was asked."""
@@ -44,6 +46,10 @@ class Coming:
             while (found := await self._tries()) is None:
                 self._lost_at = self._lost_at or self._loop.time()
             return found
+        except Unreachable as fault:
+            if not self._may_hold:
+                raise
+            raise AnswerLost(f"{fault}; {MAY_HOLD}") from None
         except asyncio.CancelledError:
             # (it may be the lab's end that ended it)
             self._lab._may_go_on()
@@ -75,13 +81,15 @@ class Coming:
                 sent = await stream.keeps(self._until)
         except Lost as lost:
             self._held._raises_taken()
+            self._may_hold = self._may_hold or stream.has_asked and lost.code in AGAIN
             # (one that was idle may be of a broker that is gone)
             if is_new:
                 await self._pauses(lost)
             return None
         except Silent:
             await stream.gives_up(0)
-            raise Unreachable(f"{self._no_answer()}. Nothing is held: the wish is withdrawn, should it go on") from None
+            withdrawn = "" if self._may_hold else ". Nothing is held: the wish is withdrawn, should it go on"
+            raise Unreachable(f"{self._no_answer()}{withdrawn}") from None
         except asyncio.CancelledError:
             await stream.gives_up()
             raise
@@ -117,8 +125,9 @@ class Coming:
         if lost.code not in AGAIN or is_for_good(str(lost)) or not patience or is_over:
             why = lab._why_lost(lost.code, str(lost))
             # (who closes each connection at once has heard nothing)
-            raise AnswerLost(f"{why}; {MAY_HOLD}") if isinstance(why, AnswerLost) and lab._was_there else why from None
+            self._may_hold = self._may_hold or isinstance(why, AnswerLost) and lab._was_there
+            raise why from None
         if self._lost_at is None and lab._brokers.is_list:
             left = patience if self._until is None else min(patience, self._until - now)
-            self._held._waits_for(f"none of the brokers {lab.address} answers; trying again for {span(left)}")
+            self._held._waits_for(none_answers(lab.address, left))
         await asyncio.sleep(PAUSE)

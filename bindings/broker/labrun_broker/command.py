@@ -24,7 +24,7 @@ if TYPE_CHECKING:
 
 # the status of each error, by its name, or by that of the first of its kinds: it is looked up without importing what has it
 ENDS = {"TimeoutError": TIMED_OUT, "TakenAway": TAKEN, "MayNotUse": MAY_NOT, "NotAllowed": MAY_NOT, "Unreachable": UNREACHABLE, "JournalError": NOT_WRITTEN}
-ENDS |= {"Absent": UNREACHABLE, "NoBroker": UNREACHABLE, "NoFile": NO_FILE, "NoBayFile": NO_FILE, "NoInstrument": USAGE, "Itself": USAGE, "BayFault": NO_BAY}
+ENDS |= {"Absent": UNREACHABLE, "NoBroker": UNREACHABLE, "NoFile": NO_FILE, "NoBayFile": NO_FILE, "NoInstrument": USAGE, "Itself": USAGE, "BayFault": NO_BAY, "StillHeld": NO_BAY}
 ENDS |= {"BadAddress": NO_BAY, "LabrunError": 1, "OSError": 1, "ValueError": 1}
 
 # ---- how it stands
@@ -197,6 +197,8 @@ def run_bay(args: argparse.Namespace) -> int:
         with reading(args.bay):
             read = read_any(args.bay)
     except BayFault as fault:
+        if args.what == "apply" and isinstance(fault, NoBayFile):
+            raise
         print(fault, file=sys.stderr)
         return NO_FILE if isinstance(fault, NoBayFile) else 1
     if args.what == "apply":

@@ -19,6 +19,7 @@ import grpc
 from .bay import BadAddress, is_here
 from .credentials import is_token
 from .sockets import check_group, clear, family_of, parsed, tls_of
+from .validity import outdated
 from .words import reading
 
 
@@ -50,6 +51,14 @@ class Door:
             return None
         return tls_of(self.certificate, self.key)
 
+    def complaints(self) -> list[str]:
+        """What whoever looks after the broker should know of its certificate."""
+        if self.certificate is None:
+            return []
+        with open(self.certificate, "rb") as file:
+            its = outdated(file.read())
+        return [] if its is None else [f"--tls-certificate {self.certificate}: it {its.why}, and clients of the network refuse it; start the broker again with another one"]
+
     def credentials(self) -> Any:
         # (gRPC would say in thirty lines what is wrong with them)
         if self.tls() is None or self.certificate is None or self.key is None:
@@ -62,7 +71,9 @@ class Door:
         if (self.certificate is None) != (self.key is None):
             raise BadAddress("a certificate and its key belong together: --tls-certificate FILE --tls-key FILE")
         if (seen := self.seen()) is not None and (self.certificate is None or self.token_file is None and not self.has_people):
-            raise BadAddress(f"{seen} is seen by other machines: that takes a certificate and a token, --tls-certificate FILE --tls-key FILE --token-file FILE")
+            # (where each of the bay's people has a token, one for all lets nobody in)
+            what, more = ("a certificate", "") if self.has_people else ("a certificate and a token", " --token-file FILE")
+            raise BadAddress(f"{seen} is seen by other machines: that takes {what}, --tls-certificate FILE --tls-key FILE{more}")
 
     def seen_without_token(self, other: Door) -> Optional[str]:
         """Of this one and another, where only people have tokens."""

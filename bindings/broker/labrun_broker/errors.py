@@ -5,7 +5,7 @@ from __future__ import annotations
 import grp
 import os
 import re
-from typing import Any, Callable
+from typing import Any, Callable, Optional
 
 import grpc
 import labrun
@@ -71,6 +71,10 @@ class CantChange(labrun.LabrunError):
     """The bay can't be as the file has it: somebody is in the way."""
 
 
+class StillHeld(labrun.JournalError):
+    """The bay doesn't open, because somebody holds what its file no longer has."""
+
+
 class NotAllowed(BrokerError):
     """Only the bay's operators may do that, or only whose session it is."""
 
@@ -98,12 +102,12 @@ def raised(fault: Any) -> Exception:
     return KINDS.get(fault.kind, BrokerError)(fault.text)
 
 
-CLOSED, ENDED = "it closed the connection", "it has ended"
+CLOSED, ENDED, ANOTHER = "it closed the connection", "it has ended", "it has another certificate than --certificate says"
 # what gRPC says where it can't connect, and what that means; first what is so however often it is tried, then where somebody listens
 FOR_GOOD = {
     "wrong version number": "it has no TLS: come without --certificate",
     "not in peer certificate": "its certificate is for another name: call it by that",
-    "certificate verify failed": "it has another certificate than --certificate says",
+    "certificate verify failed": ANOTHER,
     "http1.x server": HTTP_THERE,
 }
 IS_THERE = {"Socket closed": CLOSED, "Connection reset by peer": CLOSED, **FOR_GOOD}
@@ -127,13 +131,15 @@ def plainly(address: str, text: str, may_want_tls: bool) -> str:
         return f"a socket's path is written unix:{address}" if "/" in address else "unix:PATH or HOST:PORT is wanted"
     if not re.fullmatch(r"unix:.+|dns:.+|[^/]+:\d+", address) or int((re.search(r":(\d+)$", address) or ["", "0"])[1]) > 65535:
         return "unix:PATH or HOST:PORT is wanted, with a port of up to 65535"
-    text = re.sub(r"^failed to connect to all addresses; last error: \w+: (?:ipv[46]|unix):\S+: ", "", text)
+    text = re.sub(r"^failed to connect to all addresses; last error: \w+: (?:ipv[46]|unix):\S+: (?:Failed to connect to remote host: )?", "", text)
     text = next((hint for told, hint in HINTS.items() if told in text), text)
     if text.startswith("recvmsg:"):
         # (there was a connection)
         return NO_MORE
     if text == CLOSED and may_want_tls and not address.startswith("unix:"):
         return f"{text} (a broker with TLS wants --certificate FILE)"
+    if text == "Connection refused" and re.fullmatch(r"[^/,]+:\d+", address) and not address.startswith("unix:"):
+        return f"{text} (no broker runs there, or it stands by for another one: name all of them, with commas between)"
     if text == "permission denied" and address.startswith("unix:"):
         try:
             group = grp.getgrgid(os.stat(address.removeprefix("unix:")).st_gid).gr_name
@@ -146,12 +152,23 @@ def plainly(address: str, text: str, may_want_tls: bool) -> str:
 NO_MORE = "it doesn't answer any more"
 
 
-def why_lost(address: str, code: Any, text: str, may_want_tls: bool = False) -> Exception:
-    """`may_want_tls`: it was never reached, and without a certificate."""
+def _another(certificate: bytes) -> str:
+    """(gRPC says of one that has expired no more than of any other.)"""
+    from .validity import outdated
+
+    if (its := outdated(certificate)) is None:
+        return ANOTHER
+    new = "make another one for the broker, and give it to its clients"
+    return f"the certificate in --certificate {its.why}: {new}" if its.are_all else f"{ANOTHER}, or the one there that {its.why}"
+
+
+def why_lost(address: str, code: Any, text: str, may_want_tls: bool = False, certificate: Optional[bytes] = None) -> Exception:
+    """`may_want_tls`: it was never reached, and without a certificate. `certificate` is by what the broker is known."""
     if code is grpc.StatusCode.DEADLINE_EXCEEDED:
         return AnswerLost(f"the broker at {address} doesn't answer {SILENT}")
     if code in (grpc.StatusCode.UNAVAILABLE, grpc.StatusCode.UNKNOWN, grpc.StatusCode.CANCELLED):
         why = plainly(address, text, may_want_tls)
+        why = _another(certificate) if why == ANOTHER and certificate is not None else why
         return (AnswerLost if why in (CLOSED, NO_MORE, ENDED) else Unreachable)(unreached(address, why))
     if code in (grpc.StatusCode.UNAUTHENTICATED, grpc.StatusCode.RESOURCE_EXHAUSTED):
         return Unreachable(f"the broker at {address} doesn't let this client in: {text}")

@@ -8,6 +8,7 @@ from typing import Any, Callable, Optional, Sequence
 import grpc
 
 from .errors import IS_THERE, is_for_good
+from .texts import none_answers
 
 READY, FAILS = grpc.ChannelConnectivity.READY, grpc.ChannelConnectivity.TRANSIENT_FAILURE
 LOOKS, PAUSE = 2.0, 0.1  # seconds: for so long at most all are tried at once; and between two such tries
@@ -53,12 +54,15 @@ class Brokers:
         """For how long it is worth while to wait for one, if none has answered yet."""
         return FAILOVER if self.is_list else 0.0
 
-    async def looks(self, patience: float = 0.0) -> None:
-        """Another is asked if that of now isn't there, and one is. It tries for so long."""
+    async def looks(self, patience: float = 0.0, says: Optional[Callable[[str], None]] = None) -> None:
+        """Another is asked if that of now isn't there, and one is. It tries for so long, and says so once."""
         until = asyncio.get_running_loop().time() + patience
         while self.is_list and self._channels[self._at].get_state() is not READY:
-            if await self._tries_all() or asyncio.get_running_loop().time() >= until:
+            if await self._tries_all() or (left := until - asyncio.get_running_loop().time()) <= 0:
                 return
+            if says is not None:
+                says(none_answers(",".join(self._addresses), left))
+                says = None
             await asyncio.sleep(PAUSE)
 
     async def _tries_all(self) -> bool:

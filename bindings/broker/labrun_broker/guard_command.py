@@ -196,7 +196,7 @@ async def hears(its: dict[str, Guard], lab: Lab, args: argparse.Namespace) -> No
                     guard.is_told = True
                     guard.told(Holder(it.token, it.ticket_hash, who, it.host if it.HasField("host") else None) if it.token else None)
         except grpc.aio.AioRpcError as fault:
-            why = str(why_lost(lab.address, fault.code(), str(fault.details())))
+            why = str(why_lost(lab.address, fault.code(), str(fault.details()), certificate=lab._certificate))
             if (text := seldom.text(why, why)) is not None:
                 say(plain(text))
         for guard in its.values():

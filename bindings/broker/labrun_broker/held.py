@@ -163,10 +163,11 @@ class Held:
         self.lab._may_go_on()
         if self.state != "new":
             raise Entered(f"{self._called} is {self.state}: it is entered once")
+        coming = Coming(self, bool(self._ticket))
         self._wish.ticket, self._ticket = self._ticket or secrets.token_urlsafe(), ""
         self.state = "waiting"
         try:
-            self._holds(*await Coming(self).holds())
+            self._holds(*await coming.holds())
         except BaseException:
             self.state = "withdrawn"
             raise

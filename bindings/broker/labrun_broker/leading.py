@@ -204,7 +204,8 @@ class Leading:
         while not self._over.is_set():
             begun = clock()
             if begun >= self._sure_until:
-                return self._loses(f"etcd hasn't answered for {self.seconds} s")
+                # (which of the two, it can't know)
+                return self._loses(f"nothing was heard from etcd for {self.seconds} s: it doesn't answer, or this broker was stopped")
             try:
                 left = self.etcd.keeps_alive(self.lease, max(0.05, min(self.seconds / 2, self._sure_until - begun)))
                 if not left:

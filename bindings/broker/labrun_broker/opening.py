@@ -12,6 +12,7 @@ from labrun.machine import ANOTHER, MAY_NOT, NEVER, UNSOUND, Machine, Refusal, T
 
 from . import shell
 from .bay import Bay
+from .errors import StillHeld
 from .folder import State
 from .journals import Left, sessions_of
 from .places import Places, longest, mark_of
@@ -84,7 +85,7 @@ class Opened:
             return Machine(self.places.classes(self.bay), terms, text, self.first)
         except Refusal as it:
             path = "" if self.state is None else self.state.store.path
-            raise labrun.JournalError(path, self._why(it)) from None
+            raise (StillHeld if it.status == MAY_NOT else labrun.JournalError)(path, self._why(it)) from None
 
     def _why(self, it: Refusal) -> str:
         if it.status == UNSOUND:

@@ -58,7 +58,7 @@ class Quick:
         # where the guards of its instruments are
         self.guards: dict[str, str] = {}
         self._taken: Any = None
-        self._has_asked = self._is_over = self._is_let_go = False
+        self.has_asked = self._is_over = self._is_let_go = False
         self._whole: Optional[Held] = None
         # what the broker answers while it holds
         self._answers: SimpleQueue[tuple[int, Fields]] = SimpleQueue()
@@ -90,7 +90,7 @@ class Quick:
     def _holds(self) -> None:
         try:
             self.wire.is_answered()
-            self._has_asked = True
+            self.has_asked = True
             self.wire.asks(WISH, _wish(self._wish, self.ticket, self._waits is not None))
             while (told := self.wire.told())[0] == WAITS:
                 if self.on_lacking is not None:
@@ -126,7 +126,7 @@ class Quick:
 
     def _gives_up(self) -> None:
         """It leaves the line; if it came to hold just now, it lets go. Whoever has asked nothing yet has nothing to tell."""
-        if not self._has_asked:
+        if not self.has_asked:
             return
         self.wire.is_unlimited()
         self.wire.is_leaving = True
@@ -189,8 +189,7 @@ class Quick:
 
     def _comes_back(self, waits: bool) -> None:
         self._whole = self._connects(True)._resumed(self, self.ticket, waits)
-        self._whole.on_taken, self.is_released_if_gone = self._is_taken, self._whole.is_released_if_gone
-        self._whole.on_warning = self._is_warned
+        self.is_released_if_gone = self._whole.is_released_if_gone
 
 
 def _fault(of: Fields) -> Exception:

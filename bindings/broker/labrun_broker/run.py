@@ -11,7 +11,7 @@ import signal
 import subprocess
 import threading
 import time
-from typing import TYPE_CHECKING, Callable, Iterator, Optional, TypeVar, Union
+from typing import TYPE_CHECKING, Any, Callable, Iterator, Optional, TypeVar, Union
 
 from .credentials import DEFAULT, user
 from .family import TELLING, Family, adopting, ends
@@ -107,11 +107,14 @@ def lets_go(held: Union[Quick, Held], status: int, signals: Signals, ends: conte
         # (whatever is closed now might try to tell the broker once more)
         ends.pop_all()
         if not isinstance(fault, GivenUp):
-            say(f"the command ran, and ended with status {status}, but:")
-            if isinstance(fault, ConnectionError):
-                raise type(fault)(f"{fault}\n{MAY_HOLD}") from None
-            raise
+            raise as_told(status, fault) from None
         say(f"the broker wasn't told, as far as is known here: {MAY_HOLD}")
+
+
+def as_told(status: int, fault: BaseException, until: str = "") -> BaseException:
+    """Why the session wasn't ended properly, once it is said that the command ran."""
+    say(f"the command ran, and ended with status {status}, but:")
+    return type(fault)(f"{fault}\n{MAY_HOLD}{until}") if isinstance(fault, ConnectionError) else fault
 
 
 class Silence:
@@ -207,7 +210,7 @@ def holds(args: argparse.Namespace, wish: Wish, waits: Waits, signals: Signals, 
             # (the whole client would find out no more, and begins late)
             raise type(fault)(unreached(address, str(fault))) from None
         except Odd:
-            was_there, ticket = tried[0].wire.was_there, tried[0].ticket
+            was_there, ticket = tried[0].wire.was_there, tried[0].ticket if tried[0].has_asked else ""
     lab = ends.enter_context(connects(was_there))
 
     def wholly() -> Held:
@@ -227,7 +230,7 @@ def runs(command: list[str], held: Union[Quick, Held], signals: Signals, address
     """Runs a command, and gives its status. A session that is taken away ends it."""
     its = {"LABRUN_HELD": " ".join(held.instruments), "LABRUN_STATION": held.station, "LABRUN_TOKEN": str(held.token)}
     environment = {**ENVIRONMENT, **its, **more, "LABRUN_AROUND": around(address, held)}
-    taken: list[object] = []
+    taken: list[Any] = []
     try:
         signals.starts(command, environment, held.is_released_if_gone)
     except OSError as fault:
@@ -243,7 +246,12 @@ def runs(command: list[str], held: Union[Quick, Held], signals: Signals, address
     if not held.held and not taken:
         is_taken("the session is over")
     status = signals.wait()
-    return TAKEN if taken else status if status >= 0 else 128 - status
+    status = status if status >= 0 else 128 - status
+    if taken and isinstance(taken[0], ConnectionError):
+        # (it isn't taken away: the broker lets this client in no more, and keeps what it holds)
+        by = 'the broker releases it (gone = "release")' if held.is_released_if_gone else "an operator releases it"
+        raise as_told(status, taken[0], f", until {by}")
+    return TAKEN if taken else status
 
 
 # Becomes a command, which has SIGTERM once this process is dead, however that died. (Popen's `preexec_fn` would do it, too, but it forks this

@@ -81,6 +81,8 @@ async def serve(args: argparse.Namespace) -> int:
     its_door.check()
     by_http = dataclasses.replace(its_door, addresses=tuple(args.http))
     by_http.check()
+    # (before a state is opened, or etcd asked)
+    its_door.tls()
     end = the_end()
     # (while it begins, or stands by, there is no bay to be changed)
     asyncio.get_running_loop().add_signal_handler(signal.SIGHUP, lambda: None)
@@ -118,7 +120,7 @@ async def serve(args: argparse.Namespace) -> int:
         leads = "" if args.etcd is None else "leads: "
         say(f"{leads}{called(bay.what, bay.name)}: {of}{counted(len(bay.instruments), 'instrument')}, at {where}")
         lacking = [line for one in (lab.bays.values() if lab else (bay,)) for line in commands(one)]
-        for it in (*keeping.complaints, *entrance.complaints(), *lacking, *begins):
+        for it in (*keeping.complaints, *its_door.complaints(), *entrance.complaints(), *lacking, *begins):
             say(plain(it))
         keeping.says = lambda text: say(plain(text)[:MOST_TOLD]) if door.is_read() else None
         tell_systemd("READY=1\nSTATUS=")

@@ -13,7 +13,7 @@ import stat
 from typing import Callable, Iterator, Optional, Union
 
 from .bay import BadAddress
-
+from .words import reading
 
 # its owner and the group, or its owner alone
 THE_GROUP, ITS_USER = 0o117, 0o177
@@ -47,7 +47,10 @@ async def listens(at: tuple[str, int], new: Callable[[], asyncio.BaseProtocol], 
 
 
 def tls_of(certificate: str, key: str) -> ssl.SSLContext:
-    """BadAddress: these files are no certificate and its key."""
+    """NoFile; BadAddress: these files are no certificate and its key."""
+    for option, path in (("--tls-certificate", certificate), ("--tls-key", key)):
+        with reading(f"{option} {path}"), open(path, "rb"):
+            pass
     made = ssl.SSLContext(ssl.PROTOCOL_TLS_SERVER)
     try:
         made.load_cert_chain(certificate, key)

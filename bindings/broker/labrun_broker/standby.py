@@ -6,6 +6,7 @@ import argparse
 import asyncio
 import contextlib
 import os
+import re
 import socket
 import time
 from dataclasses import replace
@@ -15,7 +16,7 @@ from labrun import LabrunError
 
 from .bay import BadAddress, Bay, BayFault, read_bay
 from .sockets import parsed
-from .words import NOT_WRITTEN, say, tell_systemd
+from .words import NOT_WRITTEN, reading, say, tell_systemd
 
 if TYPE_CHECKING:
     from .door import Door
@@ -46,10 +47,12 @@ def lease_of(text: str) -> int:
     return int(text)
 
 
-def content(path: Optional[str]) -> Optional[bytes]:
+def content(args: argparse.Namespace, option: str) -> Optional[bytes]:
+    """Of the file that an option names, if it does. NoFile."""
+    path = getattr(args, option.removeprefix("--").replace("-", "_"))
     if path is None:
         return None
-    with open(path, "rb") as file:
+    with reading(f"{option} {path}"), open(path, "rb") as file:
         return file.read()
 
 
@@ -64,11 +67,13 @@ def etcd_of(args: argparse.Namespace) -> Etcd:
         raise BadAddress("a user and a password belong together: --etcd-user NAME --etcd-password-file FILE")
     endpoints = args.etcd.split(",")
     for it in endpoints:
+        if not re.fullmatch(r"(https?://)?[^/]+:\d+", it) or it.startswith("unix:"):
+            raise BadAddress(f"--etcd {it}: HOST:PORT is wanted")
         parsed(it.removeprefix("http://").removeprefix("https://"))
     credentials = None
     if args.etcd_ca is not None or args.etcd_cert is not None or any(it.startswith("https:") for it in endpoints):
-        credentials = grpc.ssl_channel_credentials(content(args.etcd_ca), content(args.etcd_key), content(args.etcd_cert))
-    password = (content(args.etcd_password_file) or b"").decode().strip()
+        credentials = grpc.ssl_channel_credentials(*(content(args, it) for it in ("--etcd-ca", "--etcd-key", "--etcd-cert")))
+    password = (content(args, "--etcd-password-file") or b"").decode().strip()
     return Etcd(endpoints, credentials, args.etcd_user or "", password)
 
 

@@ -125,6 +125,10 @@ def unreached(address: str, why: str) -> str:
     return f"the broker at {address} can't be reached: {why}{more}"
 
 
+def none_answers(addresses: str, left: float) -> str:
+    return f"none of the brokers {addresses} answers; trying again for {span(left)}"
+
+
 def addresses_of(text: str) -> tuple[str, ...]:
     """Of one broker, or of several: those of `a:7443,b:7443`."""
     parts = tuple(it.strip() for it in text.split(","))

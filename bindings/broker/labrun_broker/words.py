@@ -36,13 +36,13 @@ STATUSES = (
     ("0", "done; `hold` gives the status of what it ran, or 128 and the number of the signal that ended it"),
     ("1", "the broker said no, as to a station that the bay doesn't have, or a release of one that holds nothing; `bay check` found faults"),
     (str(USAGE), "the words aren't right, or the bay has no instrument of that name"),
-    (str(NO_FILE), "the file of a bay, of guards, of a token or a certificate can't be read, or that isn't in it; a state folder can't be read"),
+    (str(NO_FILE), "a file can't be read, of a bay, guards, a token, a certificate, a key or a password, or that isn't in it; nor a state folder"),
     (str(UNREACHABLE), "the broker can't be reached, or doesn't let this client in; of `hold`, the command may have run"),
     (str(NOT_WRITTEN), "the broker couldn't write down what it did; of `hold`, the command may have run; `serve` can't read its own journal"),
     (str(TIMED_OUT), "the time limit passed; nothing was run"),
     (str(TAKEN), "the session was taken away while the command ran, which got SIGTERM"),
     (str(MAY_NOT), "the station, a guest or you may not use one of the instruments, or only operators may do that"),
-    (str(NO_BAY), "the bay's file has faults, or the broker may not listen there"),
+    (str(NO_BAY), "the bay's file has faults, or lacks what somebody holds; or the broker may not listen there"),
     (f"{CANT_RUN}, {NOT_FOUND}", "what `hold` was to run can't be run, or isn't there"),
     (str(INTERRUPTED), "Ctrl-C"),
 )
@@ -106,4 +106,6 @@ def lab_of(args: argparse.Namespace, station: str = "", by: Optional[str] = None
     os.environ.setdefault("GRPC_ENABLE_FORK_SUPPORT", "0")
     from .client import lab_at
 
-    return lab_at(args.broker, station, by, token, certificate)
+    lab = lab_at(args.broker, station, by, token, certificate)
+    lab._on_wait = lambda text: say(f"waits: {text}")
+    return lab

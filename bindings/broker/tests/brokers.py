@@ -71,6 +71,11 @@ def certificate(folder: str, name: str = "certificate", key: str = "key", of: st
     return f"{folder}/{name}", f"{folder}/{key}"
 
 
+def expires(certificate: str, key: str) -> None:
+    """It was good until yesterday."""
+    subprocess.run(["openssl", "x509", "-in", certificate, "-signkey", key, "-days", "-1", "-out", certificate], check=True, capture_output=True)
+
+
 class Broker:
     """`labrun-broker serve`, begun anew as often as wanted."""
 

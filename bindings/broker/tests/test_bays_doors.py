@@ -46,6 +46,31 @@ class Doors(OnLab):
         with urllib.request.urlopen(f"http://127.0.0.1:{self.port}{path}", timeout=20) as answer:
             return str(answer.read().decode())
 
+    def test_what_its_files_lack(self) -> None:
+        """A bay's file that isn't there; and what somebody holds, of a bay, and of one that isn't in the lab any more. Nothing failed to be written."""
+        at = self.broker()
+        with at.lab() as lab:
+            lab.hold("oven").acquire()
+            lab.close(lets_go=False)
+        lacks = f"labrun-broker: {self.folder}/bay.toml: bays.south: {self.folder}/more/no.toml: No such file or directory\n"
+        serve = ("serve", f"{self.folder}/bay.toml", "--listen", f"unix:{self.folder}/other.sock", "--state", f"{self.folder}/state")
+        with open(f"{self.folder}/bay.toml", "w", encoding="utf-8") as file:
+            file.write(LAB.replace("more/south.toml", "more/no.toml"))
+        for words in (("bay", "apply", f"{self.folder}/bay.toml"), serve):
+            with self.subTest(words[0]):
+                self.assertEqual(self.ran(at, *words, status=66), lacks)
+        at.end()
+        for lab_file, south, told in (
+            (LAB, SOUTH.replace('"oven"', '"stove"'), "guest-1 holds oven, which by the bay it may not use: begin with the bay as it was until that is over\n"),
+            (LAB.replace('south = "more/south.toml"', ""), SOUTH, "guest-1 still hold there, and the lab has no bay south: begin with it once more, until that is over\n"),
+        ):
+            with self.subTest(told):
+                written(self.folder, lab_file, NORTH, south)
+                os.replace(f"{self.folder}/lab.toml", f"{self.folder}/bay.toml")
+                said = self.ran(at, *serve, status=78)
+                self.assertTrue(said.startswith(f"labrun-broker: {self.folder}/state/south"), said)
+                self.assertTrue(said.endswith(told), said)
+
     def test_commands_find_the_bay(self) -> None:
         at = self.broker()
         self.assertIn("lab physics: 2 bays (north, south), 6 instruments", at.first)

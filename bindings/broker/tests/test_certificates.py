@@ -3,9 +3,12 @@
 import asyncio
 import os
 import shutil
+import subprocess
 import tempfile
 import threading
+import time
 import unittest
+from datetime import datetime, timedelta, timezone
 from typing import Any
 from unittest import mock
 
@@ -13,7 +16,8 @@ import grpc
 
 import labrun_broker
 from labrun_broker import finding
-from tests.brokers import BAY, LIMIT, OnBroker, certificate, free_port, until
+from labrun_broker.validity import outdated
+from tests.brokers import BAY, LIMIT, OnBroker, certificate, expires, free_port, until
 from tests.guards import REFUSED, Guarded, talk
 from tests.guards import Bay as Instruments
 
@@ -82,6 +86,48 @@ class Certificates(OnBroker):
             thread.start()
             thread.join(LIMIT)
             self.assertEqual(told, [f"the broker at {at} can't be reached: it has another certificate than --certificate says"])
+
+    def test_one_that_has_expired(self) -> None:
+        """The broker says so as it begins, and each client that knows it by the same file."""
+        expires(self.known, self.words[5])
+        broker = self.broker(BAY, *self.words)
+        yesterday = time.strftime("%Y-%m-%d", time.localtime(time.time() - 86400))
+        at, token, new = f"localhost:{self.port}", ("--token-file", self.token), "make another one for the broker, and give it to its clients"
+        for words in (("status",), ("hold", "scope", "--", "true")):
+            done = broker.ran(*words[:2], "--broker", at, "--certificate", self.known, *token, *words[2:])
+            told = rf"the certificate in --certificate expired on {yesterday} \d\d:\d\d: {new}"
+            self.assertRegex(done.stderr, rf"labrun-broker: the broker at {at} can't be reached: {told}\n$")
+            self.assertEqual(done.returncode, 69)
+        # (of two it may be that one)
+        both = f"{self.folder}/both"
+        with open(both, "wb") as file:
+            for path in (self.wrong, self.known):
+                with open(path, "rb") as one:
+                    file.write(one.read())
+        done = broker.ran("status", "--broker", at, "--certificate", both, *token)
+        self.assertRegex(done.stderr, rf"it has another certificate than --certificate says, or the one there that expired on {yesterday} \d\d:\d\d\n$")
+        self.assertEqual(broker.end(), 0)
+        refused = "and clients of the network refuse it; start the broker again with another one"
+        self.assertRegex(broker.said, rf"labrun-broker: --tls-certificate {self.known}: it expired on {yesterday} \d\d:\d\d, {refused}\n")
+
+    def test_until_when_it_is_good(self) -> None:
+        """As openssl says it, of an authority's and of one that it has signed."""
+        request, leaf = f"{self.folder}/request", f"{self.folder}/leaf"
+        for words in (
+            ["req", "-new", "-newkey", "rsa:2048", "-nodes", "-subj", "/CN=leaf", "-keyout", f"{self.folder}/leaf.key", "-out", request],
+            ["x509", "-req", "-in", request, "-CA", self.known, "-CAkey", self.words[5], "-days", "20000", "-out", leaf],
+        ):
+            subprocess.run(["openssl", *words], check=True, capture_output=True)
+        for path in (self.known, leaf):
+            with self.subTest(path):
+                done = subprocess.run(["openssl", "x509", "-in", path, "-noout", "-dates"], capture_output=True, text=True, check=True)
+                first, last = (datetime.strptime(it.partition("=")[2], "%b %d %H:%M:%S %Y %Z").replace(tzinfo=timezone.utc) for it in done.stdout.splitlines())
+                with open(path, "rb") as file:
+                    pem, second = file.read(), timedelta(seconds=1)
+                self.assertEqual([outdated(pem, it) for it in (first, last)], [None, None])
+                bad = [f"is good only from {first.astimezone():%Y-%m-%d %H:%M} on", f"expired on {last.astimezone():%Y-%m-%d %H:%M}"]
+                self.assertEqual([outdated(pem, it) for it in (first - second, last + second)], [(it, True) for it in bad])
+        self.assertEqual([outdated(it) for it in (b"", b"junk", b"-----BEGIN CERTIFICATE-----\nMAMCAQE=\n-----END CERTIFICATE-----")], [None] * 3)
 
     def test_a_guard_reads_it_again(self) -> None:
         """Once its broker has another one. The guard goes on, and says which file can't be read."""

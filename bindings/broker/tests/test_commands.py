@@ -107,7 +107,7 @@ class WithoutBroker(unittest.TestCase):
 
     def test_words_and_statuses(self) -> None:
         bay, nowhere = f"{self.folder}/bay.toml", f"unix:{self.folder}/no.sock"
-        outside = ["serve", bay, "--listen", "0.0.0.0:0"]
+        outside, tls, token = ["serve", bay, "--listen", "0.0.0.0:0"], ["--tls-certificate"], ["--token-file", f"{self.folder}/short"]
         wanted = "unix:PATH or HOST:PORT is wanted, with a port of up to 65535"
         others = f"ok {self.folder}/other.toml: bay, 2 instruments, 0 stations, 1 guest, gone = keep\n"
         rows = (
@@ -125,6 +125,9 @@ class WithoutBroker(unittest.TestCase):
             (["bay", "check", f"{self.folder}/other.toml"], 0, others, "other.toml: on_release.scope: this machine has no command no-such-command\n"),
             (["bay", "check", f"{self.folder}/other.toml"], 0, others, f"other.toml: on_release.load: {self.folder}/bay.toml can't be run on this machine\n"),
             (["serve", bay, "--listen", nowhere, "--token-file", "none"], 66, "", "labrun-broker: --token-file none: there is no such file\n"),
+            ([*outside, *tls, "none", "--tls-key", bay, *token], 66, "", "labrun-broker: --tls-certificate none: there is no such file\n"),
+            ([*outside, *tls, bay, "--tls-key", "none", *token], 66, "", "labrun-broker: --tls-key none: there is no such file\n"),
+            ([*outside, *tls, bay, "--tls-key", self.folder, *token], 66, "", f"labrun-broker: --tls-key {self.folder}: Is a directory\n"),
             ([], 2, "", "required: WORD"),
             (["fly"], 2, "", "labrun-broker: error: there is no word fly: there are serve, hold, guard, status, top, release, disable, enable, token, report, gantt, table, bay, manual; labrun-broker --help\n"),
             (["relese", "board"], 2, "", "bay, manual (did you mean release?); labrun-broker --help\n"),

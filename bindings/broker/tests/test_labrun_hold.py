@@ -104,7 +104,10 @@ class Held(OnBroker):
         self.addCleanup(lab.close)
         self.assertEqual(station(lab, "guest-1")["by"], "bob: night")
         lab.apply(WITHOUT_BOB)
-        self.assertIn("this is nobody's token, or not any more; operators: ana; the command is being ended", self.ends(one, 76))
+        said = self.ends(one, 69)
+        self.assertIn("this is nobody's token, or not any more; operators: ana; the command is being ended", said)
+        kept = "the session may go on holding, as `labrun-broker status` says, until an operator releases it\n"
+        self.assertRegex(said, rf"labrun-hold: the command ran, and ended with status \d+, but:\nlabrun-hold: {kept}$")
         self.assertEqual((os.path.exists(f"{broker.folder}/ended"), station(lab, "guest-1")["state"]), (True, "gone"))
 
     def test_a_file_that_cant_be_read(self) -> None:

@@ -7,6 +7,7 @@ import contextlib
 import io
 import json
 import os
+import re
 import subprocess
 import sys
 import threading
@@ -34,7 +35,7 @@ from labrun_broker.service import Service
 from labrun_broker.users import Users
 from labrun_broker.wishes import Wish, resolved
 from tests.asking import Asking
-from tests.brokers import BAY, LIMIT, Broker, OnBroker, station, until
+from tests.brokers import BAY, LIMIT, Broker, OnBroker, free_port, station, until
 from tests.test_keeping import TICKET, OnFolder, Owner, how
 
 ANA, BOB, BOBS_NEW, EVE = "a" * 64, "b" * 64, "c" * 64, "e" * 64
@@ -269,6 +270,8 @@ class Doors(OnFolder):
         at = "0.0.0.0:7443"
         with self.assertRaisesRegex(BadAddress, "is seen by other machines"):
             Door((at,), "certificate", "key").check()
+        with self.assertRaisesRegex(BadAddress, "is seen by other machines: that takes a certificate, --tls-certificate FILE --tls-key FILE$"):
+            Door((at,), has_people=True).check()
         door = Door((at,), "certificate", "key", has_people=True)
         door.check()
         entrance = await self.entrance(PEOPLE, None, door.seen_without_token(Door(())))
@@ -285,6 +288,8 @@ class Doors(OnFolder):
 
 
 HTTP = ("--http", "unix:FOLDER/bay.sock.http")
+# a command that minds SIGTERM in its own way
+SAYS_THREE = "trap 'exit 3' TERM; echo holds $LABRUN_HELD; while :; do sleep 0.1; done"
 
 
 class OnPeople(OnBroker):
@@ -408,6 +413,29 @@ class Brokers(OnPeople):
         self.assertEqual(ana.release(held.station), ("load-1",))
         with self.assertRaisesRegex(labrun_broker.NotAllowed, "nobody may not|cat may not"):
             broker.lab().release(hers.station)
+
+    def test_taken_out_while_a_command_runs(self) -> None:
+        """The command's status is said, and how long what he holds is kept. Nobody took the session away."""
+        for gone, until_when in (("keep", "an operator releases it"), ("release", 'the broker releases it (gone = "release")')):
+            with self.subTest(gone):
+                port, says = free_port(), f'gone = "{gone}"\n'
+                broker = self.at(says + PEOPLE, "--listen", f"127.0.0.1:{port}")
+                its = []
+                for address, instrument in ((broker.address, "load-1"), (f"127.0.0.1:{port}", "load-2")):
+                    words = ("hold", instrument, "--broker", address, "--token-file", f"{broker.folder}/bob", "--", "sh", "-c", SAYS_THREE)
+                    its.append((broker.started(*words), instrument))
+                for one, instrument in its:
+                    assert one.stdout is not None
+                    self.assertEqual(one.stdout.readline(), f"holds {instrument}\n")
+                self.applied(broker, says + WITHOUT_BOB)
+                for one, instrument in its:
+                    said = one.communicate(timeout=LIMIT)[1]
+                    kept = f"labrun-broker: the session may go on holding, as `labrun-broker status` says, until {until_when}\n"
+                    why = r"labrun-broker: the broker at .* doesn't let this client in: this is nobody's token, or not any more; operators: ana"
+                    self.assertRegex(said, rf"{why}; the command is being ended\n(.*\n)*labrun-broker: the command ran, and ended with status 3, but:\n{why}\n{re.escape(kept)}$")
+                    self.assertEqual(one.returncode, 69, said)
+                rows = self.by(broker, "ana").status()["stations"]
+                self.assertEqual(sorted((it["state"], *it["instruments"]) for it in rows if it["state"] != "idle"), [("gone", "load-1"), ("gone", "load-2")])
 
     def test_the_first_people(self) -> None:
         """Whoever is here without a name is cut off when the bay names people."""

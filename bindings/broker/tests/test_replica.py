@@ -181,7 +181,7 @@ class Deposed(Brokers):
         self.enterContext(mock.patch.object(first.leading.etcd, "_calls", side_effect=StopIteration))
         await asyncio.wait_for(first.is_lost.wait(), LIMIT)
         self.assertTrue(LEASE / 2 < time.monotonic() - begun < 3 * LEASE)
-        self.assertEqual(first.why, [f"etcd hasn't answered for {LEASE} s"])
+        self.assertEqual(first.why, [f"nothing was heard from etcd for {LEASE} s: it doesn't answer, or this broker was stopped"])
 
     async def test_its_lease(self) -> None:
         first = await self.broker("first")

@@ -3,6 +3,8 @@
 from __future__ import annotations
 
 import argparse
+import contextlib
+import io
 import json
 import os
 import shutil
@@ -18,6 +20,7 @@ from unittest import mock
 
 import labrun_broker
 from labrun_broker import finding
+from labrun_broker.command import main
 from labrun_broker.errors import Unreachable
 from labrun_broker.etcd import EtcdError, NoAnswer, put
 from labrun_broker.standby import add_etcd, etcd_of, listens_at
@@ -147,6 +150,9 @@ class Standing(OnEtcd):
         self.brokers[0].process.send_signal(signal.SIGCONT)
         self.assertEqual(self.brokers[0].process.wait(LIMIT), 74)
         self.brokers[0].says("labrun-broker: ends: ")
+        # (etcd answered all the time)
+        whys = (f"nothing was heard from etcd for {LEASE} s: it doesn't answer, or this broker was stopped", "its lease is over", "it leads no more")
+        self.assertIn(self.brokers[0].said[-1], [f"labrun-broker: ends: {it}" for it in whys])
 
 
 @unittest.skipUnless(shutil.which("etcd") and shutil.which("etcdctl") and shutil.which("openssl"), "there is no etcd, or etcdctl, or openssl")
@@ -224,6 +230,24 @@ class Lists(unittest.TestCase):
         self.assertTrue(1.0 < time.monotonic() - begun < SOON)
         self.assertRegex(said[0], "^none of the brokers 127.0.0.1:.* answers; trying again for 1 s$")
 
+    def test_a_question_that_none_answers(self) -> None:
+        """Each word of the command says, before it is over, that it tries, and for how long."""
+        at = f"127.0.0.1:{free_port()},127.0.0.1:{free_port()}"
+        tries = f"labrun-broker: waits: none of the brokers {at} answers; trying again for "
+        for words in (["status"], ["top"], ["release", "board"], ["disable", "scope"]):
+            with self.subTest(words), mock.patch.object(finding, "FAILOVER", 2.0), contextlib.redirect_stderr(io.StringIO()) as said:
+                self.assertEqual(main([*words, "--broker", at]), 69)
+                self.assertRegex(said.getvalue(), rf"^{tries}[12] s\nlabrun-broker: the broker at {at} can't be reached: Connection refused\n$")
+
+    def test_one_that_may_stand_by(self) -> None:
+        at = f"127.0.0.1:{free_port()}"
+        with labrun_broker.connect(at) as lab:
+            for asks in (lab.status, lab.hold("scope").acquire):
+                with self.assertRaises(Unreachable) as fault:
+                    asks()
+                why = "Connection refused (no broker runs there, or it stands by for another one: name all of them, with commas between)"
+                self.assertEqual(str(fault.exception), f"the broker at {at} can't be reached: {why}")
+
     def test_none_answers_in_time(self) -> None:
         """Who wants to wait for a shorter time isn't told of a longer one."""
         said = list[str]()
@@ -231,6 +255,10 @@ class Lists(unittest.TestCase):
             with mock.patch.object(finding, "FAILOVER", 30.0), self.assertRaises(Unreachable):
                 lab.hold("scope", waits=said.append, timeout=2.0).acquire()
         self.assertRegex(said[0], "^none of the brokers 127.0.0.1:.* answers; trying again for [0-2] s$")
+        at = f"127.0.0.1:{free_port()},127.0.0.1:{free_port()}"
+        with mock.patch.object(finding, "FAILOVER", 30.0), contextlib.redirect_stderr(io.StringIO()) as told:
+            self.assertEqual(main(["hold", "scope", "--timeout", "2", "--broker", at, "--", "true"]), 69)
+        self.assertRegex(told.getvalue(), f"^labrun-broker: waits: none of the brokers {at} answers; trying again for [0-2] s\n")
 
 
 class Faults(unittest.TestCase):
@@ -248,6 +276,9 @@ class Faults(unittest.TestCase):
                 self.assertEqual(status_of(refused, sessions, is_fault, is_safe), status)
 
 
+FILES = (("--etcd-ca",), ("--etcd-cert", "--etcd-key", "FOLDER/bay.toml"), ("--etcd-key", "--etcd-cert", "FOLDER/bay.toml"), ("--etcd-password-file", "--etcd-user", "ann"))
+
+
 class Words(unittest.TestCase):
     def says(self, *words: str) -> tuple[int, str]:
         with tempfile.TemporaryDirectory() as folder:
@@ -258,12 +289,13 @@ class Words(unittest.TestCase):
                 file.write("a line\n")
             line = [*COMMAND, "serve", f"{folder}/bay.toml", "--listen", f"unix:{folder}/bay.sock", *(it.replace("FOLDER", folder) for it in words)]
             done = subprocess.run(line, capture_output=True, text=True, timeout=LIMIT)
-            return done.returncode, done.stderr
+            return done.returncode, done.stderr.replace(folder, "FOLDER")
 
     def test_faults(self) -> None:
         for words, status, text in (
             (("--etcd", "127.0.0.1:1", "--lease", "1"), 2, "whole seconds from 2 to 10"),
-            (("--etcd", "nowhere"), 78, "nowhere: unix:PATH or HOST:PORT is wanted"),
+            *((("--etcd", it), 78, f"--etcd {it.split(',')[-1]}: HOST:PORT is wanted") for it in ("nowhere", "unix:/tmp/x", "127.0.0.1:1,unix:/tmp:1", "http://")),
+            *((("--etcd", "127.0.0.1:1", it, "FOLDER/no", *more), 66, f"labrun-broker: {it} FOLDER/no: there is no such file\n") for it, *more in FILES),
             (("--etcd", "127.0.0.1:1", "--etcd-cert", "FOLDER/bay.toml"), 78, "--etcd-cert FILE --etcd-key FILE"),
             (("--etcd", "127.0.0.1:1", "--etcd-user", "ann"), 78, "--etcd-user NAME --etcd-password-file FILE"),
             (("--etcd", "127.0.0.1:1", "--state", "FOLDER/state"), 1, "a broker without --etcd kept it"),

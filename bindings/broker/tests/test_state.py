@@ -181,7 +181,8 @@ class State(OnBroker):
         broker.end()
         for bay, text in ((changed.replace('board = ["supply"]', 'board = ["lamp"]'), "board holds supply, which by the bay it may not use"),):
             done = self.served(broker, bay)
-            self.assertEqual(done.returncode, 74)
+            # (nothing failed to be written)
+            self.assertEqual(done.returncode, 78)
             self.assertIn(text, done.stderr)
         with open(f"{broker.folder}/bay.toml", "w", encoding="utf-8") as file:
             file.write(changed)

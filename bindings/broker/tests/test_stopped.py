@@ -18,6 +18,7 @@ from tests.proxies import Proxy, Ways
 
 RELEASES = 'gone = "release"\n' + BAY
 TOLD = r"the broker at .* doesn't answer \(it is stopped, or the network is cut\)"
+MAY_HOLD = "the session may hold all the same: if `labrun-broker status` shows it as gone, end it by `labrun-broker release`"
 # it asks, and ends while the broker is stopped
 PROGRAM = """
 import os, signal, sys, labrun_broker
@@ -164,9 +165,39 @@ class Killed(OnBroker):
             asked = threads.submit(lab.hold("scope", waits=waits.append).acquire)
             until(lambda: waits, "it waits")
             broker.kill()
-            told = "it closed the connection; the session may hold all the same: see `labrun-broker status`$"
-            with self.assertRaisesRegex(labrun_broker.AnswerLost, told):
+            with self.assertRaisesRegex(labrun_broker.AnswerLost, f"it closed the connection; {MAY_HOLD}$"):
                 asked.result(LIMIT)
+
+    def test_one_that_does_not_come_back(self) -> None:
+        """Who waited may hold: the broker may have written that down before it was killed, and the next one has it then. Who only comes now doesn't."""
+        self.enterContext(mock.patch.object(coming, "GRACE", 0.5))
+        broker = self.broker(BAY, "--state", "FOLDER/state")
+        lab, waits = self.lab(broker), list[str]()
+        self.lab(broker).hold("scope").acquire()
+        for timeout in (None, LIMIT):
+            with self.subTest(timeout), ThreadPoolExecutor() as threads:
+                waits.clear()
+                asked = threads.submit(lab.hold("scope", waits=waits.append, timeout=timeout).acquire)
+                until(lambda: waits, "it waits")
+                broker.kill()
+                with self.assertRaisesRegex(labrun_broker.AnswerLost, f"^the broker at unix:.* can't be reached: .*; {MAY_HOLD}$"):
+                    asked.result(LIMIT)
+                with self.assertRaises(labrun_broker.Unreachable) as fault:
+                    lab.hold("scope").acquire()
+                self.assertNotIn("may hold", str(fault.exception))
+                broker.begin()
+
+    def test_a_command_that_waits(self) -> None:
+        broker = self.broker(BAY, "--state", "FOLDER/state")
+        self.lab(broker).hold("scope").acquire()
+        program = "import sys; from labrun_broker import coming, command; coming.GRACE = 0.5; sys.exit(command.main())"
+        with subprocess.Popen([sys.executable, "-c", program, "hold", "scope", "--broker", broker.address, "--", "true"], stderr=subprocess.PIPE, text=True) as one:
+            assert one.stderr is not None
+            self.assertIn("waits: scope has been held by guest-1", one.stderr.readline())
+            broker.kill()
+            self.assertRegex(one.communicate(timeout=LIMIT)[1], f"labrun-broker: the broker at unix:.* can't be reached: .*; {MAY_HOLD}\n$")
+        self.assertEqual(one.returncode, 69)
+        broker.begin()
 
 
 if __name__ == "__main__":

@@ -82,7 +82,8 @@ class Seat:
         if words & lab.model.past:
             may |= {"NoInstrument", "OutOfOrder"}
         if self.person in lab.model.revoked:
-            may |= {"Unreachable", "TakenAway", "NotAllowed"}
+            # (AnswerLost is a kind of Unreachable: of one that had waited at a broker that is gone)
+            may |= {"Unreachable", "AnswerLost", "TakenAway", "NotAllowed"}
         if self._was_slow(plan, outcome, begun):
             may.add(outcome)
         with lab.lock:
@@ -91,7 +92,7 @@ class Seat:
         if outcome not in may:
             shown = {key: it for key, it in plan.items() if key in ("id", "kind", "words", "any_of", "station", "timeout", "limit", "fate", "span")}
             lab.fault(f"{self.person}: {outcome}, and not one of {sorted(may)} after {time.monotonic() - begun:.1f} s: {text.strip()[-400:]!r} of {shown}")
-        if outcome == "Unreachable":
+        if outcome in ("Unreachable", "AnswerLost"):
             self._leaves()
 
     def _was_slow(self, plan: Plan, outcome: str, begun: float) -> bool:
