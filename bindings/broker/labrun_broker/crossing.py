@@ -7,6 +7,7 @@ To a bay it is the owner of its part; to the doors it is a session, and the keep
 from __future__ import annotations
 
 import asyncio
+import math
 from dataclasses import replace
 from typing import TYPE_CHECKING, Any, Callable, Iterator, Optional
 
@@ -97,10 +98,13 @@ class Crossing(Session):
         return self
 
     def _warns(self, wants_warning: bool) -> None:
-        """Of the limit that is over first."""
-        limits = [(part.limit, home.bay.name) for home, part in self.its() if part.limit is not None]
         for home, part in self.its():
-            lasting.begins(home, part, wants_warning and (part.limit, home.bay.name) == min(limits, default=None))
+            lasting.begins(home, part, wants_warning and part is self.limited)
+
+    @property
+    def limited(self) -> Session:
+        """The part whose limit is over first."""
+        return min((part for _, part in self.its()), key=lambda it: math.inf if it.limit is None else it.limit)
 
     # ---- while it holds: each part is asked
 

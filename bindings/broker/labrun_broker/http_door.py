@@ -189,12 +189,12 @@ class HttpDoor:
         return response
 
     async def _tells(self, visit: Visit, response: web.StreamResponse, request: web.Request) -> None:
-        """Its state, again whenever that is another, or it waits for somebody else, and after a while in any case."""
+        """Its state, again whenever that is another, it waits for somebody else or is warned, and after a while in any case."""
         last, last_at, loop = "", 0.0, asyncio.get_running_loop()
         while is_there(request):
             state = visit.state
             about = http_words.told(visit.fault)[1] if visit.fault is not None else visit.shown()
-            now = state + "".join(f" {it['instrument']} {it['station']} {it['holds']}" for it in about.get("waits_for", ()))
+            now = f"{state} {about.get('warning') is not None}" + "".join(f" {it['instrument']} {it['station']} {it['holds']}" for it in about.get("waits_for", ()))
             if now != last or loop.time() > last_at + BEAT:
                 last, last_at = now, loop.time()
                 async with asyncio.timeout(SLOW):

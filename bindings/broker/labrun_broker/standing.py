@@ -104,6 +104,11 @@ class Session:
         """From when on its limit counts."""
         return self.since if self.told_at is None else self.told_at
 
+    @property
+    def limited(self) -> Session:
+        """That whose limit its client is warned of."""
+        return self
+
     def chosen(self, needs: int) -> tuple[str, ...]:
         """Of the sets that it asked for, the one that it holds."""
         return next((tuple(dict.fromkeys(it)) for it, bits in zip(self.wish.choices, self.sets) if bits == needs), self.instruments)
