@@ -16,7 +16,7 @@ from labrun import NotHeld
 from labrun.machine import TAKEN
 
 from . import lasting, making_safe
-from .keeping import UNTOLD, Keeping
+from .keeping import Keeping
 from .leases import ANOTHER
 from .standing import Owner, Session
 from .together import all_of
@@ -178,10 +178,10 @@ class Crossing(Session):
         if self._bays.crossings.get(self.key) is self:
             del self._bays.crossings[self.key]
 
-    def is_lost(self, of: Session, how: int) -> None:
-        """One of its parts was taken away: so are the others."""
+    def is_lost(self, of: Session, how: int, untold: Ended) -> None:
+        """One of its parts was taken away: so are the others. `untold` is what its client hears that was never told that it holds."""
         if not self.holds:
-            return self.gives_up(Ended("TakenAway", UNTOLD))
+            return self.gives_up(untold)
         self._is_over()
         self._is_forgotten()
         for home, part in reversed(list(self.its())):
