@@ -43,6 +43,14 @@ class Ends(OnCrossings):
                 await bays.let_go(it, self.owner)
             self.owner.told.clear()
 
+    async def test_a_release_by_a_number_that_it_has_nowhere(self) -> None:
+        bays = await self.bays(state=False)
+        it = await self.crosses(bays, "scope", "oven")
+        north, south = (it.parts[name].number for name in ("north", "south"))
+        with self.assertRaisesRegex(labrun.NotHeld, rf"^guest-1 is in session {north} \(north\), {south} \(south\) now, and not in 77777$"):
+            await bays.release("guest-1", "ann", 77777)
+        self.assertTrue(it.holds)
+
     async def test_a_release_while_it_waits(self) -> None:
         bays = await self.bays(state=False)
         await self.holds(bays, "oven", station="heat")
