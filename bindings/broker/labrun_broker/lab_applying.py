@@ -20,6 +20,8 @@ BAYS_LATER = f"bays are put in and taken out {applying.LATER}"
 async def applies(kept: Kept, wish: Any, by: str) -> list[str]:
     """What a message asks for; what has changed, or would."""
     if isinstance(kept, Bays):
+        if wish.bays and wish.of:
+            raise BadWish(f"the file is that of a lab, with all of its bays: of the bay {wish.of[:64]} alone (--bay) its own file is applied")
         if wish.bays:
             return await apply_lab(kept, wish.bay, dict(wish.bays), by, wish.only_check)
         return await apply_one(kept, wish.of, wish.bay, by, wish.only_check)
