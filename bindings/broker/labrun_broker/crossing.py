@@ -235,9 +235,10 @@ class Crossing(Session):
         text = f"in the bay {home.bay.name}: {why}" + (f"; it holds {all_of(held)} already" if held else "")
         return keepers, text, (home.bay.name, changes)
 
-    def waits_where(self) -> str:
-        """For whoever waits for what it holds already. Nothing: it waits for nothing."""
-        if (it := self._waiting()) is None:
+    def waits_where(self, of: Session) -> str:
+        """For whoever waits for what this part of it holds already. Nothing: it waits for nobody elsewhere."""
+        # (what is only to be written is told as of each session)
+        if (it := self._waiting()) is None or it[1] is of:
             return ""
         home, part = it
         return f"which waits in the bay {home.bay.name}, too: {home.for_whom(part)[1]}"

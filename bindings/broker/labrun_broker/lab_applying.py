@@ -34,12 +34,12 @@ async def applies(kept: Kept, wish: Any, by: str) -> list[str]:
 async def apply_one(bays: Bays, name: str, text: str, by: str, is_check: bool) -> list[str]:
     """One bay goes on as its file has it by now."""
     try:
-        given = table_in(text, "bay")
+        given = table_in(text, "the file")
         name = name or str(given.get("bay", ""))
         if not name:
             raise BadWish(f"the file doesn't say which bay it is, of {', '.join(bays.of)}: say so (--bay), or in the file (bay = \"..\")")
         home = bays.in_bay(name)
-        after = bays.lab.as_its(name, bay_of_lab(name, text, "bay"))
+        after = bays.lab.as_its(name, bay_of_lab(name, text, f"the file of the bay {name}"))
     except BayFault as fault:
         raise BadWish(str(fault)) from None
     async with bays.changing:

@@ -269,7 +269,7 @@ class Standings:
     def _about(self, holder: Session, is_named: bool = False) -> str:
         """Who that is, and what somebody has to do if its client is gone."""
         parts = [] if is_named or not holder.by else [holder.by]
-        if holder.crossing is not None and (waits := holder.crossing.waits_where()):
+        if holder.crossing is not None and (waits := holder.crossing.waits_where(holder)):
             parts.append(waits)
         if holder.gone_at is not None:
             does = self._to_do(holder) if holder.is_kept else f"its session is released once that is {self._keeping.its_grace:g} s"

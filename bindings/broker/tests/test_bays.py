@@ -343,6 +343,12 @@ class Changes(OnBays):
         with self.assertRaisesRegex(BadWish, "calls this bay south, and not north"):
             await self.applies(bays, NORTH, "south")
 
+    async def test_a_fault_names_the_bay(self) -> None:
+        bays = await self.bays(state=False)
+        for more, why in (("[people]\nana = {unix = 1}\n", "^the file of the bay north: people: this is of the whole lab"), ("=", "^the file: line .*: ")):
+            with self.assertRaisesRegex(BadWish, why):
+                await self.applies(bays, NORTH + more)
+
     async def test_the_labs_file_is_not_for_one_of_its_bays(self) -> None:
         bays = await self.bays(state=False)
         for check in (True, False):

@@ -4,8 +4,11 @@ from __future__ import annotations
 
 import asyncio
 import contextlib
+import os
 import re
+import threading
 import unittest
+import unittest.mock
 from typing import Any, Optional
 
 import labrun
@@ -71,6 +74,24 @@ class Holds(OnCrossings):
         with self.assertRaises(Ended) as raised:
             await self.crosses(bays, ticket=TICKET, comes_back=True)
         self.assertEqual(raised.exception.kind, "LetGo")
+
+    async def test_what_is_only_to_be_written_is_not_waited_for_in_another_bay(self) -> None:
+        """Whoever waits for it is told who has it, and not that this one waits, too: it waits for the disk of that bay."""
+        bays, may = await self.bays(), threading.Event()
+        self.addCleanup(may.set)
+        await self.holds(bays, "oven", station="heat")
+        real, asks = os.fdatasync, list[Session]()
+        with unittest.mock.patch("os.fdatasync", lambda file: (may.wait(LIMIT), real(file))):
+            first = await self.asks(bays, "scope", "oven")
+            await self.eventually(lambda: self.stands(bays).get("scope"), "it has the scope")
+            task = asyncio.create_task(bays.hold(Wish(("scope",)), self.owner, asks.append))
+            await self.eventually(lambda: asks, "it asks")
+            self.assertRegex(bays.for_whom(asks[0])[1], r"^scope has been held by guest-2 for [0-9.]+ s$")
+            may.set()
+            await self.eventually(lambda: "which waits in the bay south" in bays.for_whom(asks[0])[1], "it waits for the oven")
+        for it in (first, task):
+            it.cancel()
+        await asyncio.gather(first, task, return_exceptions=True)
 
     async def test_who_waits_in_the_second_holds_in_the_first(self) -> None:
         bays = await self.bays()
