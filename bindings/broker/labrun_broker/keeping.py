@@ -235,9 +235,9 @@ class Keeping:
         if told.what == HOLDS:
             self._holds(session, told)
         elif told.what == LAPSED:
-            what = "was given up when its time was over" if session.wish.timeout else NOT_AT_ONCE if session.of else NO_WAIT
+            what = "was given up when its time was over" if session.wish.timeout else NOT_AT_ONCE if session.of or session.wish.tries else NO_WAIT
             why = f"session {session.number} of {session.name} {what}: {Standings(self).why(session)}"
-            self._fails(session, "gave_up", TimedOut(why))
+            self._fails(session, "tried" if session.wish.tries else "gave_up", TimedOut(why))
         elif told.what == NOT_WRITTEN:
             self._fails(session, "failed", self._shell.why())
         elif told.what == WAS_STOPPED:
@@ -286,7 +286,7 @@ class Keeping:
             return
         self._shell.machine.leave(session.number, self.now())
         text = "the client is gone" if isinstance(fault, asyncio.CancelledError) else str(fault)
-        self._over(session, "gave_up", text)
+        self._over(session, "tried" if session.wish.tries and isinstance(fault, TimedOut) else "gave_up", text)
         if not session.told.done():
             session.told.set_exception(fault)
         self._shell.pump()

@@ -10,8 +10,8 @@ const WALL = new URLSearchParams(location.search).has("wall") && innerWidth > 86
 const WALL_RECORDS = 60, WALL_WAITS = 20, WALL_ALARMS = 3;
 const SPANS = {"15 min": 900, "1 h": 3600, "4 h": 14400, "12 h": 43200};
 const WORDS = {
-  opened: "the broker opened the bay", asked: "asks for", held: "holds", note: "notes", let_go: "let go", gave_up: "gave up", taken: "was ended",
-  failed: "failed", gone: "is gone", back: "is back", closed: "the broker closed the bay", made_safe: "is over, and made safe is",
+  opened: "the broker opened the bay", asked: "asks for", held: "holds", note: "notes", let_go: "let go", gave_up: "gave up",
+  tried: "couldn't have at once", taken: "was ended", failed: "failed", gone: "is gone", back: "is back", closed: "the broker closed the bay", made_safe: "is over, and made safe is",
 };
 const PLAIN = new Set(["opened", "closed", "note"]);     // told without instruments
 const BAD = new Set(["failed", "gone", "taken", "gave_up"]);

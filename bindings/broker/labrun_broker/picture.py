@@ -6,7 +6,7 @@ import time
 from html import escape
 from typing import Iterable, NamedTuple
 
-from .sessions import ENDS, HOLDS, UNKNOWN, Session, first, spans_waited_for
+from .sessions import ENDS, HOLDS, TRIED, UNKNOWN, Session, first, spans_waited_for
 
 LEFT, WIDTH, ROW, BAR = 150, 1050, 24, 18
 LETTER = 6.1  # the width of a letter, at this size
@@ -22,6 +22,7 @@ FILLS = {
     HOLDS: 'fill="#b8f0c4" stroke="#1b7a35"',
     UNKNOWN: 'fill="#ddd" stroke="#777" stroke-dasharray="1 2"',
     WAIT: 'fill="#fff4d9" stroke="#c77f00" stroke-dasharray="3 2"',
+    TRIED: 'fill="#eee" stroke="#999"',
     FREE: 'fill="#f7c6c6"',
     GONE: 'fill="#d00000"',
 }

@@ -4,6 +4,7 @@ from __future__ import annotations
 
 import asyncio
 import contextlib
+import csv
 import os
 import re
 import threading
@@ -23,6 +24,7 @@ from labrun_broker.standing import Session
 from labrun_broker.wishes import Ended, Wish
 from tests.brokers import LIMIT
 from tests.test_bays import LAB, NORTH, SOUTH, TICKET, OnBays, Owner, written
+from tests.test_past import ran
 
 OTHER = "another ticket of it"
 
@@ -135,6 +137,34 @@ class Holds(OnCrossings):
         with self.assertRaisesRegex(TimedOut, "can't have all that it asks for at once: oven has been held by guest-1"):
             await self.crosses(bays, "scope", "oven", timeout=0.0)
         self.assertEqual(self.stands(bays), {"oven": "guest-1"})
+
+    async def test_a_try_is_no_end(self) -> None:
+        """All places of the north are taken: what is tried in both bays at once can't be had, and it asks on until its time is over."""
+        bays = await self.bays()
+        for name in ("supply", "load-1"):
+            await self.holds(bays, name)
+        with self.assertRaisesRegex(TimedOut, "was given up when its time was over"):
+            await self.crosses(bays, "scope", "oven", timeout=0.3)
+        for home in bays.peers:
+            home._news.write()
+        ends = [(one["bay"], one["what"]) for one in bays.recent() if one["station"] == "guest-3" and one["what"] not in ("asked", "held")]
+        self.assertEqual(sorted(ends), [("north", "gave_up"), ("north", "tried"), ("south", "tried")])
+        rows = [(it[0], it[9]) for it in csv.reader(ran("table", self.state, "--csv")[1].splitlines()) if it[0] == "guest-3"]
+        self.assertEqual(sorted(rows), [("guest-3", "gave up"), ("guest-3", "tried"), ("guest-3", "tried")])
+        for bay, sessions, lines in (("north", 3, ["guest-3 0 1 0 0 0"]), ("south", 0, ["guest-3 0 0 0 0 0"])):
+            said = ran("report", f"{self.state}/{bay}")[1]
+            self.assertIn(f": {sessions} sessions\n", said)
+            self.assertEqual([" ".join(it.split()[:6]) for it in said.splitlines() if it.startswith("guest-3 ")][:1], lines)
+        self.assertNotIn("tried", ran("gantt", self.state)[1])
+
+    async def test_a_try_that_is_the_end(self) -> None:
+        """Of several choices without a time to wait, the last one's."""
+        bays = await self.bays()
+        await self.holds(bays, "scope")
+        with self.assertRaises(TimedOut):
+            await self.crosses(bays, any_of=(("scope", "oven"), ("scope", "load-2")), timeout=0.0)
+        ends = [(one["bay"], one["what"]) for one in bays.history if one["station"] == "guest-2" and one["what"] not in ("asked", "held")]
+        self.assertEqual(sorted(ends), [("north", "gave_up"), ("north", "tried"), ("south", "gave_up"), ("south", "tried")])
 
     async def test_a_time_limit_that_passes_in_the_second(self) -> None:
         bays = await self.bays()
