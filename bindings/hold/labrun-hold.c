@@ -596,6 +596,7 @@ static struct {
     char *station;
     struct text names; /* of the instruments, each behind a tab */
     double lease, beat, until, token;
+    bool is_warned;
 } held;
 
 static void put_names(struct text *to, char *names, bool is_list) {
@@ -728,6 +729,16 @@ static void tell(const struct talk *it, struct text *said, double *said_at) {
     free(why);
 }
 
+/* That the limit is over soon is said once. */
+static void looks_for_warning(const struct talk *it) {
+    char *why = text_of(value_of(body_of(it), "warning"));
+    if (*why && !held.is_warned) {
+        say("%s", why);
+        held.is_warned = true;
+    }
+    free(why);
+}
+
 /* It holds, by this answer. Whether that is still new enough. */
 static bool is_held(const struct talk *it) {
     const char *body = body_of(it), *at = value_of(body, "instruments");
@@ -747,6 +758,7 @@ static bool is_held(const struct talk *it) {
         at = at ? over_space(at) : "";
         at = *at == ',' ? over_space(at + 1) : at;
     }
+    looks_for_warning(it);
     return isnan(held.lease) || now() < it->at + held.lease / 6;
 }
 
@@ -927,6 +939,7 @@ static void is_answered(struct talk *it, double *next) {
     if (answer == 200) {
         held.until = isnan(held.lease) ? (double)INFINITY : fmax(held.until, it->at + held.lease);
         *next = it->at + 0.1;
+        looks_for_warning(it);
     } else if (answer == 404 || answer == 410 || answer == 401) { /* (401: this client isn't let in any more) */
         char *why = text_of(value_of(body_of(it), "text"));
         is_let_in = answer != 401;

@@ -210,6 +210,10 @@ class Bays:
         if len(its) > 1:
             # (before they were bays of one lab, each named its own guests)
             its = [it for it in its if number in it.by_number] or its
+        if len(its) > 1 and number:
+            parts = ((it.number, home.bay.name) for home in its for it in home.by_number.values() if it.name == station)
+            where = ", ".join(f"{its_number} ({name})" for its_number, name in parts)
+            raise labrun.NotHeld(f"{station} is in session {where} now, and not in {number}")
         if len(its) > 1:
             raise BadWish(f"{station} is in {all_of([it.bay.name for it in its])}: say in which bay (--bay), or the session's number")
         return its[0]

@@ -7,6 +7,7 @@ To a bay it is the owner of its part; to the doors it is a session, and the keep
 from __future__ import annotations
 
 import asyncio
+import math
 from dataclasses import replace
 from typing import TYPE_CHECKING, Any, Callable, Iterator, Optional
 
@@ -15,7 +16,7 @@ from labrun import NotHeld
 from labrun.machine import TAKEN
 
 from . import lasting, making_safe
-from .keeping import UNTOLD, Keeping
+from .keeping import Keeping
 from .leases import ANOTHER
 from .standing import Owner, Session
 from .together import all_of
@@ -98,10 +99,13 @@ class Crossing(Session):
         return self
 
     def _warns(self, wants_warning: bool) -> None:
-        """Of the limit that is over first."""
-        limits = [(part.limit, home.bay.name) for home, part in self.its() if part.limit is not None]
         for home, part in self.its():
-            lasting.begins(home, part, wants_warning and (part.limit, home.bay.name) == min(limits, default=None))
+            lasting.begins(home, part, wants_warning and part is self.limited)
+
+    @property
+    def limited(self) -> Session:
+        """The part whose limit is over first."""
+        return min((part for _, part in self.its()), key=lambda it: math.inf if it.limit is None else it.limit)
 
     # ---- while it holds: each part is asked
 
@@ -175,10 +179,10 @@ class Crossing(Session):
         if self._bays.crossings.get(self.key) is self:
             del self._bays.crossings[self.key]
 
-    def is_lost(self, of: Session, how: int) -> None:
-        """One of its parts was taken away: so are the others."""
+    def is_lost(self, of: Session, how: int, untold: Ended) -> None:
+        """One of its parts was taken away: so are the others. `untold` is what its client hears that was never told that it holds."""
         if not self.holds:
-            return self.gives_up(Ended("TakenAway", UNTOLD))
+            return self.gives_up(untold)
         self._is_over()
         self._is_forgotten()
         for home, part in reversed(list(self.its())):
@@ -232,9 +236,10 @@ class Crossing(Session):
         text = f"in the bay {home.bay.name}: {why}" + (f"; it holds {all_of(held)} already" if held else "")
         return keepers, text, (home.bay.name, changes)
 
-    def waits_where(self) -> str:
-        """For whoever waits for what it holds already. Nothing: it waits for nothing."""
-        if (it := self._waiting()) is None:
+    def waits_where(self, of: Session) -> str:
+        """For whoever waits for what this part of it holds already. Nothing: it waits for nobody elsewhere."""
+        # (what is only to be written is told as of each session)
+        if (it := self._waiting()) is None or it[1] is of:
             return ""
         home, part = it
         return f"which waits in the bay {home.bay.name}, too: {home.for_whom(part)[1]}"

@@ -12,7 +12,7 @@ from pathlib import Path
 from typing import Any, Awaitable, Callable, Sequence
 from urllib.parse import urlsplit
 
-from labrun import LabrunError
+from labrun import LabrunError, Stopped
 
 from . import http_words
 from .bays import Kept
@@ -29,6 +29,7 @@ Handler = Callable[[web.Request], Awaitable[web.StreamResponse]]
 CHANGES, BEAT = 1.0, 5.0  # seconds between two looks for whom one waits; and after which it is told again in any case
 FORBIDDEN, TOO_MANY = 403, 429
 CALLER, QUERY = "caller", "query"
+STOPPED = "stopped"  # the last event when the broker ends
 LOOKS = ("/v1/status", "/v1/openapi.json")
 ALLOWED = {"Access-Control-Allow-Methods": "GET, POST, DELETE", "Access-Control-Allow-Headers": "authorization, content-type", "Access-Control-Max-Age": "600"}
 
@@ -189,16 +190,18 @@ class HttpDoor:
         return response
 
     async def _tells(self, visit: Visit, response: web.StreamResponse, request: web.Request) -> None:
-        """Its state, again whenever that is another, or it waits for somebody else, and after a while in any case."""
+        """Its state, again whenever that is another, it waits for somebody else or is warned, and after a while in any case."""
         last, last_at, loop = "", 0.0, asyncio.get_running_loop()
         while is_there(request):
             state = visit.state
             about = http_words.told(visit.fault)[1] if visit.fault is not None else visit.shown()
-            now = state + "".join(f" {it['instrument']} {it['station']} {it['holds']}" for it in about.get("waits_for", ()))
+            now = f"{state} {about.get('warning') is not None}" + "".join(f" {it['instrument']} {it['station']} {it['holds']}" for it in about.get("waits_for", ()))
             if now != last or loop.time() > last_at + BEAT:
                 last, last_at = now, loop.time()
+                # (when the broker ends, what is held is held on)
+                event = STOPPED if isinstance(visit.fault, Stopped) else state
                 async with asyncio.timeout(SLOW):
-                    await response.write(f"event: {state}\ndata: {json.dumps(about)}\n\n".encode())
+                    await response.write(f"event: {event}\ndata: {json.dumps(about)}\n\n".encode())
             if state == OVER:
                 return
             await visit.outlasts(state, CHANGES, lambda: is_there(request))

@@ -123,10 +123,10 @@ def _is_no_number(it: str) -> None:
 
 
 def wish_of_body(body: bytes) -> Wish:
-    """Whoever comes by requests says again and again that it is there."""
+    """Whoever comes by requests says again and again that it is there, and is warned of its limit by the answers."""
     given = read(body, WISH)
     given["ticket"] = given.get("ticket") or secrets.token_urlsafe()
-    return Wish(**given, pings=True)
+    return Wish(**given, pings=True, wants_warning=True)
 
 
 # ---- what stands behind the `?`, as ?wait=30

@@ -31,7 +31,7 @@ from .wishes import Ended, Ends, Wish
 if TYPE_CHECKING:
     from .entrance import Entrance
 
-UNTOLD = "the session was taken away before its client was told that it holds"
+UNTOLD = "before its client was told that it holds"
 NO_WAIT = "was refused, because it doesn't wait (-n, or a timeout of 0)"
 NOT_AT_ONCE = "can't have all that it asks for at once"
 
@@ -162,7 +162,7 @@ class Keeping:
                 self._leaves(session, fault)
             raise
         if session.owner is not owner:
-            raise Ended("TakenAway", UNTOLD)
+            raise Ended("TakenAway", f"the session was taken away {UNTOLD}")
         return session
 
     def has(self, key: tuple[int, int]) -> bool:
@@ -235,9 +235,9 @@ class Keeping:
         if told.what == HOLDS:
             self._holds(session, told)
         elif told.what == LAPSED:
-            what = "was given up when its time was over" if session.wish.timeout else NOT_AT_ONCE if session.of else NO_WAIT
+            what = "was given up when its time was over" if session.wish.timeout else NOT_AT_ONCE if session.of or session.wish.tries else NO_WAIT
             why = f"session {session.number} of {session.name} {what}: {Standings(self).why(session)}"
-            self._fails(session, "gave_up", TimedOut(why))
+            self._fails(session, "tried" if session.wish.tries else "gave_up", TimedOut(why))
         elif told.what == NOT_WRITTEN:
             self._fails(session, "failed", self._shell.why())
         elif told.what == WAS_STOPPED:
@@ -267,17 +267,18 @@ class Keeping:
 
     def _is_taken(self, session: Session, how: int) -> None:
         what = f"by {session.taken_by or 'the broker'}{lasting.because(self, session, how)}"
-        owner, held = session.owner, ", ".join(session.instruments)
-        self.says(f"session {session.number} of {session.name} with {held} was taken away {what}")
+        owner, untold = session.owner, Ended("TakenAway", f"the session was taken away {what}, {UNTOLD}")
+        held = ", ".join((session.crossing or session).instruments)
+        self.says(f"session {session.number} of {session.name} with {', '.join(session.instruments)} was taken away {what}")
         self._over(session, "taken", what)
         self._ends.add(session.key, what)
         if not session.told.done():
-            session.told.set_exception(Ended("TakenAway", UNTOLD))
+            session.told.set_exception(untold)
         elif owner is not None:
             text = f"{session.name}: the session{'' if how == GRACE else f' with {held}'} was taken away {what}"
             self.settling.tells(owner.taken, text)
         if session.crossing is not None:
-            session.crossing.is_lost(session, how)
+            session.crossing.is_lost(session, how, untold)
 
     def _leaves(self, session: Session, fault: BaseException) -> None:
         """The client waits no longer, or can't be told any more that it holds."""
@@ -285,7 +286,7 @@ class Keeping:
             return
         self._shell.machine.leave(session.number, self.now())
         text = "the client is gone" if isinstance(fault, asyncio.CancelledError) else str(fault)
-        self._over(session, "gave_up", text)
+        self._over(session, "tried" if session.wish.tries and isinstance(fault, TimedOut) else "gave_up", text)
         if not session.told.done():
             session.told.set_exception(fault)
         self._shell.pump()

@@ -20,6 +20,8 @@ BAYS_LATER = f"bays are put in and taken out {applying.LATER}"
 async def applies(kept: Kept, wish: Any, by: str) -> list[str]:
     """What a message asks for; what has changed, or would."""
     if isinstance(kept, Bays):
+        if wish.bays and wish.of:
+            raise BadWish(f"the file is that of a lab, with all of its bays: of the bay {wish.of[:64]} alone (--bay) its own file is applied")
         if wish.bays:
             return await apply_lab(kept, wish.bay, dict(wish.bays), by, wish.only_check)
         return await apply_one(kept, wish.of, wish.bay, by, wish.only_check)
@@ -32,12 +34,12 @@ async def applies(kept: Kept, wish: Any, by: str) -> list[str]:
 async def apply_one(bays: Bays, name: str, text: str, by: str, is_check: bool) -> list[str]:
     """One bay goes on as its file has it by now."""
     try:
-        given = table_in(text, "bay")
+        given = table_in(text, "the file")
         name = name or str(given.get("bay", ""))
         if not name:
             raise BadWish(f"the file doesn't say which bay it is, of {', '.join(bays.of)}: say so (--bay), or in the file (bay = \"..\")")
         home = bays.in_bay(name)
-        after = bays.lab.as_its(name, bay_of_lab(name, text, "bay"))
+        after = bays.lab.as_its(name, bay_of_lab(name, text, f"the file of the bay {name}"))
     except BayFault as fault:
         raise BadWish(str(fault)) from None
     async with bays.changing:

@@ -50,10 +50,16 @@ def stops(session: Session) -> None:
 
 def _warns(keeping: Keeping, session: Session) -> None:
     session.warning = None
-    if session.owner is not None and session.limit is not None:
-        left = max(0.0, session.limit - (keeping.now() - session.limit_since) / 1000)
-        what, whole = ", ".join(session.instruments), _span(session.limit)
-        session.owner.warned(f"{session.name} may hold {what} for {whole}, which is over in {span(left, 1)}: {THEN}", left)
+    if session.owner is not None:
+        session.owner.warned(*told(keeping, session))
+
+
+def told(keeping: Keeping, session: Session) -> tuple[str, float]:
+    """With what its client is warned by now, and how many seconds are left."""
+    limit = session.limit or 0.0
+    left = max(0.0, limit - (keeping.now() - session.limit_since) / 1000)
+    its = session.instruments if session.crossing is None else session.crossing.instruments
+    return f"{session.name} may hold {', '.join(its)} for {_span(limit)}, which is over in {span(left, 1)}: {THEN}", left
 
 
 def because(keeping: Keeping, session: Session, how: int) -> str:

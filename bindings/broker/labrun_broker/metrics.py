@@ -6,7 +6,7 @@ from collections import defaultdict
 from typing import Any, Iterator, Optional
 
 from .serving import HEADERS, Lacking, Served, runs_beside, serve, web
-from .sessions import Past, Record, batches, first
+from .sessions import TRIED, Past, Record, batches, first
 
 try:
     from prometheus_client import CollectorRegistry, Counter, Histogram, generate_latest
@@ -79,7 +79,7 @@ class Metrics:
         past = self._pasts[record.get("bay", "")]
         over = past.take(record)
         session, bay = past.now.get(past.key_of(record)), [record.get("bay", "")] if self._more else []
-        if over is not None:
+        if over is not None and over.how != TRIED:
             self._sessions.labels(*bay, over.station, over.how).inc()
         if record["what"] == "held" and session is not None and session.held == record["t"]:
             for it in session.instruments:

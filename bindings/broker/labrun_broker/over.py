@@ -53,13 +53,15 @@ class Over:
     async def hold(self, _: Wish, owner: Owner, waits: Optional[Callable[[Session], None]] = None) -> Session:
         """Each choice is tried, and then the first one waited for, with all others that lie in the same bays."""
         # (a try that fails keeps nobody's order)
-        wish, trial = self._wish, replace(self._wish, urgent=False)
+        wish = self._wish
         until = None if wish.timeout is None else asyncio.get_running_loop().time() + wish.timeout
         fault: Optional[TimedOut] = None
         for way in self._ways:
             if wish.timeout == 0 or not any(_is_held(home, names) for home, names in way.items()):
+                # (without a time to wait, the last try is the end)
+                is_last = wish.timeout == 0 and way is self._ways[-1]
                 try:
-                    return await self._tries(way, trial, owner)
+                    return await self._tries(way, replace(wish, urgent=False, tries=not is_last), owner)
                 except TimedOut as it:
                     fault = fault or it
         if wish.timeout == 0 and fault is not None:

@@ -14,7 +14,7 @@ const WORDS = {
   opened: "the broker opened the bay", closed: "the broker closed the bay", changed: "the bay was changed", note: "WHO notes",
   asked: "WHO asks for ITS", held: "WHO holds ITS", let_go: "WHO let go of ITS", failed: "WHO failed with ITS", gave_up: "WHO gave up on ITS",
   taken: "WHO’s session with ITS was ended", gone: "WHO’s client is gone; it holds ITS", back: "WHO’s client is back; it holds ITS",
-  made_safe: "ITS was made safe after WHO", disabled: "ITS is out of order", enabled: "ITS is in order again",
+  tried: "WHO couldn’t have ITS at once", made_safe: "ITS was made safe after WHO", disabled: "ITS is out of order", enabled: "ITS is in order again",
 };
 const BAD = new Set(["failed", "gone", "taken", "gave_up"]);
 

@@ -16,7 +16,7 @@ from pathlib import Path
 from typing import Any, Optional
 
 from .serving import HEADERS, SLOW, Served, runs_beside, serve, web
-from .sessions import Past, Record, Session, batches
+from .sessions import TRIED, Past, Record, Session, batches
 
 PACE = 0.25  # seconds between two messages to a browser, at least
 BEAT = 5.0  # and at most, so that it sees when the broker is gone
@@ -56,7 +56,7 @@ class Watch:
         (self._notes if record["what"] == "note" else self._records).append((self.number, record))
         past = self._pasts[record.get("bay", "")]
         over = past.take(record)
-        if over is not None:
+        if over is not None and over.how != TRIED:
             self._ended.append((self.number, shown(over)))
         past.ended.clear()
 

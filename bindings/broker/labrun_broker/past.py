@@ -12,7 +12,7 @@ from datetime import datetime, timezone
 from typing import Optional, TextIO
 
 from .benches import records_of_journal
-from .sessions import ENDS, UNKNOWN, Fault, Past, Session, bays_in, first, read_records, spans_waited_for
+from .sessions import ENDS, TRIED, UNKNOWN, Fault, Past, Session, bays_in, first, read_records, spans_waited_for
 from .texts import aligned, called, plain, span
 from .words import reading
 
@@ -65,11 +65,17 @@ def write_table(sessions: list[Session], until: float, out: TextIO) -> None:
     out.write(table_of(rows))
 
 
-OF_STATION = ["station", *ENDS.values(), UNKNOWN, "at work", "of the time", "waited", "longest wait"]
+COUNTED = [*(it for it in ENDS.values() if it != TRIED), UNKNOWN]
+OF_STATION = ["station", *COUNTED, "at work", "of the time", "waited", "longest wait"]
 OF_INSTRUMENT = ["instrument", "sessions", "in use", "of the time", "waited for, unused", "median wait", "longest wait"]
 
 
-def write_report(past: Past, sessions: list[Session], since: float, until: float, out: TextIO) -> None:
+def without_tries(sessions: list[Session]) -> list[Session]:
+    return [it for it in sessions if it.how != TRIED]
+
+
+def write_report(past: Past, its: list[Session], since: float, until: float, out: TextIO) -> None:
+    sessions = without_tries(its)
     out.write(f"from {local(since)} to {local(until)}, {span(until - since, 2)}: {len(sessions)} sessions\n\n")
     out.write(table_of([OF_STATION, *(of_station(name, sessions, since, until) for name in past.stations)]))
     out.write("\n")
@@ -84,7 +90,7 @@ def write_report(past: Past, sessions: list[Session], since: float, until: float
 def of_station(name: str, sessions: list[Session], since: float, until: float) -> list[str]:
     own = [it for it in sessions if it.station == name]
     waits = [it.waited(until) for it in own]
-    counts = [str(sum(it.how == end for it in own)) for end in (*ENDS.values(), UNKNOWN)]
+    counts = [str(sum(it.how == end for it in own)) for end in COUNTED]
     return [plain(name), *counts, *used(own, since, until), span(sum(waits), 2), span(max(waits, default=0), 2)]
 
 
@@ -177,7 +183,7 @@ def run_gantt(args: argparse.Namespace) -> int:
 
     pasts, sessions, since, until = of_all(args)
     instruments, stations = (list({name: None for past in pasts for name in getattr(past, its)}) for its in ("instruments", "stations"))
-    text = gantt(sessions, instruments, stations, since, until)
+    text = gantt(without_tries(sessions), instruments, stations, since, until)
     if args.to is None:
         sys.stdout.write(text)
         return 0

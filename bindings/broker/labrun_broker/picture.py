@@ -6,25 +6,31 @@ import time
 from html import escape
 from typing import Iterable, NamedTuple
 
-from .sessions import HOLDS, UNKNOWN, Session, first, spans_waited_for
+from .sessions import ENDS, HOLDS, TRIED, UNKNOWN, Session, first, spans_waited_for
 
 LEFT, WIDTH, ROW, BAR = 150, 1050, 24, 18
 LETTER = 6.1  # the width of a letter, at this size
 STEPS = [0.1, 0.2, 0.5, 1, 2, 5, 10, 15, 30, 60, 120, 300, 600, 900, 1800, 3600, 7200, 10800, 14400, 21600, 43200, 86400, 172800, 604800, 2592000]
 
-WAIT, FREE, GONE = "wait", "free", "gone"
+WAIT, FREE, GONE, GAVE_UP = "wait", "free", "gone", ENDS["gave_up"]
 FILLS = {
     "done": 'fill="#56b4e9" stroke="#1f6f9f"',
     "failed": 'fill="#f2a58f" stroke="#b3240f" stroke-width="1.5"',
     "taken away": 'fill="#ffd166" stroke="#8a5a00" stroke-width="1.5"',
+    # (of a session over several bays: what it had in this one when it gave up)
+    GAVE_UP: 'fill="#e3d5f2" stroke="#6a3d9a" stroke-dasharray="3 2"',
     HOLDS: 'fill="#b8f0c4" stroke="#1b7a35"',
     UNKNOWN: 'fill="#ddd" stroke="#777" stroke-dasharray="1 2"',
     WAIT: 'fill="#fff4d9" stroke="#c77f00" stroke-dasharray="3 2"',
+    TRIED: 'fill="#eee" stroke="#999"',
     FREE: 'fill="#f7c6c6"',
     GONE: 'fill="#d00000"',
 }
+# that waited, and gave up
+WAITED = "waited"
 LEGEND = [
-    ("done", "holds, done"), (HOLDS, "still holds"), ("failed", "failed"), ("taken away", "taken away"), (WAIT, "waits"), ("gave up", "gave up"),
+    ("done", "holds, done"), (HOLDS, "still holds"), ("failed", "failed"), ("taken away", "taken away"), (WAIT, "waits"), (WAITED, "gave up"),
+    (GAVE_UP, "held, gave up"),
     (FREE, "waited for, in use by nobody"), (GONE, "client gone"), (UNKNOWN, "end unknown"),
 ]  # fmt: skip
 
@@ -105,7 +111,7 @@ def marks_of(it: Session, scale: Scale) -> str:
 
 
 def end_of(how: str, x: float) -> str:
-    if how in ("gave up", "failed"):
+    if how in (GAVE_UP, WAITED, "failed"):
         return mark(x, "M-4 5l8 8m0-8l-8 8", 'fill="none" stroke="#b3240f" stroke-width="2"', "")
     if how == "taken away":
         return mark(x, "M0-1v20M0 4l-6 5 6 5z", 'fill="#8a5a00" stroke="#8a5a00" stroke-width="2"', "")
@@ -183,7 +189,7 @@ def axis(scale: Scale, height: float) -> str:
 def legend() -> str:
     parts, x = [], 10.0
     for kind, text in LEGEND:
-        of = WAIT if kind == "gave up" else kind
+        of = WAIT if kind == WAITED else kind
         y, height = (20, 4) if kind == GONE else (10, 14)
         parts.append(f'<rect x="{x:.0f}" y="{y}" width="26" height="{height}" {FILLS[of]}/><text x="{x + 32:.0f}" y="21">{text}</text>\n')
         parts.append(f'<g transform="translate({x + 21:.0f} 8)">{end_of(kind, 0)}</g>\n')

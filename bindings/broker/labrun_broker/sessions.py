@@ -14,7 +14,9 @@ from .words import reading
 Record = dict[str, Any]
 
 # how a session ends, by the record that ends it
-ENDS = {"let_go": "done", "gave_up": "gave up", "taken": "taken away", "failed": "failed"}
+ENDS = {"let_go": "done", "gave_up": "gave up", "taken": "taken away", "failed": "failed", "tried": "tried"}
+# what a session over several bays couldn't have at once: it asked on, so this isn't its end
+TRIED = ENDS["tried"]
 # a session that isn't over, and one whose end no record tells
 WAITS, HOLDS, UNKNOWN = "waits", "holds", "end unknown"
 

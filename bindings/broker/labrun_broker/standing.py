@@ -104,6 +104,11 @@ class Session:
         """From when on its limit counts."""
         return self.since if self.told_at is None else self.told_at
 
+    @property
+    def limited(self) -> Session:
+        """That whose limit its client is warned of."""
+        return self
+
     def chosen(self, needs: int) -> tuple[str, ...]:
         """Of the sets that it asked for, the one that it holds."""
         return next((tuple(dict.fromkeys(it)) for it, bits in zip(self.wish.choices, self.sets) if bits == needs), self.instruments)
@@ -264,7 +269,7 @@ class Standings:
     def _about(self, holder: Session, is_named: bool = False) -> str:
         """Who that is, and what somebody has to do if its client is gone."""
         parts = [] if is_named or not holder.by else [holder.by]
-        if holder.crossing is not None and (waits := holder.crossing.waits_where()):
+        if holder.crossing is not None and (waits := holder.crossing.waits_where(holder)):
             parts.append(waits)
         if holder.gone_at is not None:
             does = self._to_do(holder) if holder.is_kept else f"its session is released once that is {self._keeping.its_grace:g} s"

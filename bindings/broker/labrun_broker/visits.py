@@ -14,6 +14,7 @@ from typing import Any, Callable, Iterator, Optional
 
 from labrun import LabrunError, NotHeld, Stopped
 
+from . import lasting
 from .bays import Kept
 from .entrance import UNKNOWN, Caller, Entrance, NotLetIn
 from .rights import check_same
@@ -46,8 +47,8 @@ class Visit:
         self.fault: Optional[LabrunError] = None
         # where its last request came from; `here`: from this machine
         self.host = "here"
-        # that its limit is over soon
-        self.warning: Optional[str] = None
+        # whether its limit is over soon, and an answer has said so
+        self._is_warned = self._is_told_so = False
         self._visits, self._keeping, self._open = visits, visits.keeping, 0
         self._quiet: Optional[asyncio.TimerHandle] = None
         self._changed = asyncio.Event()
@@ -69,6 +70,9 @@ class Visit:
 
     def _is(self, state: str) -> None:
         self.state = state
+        self._wakes()
+
+    def _wakes(self) -> None:
         self._changed.set()
         self._changed = asyncio.Event()
 
@@ -88,7 +92,8 @@ class Visit:
         self._ends(Ended("TakenAway", why))
 
     def warned(self, text: str, seconds: float) -> None:
-        self.warning = text
+        self._is_warned = True
+        self._wakes()
 
     # ---- whether it is there
 
@@ -148,10 +153,11 @@ class Visit:
             await self._changed.wait()
 
     async def outlasts(self, state: str, span: float, is_there: Callable[[], bool]) -> None:
-        """Returns once it isn't in this state any more, the time is over, or whoever asks isn't there."""
-        loop = asyncio.get_running_loop()
+        """Returns once it isn't in this state any more, it is warned and no answer has said so, the time is over, or whoever asks isn't
+        there."""
+        loop, was_told = asyncio.get_running_loop(), self._is_told_so
         until = loop.time() + min(span, self.most_wait())
-        while self.state == state and is_there() and (left := until - loop.time()) > 0:
+        while self.state == state and self._is_warned == was_told and is_there() and (left := until - loop.time()) > 0:
             with contextlib.suppress(TimeoutError):
                 async with asyncio.timeout(min(left, LOOK)):
                     await self._changed.wait()
@@ -194,6 +200,14 @@ class Visit:
         if self.fault is not None:
             raise self.fault.with_traceback(None)
 
+    def _warning(self) -> Optional[str]:
+        """As it is by now."""
+        if not self._is_warned or self.session is None:
+            return None
+        self._is_told_so = True
+        part = self.session.limited
+        return lasting.told(part.home or self._keeping.peers[0], part)[0]
+
     def shown(self) -> dict[str, Any]:
         """As it is told: always with the same keys."""
         it, waits, lease = self.session, self.state == WAITING, None
@@ -201,7 +215,7 @@ class Visit:
             lease = self._keeping.lease_of(it)
         keepers, why, _ = self._keeping.for_whom(it) if waits and it is not None else ([], "", ())
         about: dict[str, Any] = {"state": self.state, "ticket": self.wish.ticket, "station": it and it.name, "session": it and it.number}
-        about |= {"token": it.token if it is not None and self.state == HOLDING else None, "warning": self.warning}
+        about |= {"token": it.token if it is not None and self.state == HOLDING else None, "warning": self._warning()}
         about |= {"instruments": list(it.instruments) if it else [], "text": why, "waits_for": keepers}
         beat = QUIET / BEATS_OF_QUIET if lease is None else lease / BEATS_OF_LEASE
         return {**about, "grace": None if lease is None or it is None else self._keeping.grace_of(it), "lease": lease, "ping": round(beat, 3)}
@@ -249,7 +263,7 @@ class Visits:
         if visit is None:
             if (fault := self._ends.get(key)) is not None:
                 raise fault.with_traceback(None)
-            visit = self._comes(key, Wish(ticket=ticket, comes_back=True, pings=True, person=caller.person), caller)
+            visit = self._comes(key, Wish(ticket=ticket, comes_back=True, pings=True, wants_warning=True, person=caller.person), caller)
         await visit.begins()
         visit.raises()
         return visit

@@ -69,7 +69,9 @@ class Wish:
     limit: Optional[float] = None
     wants_warning: bool = False
     urgent: bool = False
-    # no client says these of itself: who asks, where the bay names people; and of what it is a part, in one of several bays
+    # no client says these of itself: whether it is only tried, and asked on if it can't be had at once (over.py); who asks, where the bay
+    # names people; and of what it is a part, in one of several bays
+    tries: bool = False
     person: str = ""
     crossing: Optional[Crossing] = None
 

@@ -137,7 +137,7 @@ class Asking:
                     event = line[7:].decode().strip()
                 elif line.startswith(b"data: "):
                     told = json.loads(line[6:])
-                    check({"$ref": f"#/components/schemas/{'Fault' if event == 'over' else 'Session'}"}, told, event)
+                    check({"$ref": f"#/components/schemas/{'Fault' if event in ('over', 'stopped') else 'Session'}"}, told, event)
                     yield event, told
         finally:
             talk.close()

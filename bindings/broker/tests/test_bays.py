@@ -343,6 +343,19 @@ class Changes(OnBays):
         with self.assertRaisesRegex(BadWish, "calls this bay south, and not north"):
             await self.applies(bays, NORTH, "south")
 
+    async def test_a_fault_names_the_bay(self) -> None:
+        bays = await self.bays(state=False)
+        for more, why in (("[people]\nana = {unix = 1}\n", "^the file of the bay north: people: this is of the whole lab"), ("=", "^the file: line .*: ")):
+            with self.assertRaisesRegex(BadWish, why):
+                await self.applies(bays, NORTH + more)
+
+    async def test_the_labs_file_is_not_for_one_of_its_bays(self) -> None:
+        bays = await self.bays(state=False)
+        for check in (True, False):
+            with self.assertRaisesRegex(BadWish, r"the file is that of a lab, with all of its bays: of the bay north alone \(--bay\) its own file is applied"):
+                await self.applies(bays, LAB, "north", check, north=NORTH, south=SOUTH.replace("count = 2", "count = 3"))
+        self.assertEqual(bays.of["south"].bay.guests, 2)
+
     async def test_a_name_that_another_bay_has(self) -> None:
         bays = await self.bays(state=False)
         with self.assertRaisesRegex(CantChange, "oven is an instrument of north and of south"):

@@ -4,8 +4,12 @@ from __future__ import annotations
 
 import asyncio
 import contextlib
+import csv
+import os
 import re
+import threading
 import unittest
+import unittest.mock
 from typing import Any, Optional
 
 import labrun
@@ -20,6 +24,7 @@ from labrun_broker.standing import Session
 from labrun_broker.wishes import Ended, Wish
 from tests.brokers import LIMIT
 from tests.test_bays import LAB, NORTH, SOUTH, TICKET, OnBays, Owner, written
+from tests.test_past import ran
 
 OTHER = "another ticket of it"
 
@@ -46,7 +51,7 @@ class OnCrossings(OnBays):
         asks = list[Session]()
         task = asyncio.create_task(bays.hold(Wish(instruments, **more), self.owner, asks.append))
         self.addCleanup(task.cancel)
-        await self.eventually(lambda: task.done() or asks and re.match(f"in the bay {where}: .* is (held|kept)", bays.for_whom(asks[0])[1]), "it waits")
+        await self.eventually(lambda: task.done() or asks and re.match(f"in the bay {where}: .* (has been held|is kept)", bays.for_whom(asks[0])[1]), "it waits")
         self.assertFalse(task.done())
         return task, asks[0]
 
@@ -71,6 +76,25 @@ class Holds(OnCrossings):
         with self.assertRaises(Ended) as raised:
             await self.crosses(bays, ticket=TICKET, comes_back=True)
         self.assertEqual(raised.exception.kind, "LetGo")
+
+    async def test_what_is_only_to_be_written_is_not_waited_for_in_another_bay(self) -> None:
+        """Whoever waits for it is told who has it, and not that this one waits, too: it waits for the disk of that bay."""
+        bays, may = await self.bays(), threading.Event()
+        self.addCleanup(may.set)
+        await self.holds(bays, "oven", station="heat")
+        real, asks = os.fdatasync, list[Session]()
+        with unittest.mock.patch("os.fdatasync", lambda file: (may.wait(LIMIT), real(file))):
+            first = await self.asks(bays, "scope", "oven")
+            await self.eventually(lambda: self.stands(bays).get("scope"), "it has the scope")
+            task = asyncio.create_task(bays.hold(Wish(("scope",)), self.owner, asks.append))
+            await self.eventually(lambda: asks, "it asks")
+            self.assertRegex(text := bays.for_whom(asks[0])[1], "^scope has been held by guest-1 for")
+            self.assertNotIn("which waits", text)
+            may.set()
+            await self.eventually(lambda: "which waits in the bay south" in bays.for_whom(asks[0])[1], "it waits for the oven")
+        for it in (first, task):
+            it.cancel()
+        await asyncio.gather(first, task, return_exceptions=True)
 
     async def test_who_waits_in_the_second_holds_in_the_first(self) -> None:
         bays = await self.bays()
@@ -113,6 +137,34 @@ class Holds(OnCrossings):
         with self.assertRaisesRegex(TimedOut, "can't have all that it asks for at once: oven has been held by guest-1"):
             await self.crosses(bays, "scope", "oven", timeout=0.0)
         self.assertEqual(self.stands(bays), {"oven": "guest-1"})
+
+    async def test_a_try_is_no_end(self) -> None:
+        """All places of the north are taken: what is tried in both bays at once can't be had, and it asks on until its time is over."""
+        bays = await self.bays()
+        for name in ("supply", "load-1"):
+            await self.holds(bays, name)
+        with self.assertRaisesRegex(TimedOut, "was given up when its time was over"):
+            await self.crosses(bays, "scope", "oven", timeout=0.3)
+        for home in bays.peers:
+            home._news.write()
+        ends = [(one["bay"], one["what"]) for one in bays.recent() if one["station"] == "guest-3" and one["what"] not in ("asked", "held")]
+        self.assertEqual(sorted(ends), [("north", "gave_up"), ("north", "tried"), ("south", "tried")])
+        rows = [(it[0], it[9]) for it in csv.reader(ran("table", self.state, "--csv")[1].splitlines()) if it[0] == "guest-3"]
+        self.assertEqual(sorted(rows), [("guest-3", "gave up"), ("guest-3", "tried"), ("guest-3", "tried")])
+        for bay, sessions, lines in (("north", 3, ["guest-3 0 1 0 0 0"]), ("south", 0, ["guest-3 0 0 0 0 0"])):
+            said = ran("report", f"{self.state}/{bay}")[1]
+            self.assertIn(f": {sessions} sessions\n", said)
+            self.assertEqual([" ".join(it.split()[:6]) for it in said.splitlines() if it.startswith("guest-3 ")][:1], lines)
+        self.assertNotIn("tried", ran("gantt", self.state)[1])
+
+    async def test_a_try_that_is_the_end(self) -> None:
+        """Of several choices without a time to wait, the last one's."""
+        bays = await self.bays()
+        await self.holds(bays, "scope")
+        with self.assertRaises(TimedOut):
+            await self.crosses(bays, any_of=(("scope", "oven"), ("scope", "load-2")), timeout=0.0)
+        ends = [(one["bay"], one["what"]) for one in bays.history if one["station"] == "guest-2" and one["what"] not in ("asked", "held")]
+        self.assertEqual(sorted(ends), [("north", "gave_up"), ("north", "tried"), ("south", "gave_up"), ("south", "tried")])
 
     async def test_a_time_limit_that_passes_in_the_second(self) -> None:
         bays = await self.bays()

@@ -7,7 +7,6 @@ import collections
 import contextlib
 import os
 import random
-import re
 import shutil
 import unittest
 from typing import Any
@@ -36,19 +35,28 @@ class Ends(OnCrossings):
             number = it.parts["south"].number * by_number
             self.assertEqual(await bays.release(it.name, "ann", number), ("scope", "oven"))
             await self.eventually(lambda: not self.stands(bays))
-            self.assertEqual([re.sub("with .* was", "was", text) for text in self.owner.told], ["guest-1: the session was taken away by ann"])
+            # (with all that it had, whichever bay ends first)
+            self.assertEqual(self.owner.told, ["guest-1: the session with scope, oven was taken away by ann"])
             with self.assertRaisesRegex(Ended, "the session was taken away by ann"):
                 await self.crosses(bays, ticket=TICKET, comes_back=True)
             with self.assertRaises(labrun.NotHeld):
                 await bays.let_go(it, self.owner)
             self.owner.told.clear()
 
+    async def test_a_release_by_a_number_that_it_has_nowhere(self) -> None:
+        bays = await self.bays(state=False)
+        it = await self.crosses(bays, "scope", "oven")
+        north, south = (it.parts[name].number for name in ("north", "south"))
+        with self.assertRaisesRegex(labrun.NotHeld, rf"^guest-1 is in session {north} \(north\), {south} \(south\) now, and not in 77777$"):
+            await bays.release("guest-1", "ann", 77777)
+        self.assertTrue(it.holds)
+
     async def test_a_release_while_it_waits(self) -> None:
         bays = await self.bays(state=False)
         await self.holds(bays, "oven", station="heat")
         task, asked = await self.waits(bays, "south", "scope", "oven")
         self.assertEqual(await bays.release(asked.name, "ann"), ("scope",))
-        with self.assertRaisesRegex(Ended, "before its client was told that it holds"):
+        with self.assertRaisesRegex(Ended, "^the session was taken away by ann, before its client was told that it holds$"):
             await asyncio.wait_for(task, LIMIT)
         await self.eventually(lambda: self.stands(bays) == {"oven": "heat"})
         self.assertEqual((self.owner.told, bays.crossings), ([], {}))

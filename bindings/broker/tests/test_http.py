@@ -223,6 +223,20 @@ class Sessions(OnHttp):
         status, heads, _ = one.raw("GET", f"/v1/sessions/{ticket}/events")
         self.assertEqual((status, heads["Content-Type"]), (410, "application/json; charset=utf-8"))
 
+    def test_events_when_the_broker_ends(self) -> None:
+        """None says that the session is over: it holds on, and the next broker has it."""
+        broker, one = self.http(BAY, "--state", "FOLDER/state")
+        holds = one.holds("scope", station="board")
+        its = [one.events(ticket) for ticket in (holds, one.asks("scope")[1]["ticket"])]
+        self.assertEqual([next(it)[0] for it in its], ["holding", "waiting"])
+        broker.end()
+        for it in its:
+            events = list(it)
+            self.assertNotIn("over", [event for event, _ in events])
+            self.assertEqual((events[-1][0], events[-1][1]), ("stopped", {"kind": "Stopped", "text": "the broker ends"}))
+        broker.begin()
+        self.assertEqual(one.of(holds)[1]["state"], "holding")
+
 
 class Gone(OnHttp):
     def test_one_that_waits_and_asks_nothing_leaves_the_line(self) -> None:

@@ -547,7 +547,7 @@ class Gone(OnKeeping):
             waits = await self.asks(keeping, "scope", station="board")
             self.assertEqual((how(keeping, "board")["state"], waits.done()), ("holding", False))
             releases = asyncio.create_task(keeping.release("board", "eve"))
-            with self.assertRaisesRegex(Ended, "taken away before its client was told"):
+            with self.assertRaisesRegex(Ended, "taken away by eve, before its client was told that it holds"):
                 await waits
             await asyncio.sleep(0.01)
             self.assertFalse(releases.done(), "it isn't on the disk yet")
@@ -569,7 +569,7 @@ class Gone(OnKeeping):
             self.assertEqual((how(keeping, "board")["state"], how(keeping, "board")["instruments"], waits.done()), ("holding", ["supply"], False))
             self.assertEqual([how(keeping, name)["holder"] for name in ("supply", "scope")], ["board", None])
             releases = asyncio.create_task(keeping.release("board", "eve"))
-            with self.assertRaisesRegex(Ended, "taken away before its client was told"):
+            with self.assertRaisesRegex(Ended, "taken away by eve, before its client was told that it holds"):
                 await waits
             may.set()
             self.assertEqual(await releases, ("supply",))

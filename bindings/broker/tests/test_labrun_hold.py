@@ -10,6 +10,7 @@ import shutil
 import signal
 import socket
 import subprocess
+import sys
 import tempfile
 import time
 import unittest
@@ -20,6 +21,7 @@ from tests.asking import Asking
 from tests.brokers import BAY, COMMAND, LIMIT, TOP, Broker, OnBroker, broker, free_port, station, stopped, until
 from tests.proxies import OfSockets, Ways
 from tests.test_people import ANA, BOB, PEOPLE, WITHOUT_BOB
+from tests.test_warned import LONG, SOONER, THEN
 
 SOURCE = f"{TOP}/bindings/hold/labrun-hold.c"
 COMPILER = next((it for it in ("cc", "gcc", "clang") if shutil.which(it)), None)
@@ -83,6 +85,21 @@ class Held(OnBroker):
         with open(f"{broker.folder}/state/records.jsonl", encoding="utf-8") as file:
             records = [json.loads(it) for it in file]
         self.assertEqual([it.get("urgent", False) for it in records if it["what"] == "asked"], [True, False])
+
+    def test_it_is_warned(self) -> None:
+        """Once, as `labrun-broker hold` is; and its command goes on."""
+        broker, _ = self.at(f"limit = {LONG:g}\n{BAY}")
+        broker.end()
+        broker.command = [sys.executable, "-c", SOONER]
+        broker.begin()
+        one = self.started(broker, "scope", "--station", "board", "--", "sh", "-c", "echo > FOLDER/begun; until [ -e FOLDER/go ]; do sleep 0.05; done")
+        assert one.stderr is not None
+        self.assertTrue(select.select([one.stderr], [], [], LIMIT)[0], "it says something")
+        self.assertRegex(one.stderr.readline(), f"^labrun-hold: board may hold scope for 1 min 0 s, which is over in [0-9]+ s: {THEN}\n$")
+        time.sleep(1)
+        with open(f"{broker.folder}/go", "w", encoding="ascii"):
+            pass
+        self.assertEqual(self.ends(one, 0), "")
 
     def test_who_it_is(self) -> None:
         """By the token in a file; one that isn't let in any more ends its command, and holds no longer."""

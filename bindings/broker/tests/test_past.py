@@ -19,7 +19,7 @@ from labrun_broker.journals import Left
 from labrun_broker.mending import missing
 from labrun_broker.picture import gantt
 from labrun_broker.places import Places
-from labrun_broker.sessions import HOLDS, UNKNOWN, WAITS, Past, Session, read_records, recent_records, spans_waited_for
+from labrun_broker.sessions import ENDS, HOLDS, UNKNOWN, WAITS, Past, Session, read_records, recent_records, spans_waited_for
 
 START = 1700000000.0
 SVG = "{http://www.w3.org/2000/svg}"
@@ -355,6 +355,18 @@ class Pictures(unittest.TestCase):
         # gave up: as one that waits, but with a cross
         self.assertEqual((looks["drive"], len(rows["drive"].findall(f"{SVG}path"))), ([waits], 2))
         self.assertEqual(len(rows["kiosk"].findall(f"{SVG}path")), 1)
+
+    def test_each_end_of_one_that_held(self) -> None:
+        """One of a session over several bays may have held in this one, and given up while it waited in the next."""
+        records = [record(0, "opened")]
+        for at, end in enumerate(ENDS):
+            records += [record(10 * at, "held", end, "scope", session=at), record(10 * at + 5, end, end, "scope", session=at)]
+        records += [record(t, "held", "board", "scope", session=t) for t in (80, 90)]
+        its, rows = past_of(records).sessions(), rows_of(drawn(records))
+        self.assertEqual({it.how for it in its}, {*ENDS.values(), UNKNOWN, HOLDS})
+        looks = [it.get("fill") for it in rows["scope"].findall(f"{SVG}rect")]
+        self.assertEqual((len(looks), len(set(looks))), (len(its), len(its)))
+        self.assertEqual([len(rows[name].findall(f"{SVG}rect")) for name in (*ENDS, "board")], [1] * len(ENDS) + [2])
 
     def test_places(self) -> None:
         # 120 s are 1050 wide: board holds both from 10 to 40, so from 87.5 for 262.5
