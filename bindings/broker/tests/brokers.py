@@ -71,6 +71,10 @@ def certificate(folder: str, name: str = "certificate", key: str = "key", of: st
     return f"{folder}/{name}", f"{folder}/{key}"
 
 
+# the line of a `hold` that has waited for its first word for some seconds: on a busy machine any may have to
+UNHEARD = re.compile(r"^labrun-(?:broker|hold): there is no word from the broker at \S+; (?:labrun-)?hold keeps trying for a while, and Ctrl-C ends that\n", re.M)
+
+
 class Broker:
     """`labrun-broker serve`, begun anew as often as wanted."""
 
@@ -121,7 +125,9 @@ class Broker:
     def ran(self, *words: str, **more: Any) -> subprocess.CompletedProcess[str]:
         """What a command says, and its status."""
         environment = {**os.environ, "LABRUN_BROKER": self.address}
-        return subprocess.run([*COMMAND, *words], env=environment, capture_output=True, text=True, timeout=LIMIT, **more)
+        done = subprocess.run([*COMMAND, *words], env=environment, capture_output=True, text=True, timeout=LIMIT, **more)
+        done.stderr = UNHEARD.sub("", done.stderr)
+        return done
 
     def started(self, *words: str) -> subprocess.Popen[str]:
         environment = {**os.environ, "LABRUN_BROKER": self.address}

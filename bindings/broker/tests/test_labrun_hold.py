@@ -360,7 +360,7 @@ class Held(OnBroker):
         holder = self.started(broker, "scope", "--", "sh", "-c", "echo > FOLDER/begun; while [ ! -e FOLDER/over ]; do sleep 0.05; done")
         with self.waits(broker, "scope", "--", "true") as waits:
             assert waits.stderr is not None
-            self.assertIn("waits: scope is held", waits.stderr.readline())
+            self.assertIn("waits: scope has been held", waits.stderr.readline())
             broker.process.send_signal(signal.SIGSTOP)
             self.addCleanup(broker.process.send_signal, signal.SIGCONT)
             with self.waits(broker, "load-1", "--", "true") as asks:
