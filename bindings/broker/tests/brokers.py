@@ -14,7 +14,7 @@ import sys
 import tempfile
 import time
 import unittest
-from typing import Any, Callable, Iterator, Optional
+from typing import IO, Any, Callable, Iterator, Optional
 
 import labrun_broker
 
@@ -73,6 +73,14 @@ def certificate(folder: str, name: str = "certificate", key: str = "key", of: st
 
 # the line of a `hold` that has waited for its first word for some seconds: on a busy machine any may have to
 UNHEARD = re.compile(r"^labrun-(?:broker|hold): there is no word from the broker at \S+; (?:labrun-)?hold keeps trying for a while, and Ctrl-C ends that\n", re.M)
+
+
+def heard(lines: Optional[IO[str]]) -> str:
+    """The next line that is none of those."""
+    assert lines is not None
+    while UNHEARD.match(line := lines.readline()):
+        pass
+    return line
 
 
 class Broker:
