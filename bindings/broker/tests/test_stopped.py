@@ -179,7 +179,8 @@ class Killed(OnBroker):
         with mock.patch.object(client, "ANSWER", 0.2):
             lab.close()
         until(returns.done, "that it doesn't any more")
-        self.assertTrue(returns.cancelled())
+        why = None if returns.cancelled() else returns.exception()
+        self.assertTrue(returns.cancelled(), why)
 
 
 if __name__ == "__main__":
