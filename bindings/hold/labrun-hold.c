@@ -31,9 +31,10 @@
 
 enum { USAGE = 2, NO_FILE = 66, UNREACHABLE = 69, NOT_WRITTEN = 74, TIMED_OUT = 75, TAKEN = 76, MAY_NOT = 77, CANT_RUN = 126, NOT_FOUND = 127 };
 /* seconds: that a broker may take to begin; that one which was there may be away; between two tries; that an answer may be late; after which it
-   is said that the broker isn't told, or what still runs; between two looks at what still runs */
+   is said that the broker isn't told, or what still runs; between two looks at what still runs; that a broker which is there may say nothing to
+   a new client */
 static const double STARTING = 5, AWAY = 60, PAUSE = 0.3, LATE = 10, LATE_END = 2, UNTOLD = 1.5, TELLING = 1, LOOK = 0.02;
-static const double FIRST_WORD = 0.3, AGAIN = 60, LONG = 30, SILENCE = 8;
+static const double FIRST = 30, FIRST_WORD = 0.3, AGAIN = 60, LONG = 30, SILENCE = 8;
 static const char DEFAULT[] = "unix:/run/labrun/bay.sock";
 static const char HELP[] =
     "usage: labrun-hold INSTRUMENT .. [options] -- COMMAND [ARGUMENT ..]\n\n"
@@ -649,7 +650,8 @@ static void find_path(void) {
     }
 }
 
-static enum outcome asks(struct talk *it, bool is_new, double wait, double left) {
+/* `most`: it may take no longer. */
+static enum outcome asks(struct talk *it, bool is_new, double wait, double left, double most) {
     struct text rest = {0}, body = {0};
     double late = isnan(left) ? LATE : left + LATE_END - wait < LATE ? fmax(LATE_END, left + LATE_END - wait) : LATE;
     put(&body, "", 0);
@@ -659,7 +661,7 @@ static enum outcome asks(struct talk *it, bool is_new, double wait, double left)
     } else
         putf(&rest, "/%s", ticket);
     putf(&rest, "?wait=%.3f", wait);
-    enum outcome how = call(it, is_new ? "POST" : "GET", rest.at, body.at, wait + late);
+    enum outcome how = call(it, is_new ? "POST" : "GET", rest.at, body.at, fmin(wait + late, fmax(LATE_END, most)));
     free(rest.at);
     free(body.at);
     return how;
@@ -748,11 +750,12 @@ static bool is_held(const struct talk *it) {
     return isnan(held.lease) || now() < it->at + held.lease / 6;
 }
 
-/* How it goes on to wait: whether its wish is to be sent, or it asks on by its ticket; whether some of it was sent; whether the broker was there;
-   since when it is away; whether it would wait for itself. */
+/* How it goes on to wait: whether its wish is to be sent, or it asks on by its ticket; whether some of it was sent; whether the broker was there,
+   and has said something; since when it is away; whether it would wait for itself. */
 struct line {
-    bool is_new, has_asked, was_there, is_told, is_itself;
+    bool is_new, has_asked, was_there, has_heard, is_told, is_itself;
     double end, lost, wait, said_at, silent_at; /* and when it is said that no word comes */
+    double first; /* until when the first word may take */
     struct text said;
 };
 
@@ -760,7 +763,11 @@ struct line {
 static void is_silent(struct line *its) {
     if (now() < its->silent_at)
         return;
-    say("there is no word from the broker at unix:%s; labrun-hold keeps trying for a while, and Ctrl-C ends that", path);
+    if (its->has_heard)
+        say("there is no word from the broker at unix:%s; labrun-hold keeps trying for a while, and Ctrl-C ends that", path);
+    else
+        say("there is no word from the broker at unix:%s; labrun-hold keeps trying for %g s in all, and Ctrl-C ends that", path,
+            isnan(wish.timeout) ? FIRST : fmin(FIRST, wish.timeout));
     its->silent_at = INFINITY;
 }
 
@@ -777,7 +784,7 @@ static int hears(struct line *its, const struct talk *it) {
     } else if (answer != 404 || its->is_new)
         found = refused(it);
     its->is_new = answer == 404;
-    its->was_there = true;
+    its->was_there = its->has_heard = true;
     its->silent_at = wish.quiet ? (double)INFINITY : now() + SILENCE;
     its->lost = NAN;
     its->wait = answer == 200 ? 0 : its->is_new ? FIRST_WORD : 5;
@@ -798,13 +805,15 @@ static int hears_nothing(struct line *its, const struct talk *it, enum outcome h
         return UNREACHABLE;
     }
     its->was_there |= how == LOST || how == ANSWERED;
+    its->has_heard |= how == ANSWERED;
+    bool is_silent = how == LOST && !its->has_heard && time >= its->first;
     its->is_new = its->is_new && how == ABSENT;
     its->lost = isnan(its->lost) ? time : its->lost;
     if (!its->is_told && is_first && !(time >= its->end)) {
         say("waits for the broker: it doesn't listen yet at unix:%s", path);
         its->is_told = true;
     }
-    if (time > its->lost + (its->was_there ? AWAY : STARTING) || time > its->end + LATE_END || (is_first && time >= its->end)) {
+    if (is_silent || time > its->lost + (its->was_there ? AWAY : STARTING) || time > its->end + LATE_END || (is_first && time >= its->end)) {
         say("the broker at unix:%s %s", path, how == ABSENT ? "can't be reached: nobody listens there" : "doesn't answer");
         if (its->has_asked)
             gives_up(&none, 0.5);
@@ -817,13 +826,13 @@ static int hears_nothing(struct line *its, const struct talk *it, enum outcome h
 /* 0 once it holds; else the status to end with. */
 static int holds(void) {
     struct talk it = {.socket = -1};
-    struct line its = {.is_new = true, .is_told = wish.quiet, .end = now() + wish.timeout, .lost = NAN, .wait = FIRST_WORD};
+    struct line its = {.is_new = true, .is_told = wish.quiet, .end = now() + wish.timeout, .lost = NAN, .wait = FIRST_WORD, .first = now() + FIRST};
     int found = -1;
     its.silent_at = wish.quiet ? (double)INFINITY : now() + SILENCE;
     while (found < 0 && !came) {
         /* (0 says that it never wanted to wait) */
         double left = isnan(wish.timeout) ? (double)NAN : fmax(wish.timeout > 0 ? 0.001 : 0, its.end - now());
-        enum outcome how = asks(&it, its.is_new, its.wait, left);
+        enum outcome how = asks(&it, its.is_new, its.wait, left, its.has_heard ? (double)INFINITY : its.first - now());
         while (how == PENDING && !came) {
             wait_until(&it, fmin(its.silent_at, now() + 3600));
             how = goes_on(&it);
@@ -929,7 +938,7 @@ static void is_late(void) {
     struct text why = {0}, names = {0};
     for (const char *at = held.names.at; *at; at++)
         put(&names, *at == '\t' ? ", " : at, *at == '\t' ? 2 : 1);
-    putf(&why, "%s: nothing was heard from the broker for %g s, so the session is over, and others may hold these soon: %s", held.station, held.lease,
+    putf(&why, "%s: nothing was heard from the broker for more than %g s, so the session is over, and others may hold these by now: %s", held.station, held.lease,
          names.length ? names.at + 2 : "");
     taken(why.at);
     free(why.at);

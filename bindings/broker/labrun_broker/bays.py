@@ -206,7 +206,7 @@ class Bays:
         if not its and station in self.bay.guest_names:
             raise labrun.NotHeld(f"{station} holds nothing")
         if not its:
-            raise wishes.no_station(station, self.bay)
+            raise wishes.no_station(station, self.bay, (one for it in self.peers for one in it.by_number.values()))
         if len(its) > 1:
             # (before they were bays of one lab, each named its own guests)
             its = [it for it in its if number in it.by_number] or its

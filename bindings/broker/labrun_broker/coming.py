@@ -3,11 +3,13 @@
 from __future__ import annotations
 
 import asyncio
+import math
 from typing import TYPE_CHECKING, Any, Coroutine, Optional
 
-from .errors import SILENT, AnswerLost, Unreachable, is_for_good, raised
+from .errors import AnswerLost, Unreachable, is_for_good, plainly, raised
 from .stream import AGAIN, LATE, Lost, Silent, Stream
-from .texts import span
+from .texts import SILENT, span
+from .wire import FIRST
 from .work import clock
 
 if TYPE_CHECKING:
@@ -28,6 +30,8 @@ class Coming:
     def __init__(self, held: Held) -> None:
         self._held, self._lab, self._loop = held, held.lab, asyncio.get_running_loop()
         self._until = None if held.timeout is None else self._loop.time() + held.timeout
+        # until when a new client tries one that is there, and says nothing
+        self._first_until = self._loop.time() + FIRST
         # since when the broker can't be reached
         self._lost_at: Optional[float] = None
 
@@ -56,7 +60,7 @@ class Coming:
         stream.session = self._held
         try:
             if is_new:
-                await self._in_time(stream.opens())
+                await self._in_time(stream.opens(), lab._was_there or lab._brokers.is_list)
                 lab._was_there, self._lost_at = True, None
             elif self._until is not None:
                 # (one that is stopped isn't asked: should this program end meanwhile, the wish would be read, and not that it is withdrawn)
@@ -89,11 +93,13 @@ class Coming:
             raise raised(told)
         return stream, told, sent
 
-    async def _in_time(self, work: Coroutine[Any, Any, None]) -> None:
+    async def _in_time(self, work: Coroutine[Any, Any, None], as_ever: bool = True) -> None:
         """Before anything is asked. Each such step has its own while, also if the time limit was over before it: so there is a try, however short
         that is and however busy the machine."""
+        until = math.inf if self._until is None else max(self._until, self._loop.time()) + 2 * LATE
+        until = until if as_ever else min(until, max(self._first_until, self._loop.time() + 2 * LATE))
         try:
-            async with asyncio.timeout_at(None if self._until is None else max(self._until, self._loop.time()) + 2 * LATE):
+            async with asyncio.timeout_at(None if until == math.inf else until):
                 await work
         except TimeoutError:
             raise Unreachable(self._no_answer()) from None
@@ -105,6 +111,8 @@ class Coming:
         """Before the next try, if it is worth one."""
         lab, now = self._lab, self._loop.time()
         patience = GRACE if lab._was_there else lab._brokers.patience
+        if not patience and SILENT in plainly(lab.address, str(lost), False):
+            patience = max(0.0, self._first_until - (self._lost_at or now))
         is_over = self._lost_at is not None and now > self._lost_at + patience or self._until is not None and now > self._until
         if lost.code not in AGAIN or is_for_good(str(lost)) or not patience or is_over:
             why = lab._why_lost(lost.code, str(lost))

@@ -24,7 +24,7 @@ if TYPE_CHECKING:
 
 # the status of each error, by its name, or by that of the first of its kinds: it is looked up without importing what has it
 ENDS = {"TimeoutError": TIMED_OUT, "TakenAway": TAKEN, "MayNotUse": MAY_NOT, "NotAllowed": MAY_NOT, "Unreachable": UNREACHABLE, "JournalError": NOT_WRITTEN}
-ENDS |= {"Absent": UNREACHABLE, "NoBroker": UNREACHABLE, "NoFile": NO_FILE, "NoInstrument": USAGE, "Itself": USAGE, "BayFault": NO_BAY}
+ENDS |= {"Absent": UNREACHABLE, "NoBroker": UNREACHABLE, "NoFile": NO_FILE, "NoBayFile": NO_FILE, "NoInstrument": USAGE, "Itself": USAGE, "BayFault": NO_BAY}
 ENDS |= {"BadAddress": NO_BAY, "LabrunError": 1, "OSError": 1, "ValueError": 1}
 
 # ---- how it stands
@@ -119,7 +119,7 @@ def line_of(it: dict[str, Any], status: dict[str, Any]) -> list[str]:
 
 def out_of(it: dict[str, Any], at: float) -> str:
     why = f": {plain(it['out'])}" if it["out"] else ""
-    return f"{it['name']} has been out of order for {span(at - it['out_since'])}{why} (says {plain(it['out_by'])})"
+    return f"{it['name']} has been out of order for {span(at - it['out_since'])}{why} (says {plain(it['out_by'])}; once it is mended: labrun-broker enable {it['name']})"
 
 
 def brokers_of(status: dict[str, Any]) -> list[str]:
@@ -188,7 +188,8 @@ def add_bay(parser: argparse.ArgumentParser) -> None:
 
 def run_bay(args: argparse.Namespace) -> int:
     from .bay import BayFault
-    from .labs import Lab, read_any
+    from .here import lacks
+    from .labs import Lab, NoBayFile, read_any
 
     if args.what == "split":
         return split_bay(args)
@@ -197,13 +198,15 @@ def run_bay(args: argparse.Namespace) -> int:
             read = read_any(args.bay)
     except BayFault as fault:
         print(fault, file=sys.stderr)
-        return 1
+        return NO_FILE if isinstance(fault, NoBayFile) else 1
     if args.what == "apply":
         return apply_bay(args, isinstance(read, Lab))
     if isinstance(read, Lab):
         print(f"ok {args.bay}: {called('lab', read.name)}, {counted(len(read.bays), 'bay')}, {counts_of(read.whole)}")
     for path, bay in ((read.paths[name], bay) for name, bay in read.bays.items()) if isinstance(read, Lab) else ((args.bay, read),):
         print(f"ok {path}: {called('bay', bay.name)}, {counts_of(bay)}, gone = {bay.its_gone.told()}")
+    for line in lacks(read):
+        say(plain(f"{args.bay}: {line}"))
     return 0
 
 

@@ -87,6 +87,7 @@ class Crossing(Session):
         self.instruments = next(tuple(dict.fromkeys(it)) for it in self.wish.choices if set(it) == held)
         self.state, self.number = "holding", its[0][1].number
         self.is_kept = any(home.keeps(part) for home, part in its)
+        self.limit = min((part.limit for _, part in its if part.limit is not None), default=None)
         for home, part in its:
             part.is_kept, part.told_at = self.is_kept, home.now() - ago
             lasting.watches(home, part)

@@ -62,7 +62,7 @@ async def releases(keeping: Keeping, station: str, by: str, number: int, person:
     keeping.in_bay(bay)
     await keeping._shell.turns.may_go_on()
     if station not in keeping.bay.jobs and all(it.name != station for it in keeping.by_number.values()):
-        raise wishes.no_station(station, keeping.bay)
+        raise wishes.no_station(station, keeping.bay, keeping.by_number.values())
     standings = Standings(keeping)
     session, needs = next(((it, bits) for it, bits, _ in standings.holders if it.name == station), (None, 0))
     if session is None or session.state == ENDING:

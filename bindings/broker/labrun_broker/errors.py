@@ -10,7 +10,7 @@ from typing import Any, Callable
 import grpc
 import labrun
 
-from .texts import HTTP_THERE, unreached
+from .texts import HTTP_THERE, SILENT, unreached
 
 
 class BrokerError(labrun.LabrunError):
@@ -98,9 +98,7 @@ def raised(fault: Any) -> Exception:
     return KINDS.get(fault.kind, BrokerError)(fault.text)
 
 
-CLOSED = "it closed the connection"
-# of whom no word comes
-SILENT = "(it is stopped, or the network is cut)"
+CLOSED, ENDED = "it closed the connection", "it has ended"
 # what gRPC says where it can't connect, and what that means; first what is so however often it is tried, then where somebody listens
 FOR_GOOD = {
     "wrong version number": "it has no TLS: come without --certificate",
@@ -111,6 +109,7 @@ FOR_GOOD = {
 IS_THERE = {"Socket closed": CLOSED, "Connection reset by peer": CLOSED, **FOR_GOOD}
 HINTS = IS_THERE | {
     "Broken pipe": CLOSED,
+    "Cancelling all calls": ENDED,
     "Permission denied": "permission denied",
     **dict.fromkeys(("before receiving SETTINGS frame", "keepalive watchdog timeout", "ping timeout"), f"it doesn't answer {SILENT}"),
     "C-ares status is not ARES_SUCCESS": "no machine of that name is known here",
@@ -153,7 +152,7 @@ def why_lost(address: str, code: Any, text: str, may_want_tls: bool = False) -> 
         return AnswerLost(f"the broker at {address} doesn't answer {SILENT}")
     if code in (grpc.StatusCode.UNAVAILABLE, grpc.StatusCode.UNKNOWN, grpc.StatusCode.CANCELLED):
         why = plainly(address, text, may_want_tls)
-        return (AnswerLost if why in (CLOSED, NO_MORE) else Unreachable)(unreached(address, why))
+        return (AnswerLost if why in (CLOSED, NO_MORE, ENDED) else Unreachable)(unreached(address, why))
     if code in (grpc.StatusCode.UNAUTHENTICATED, grpc.StatusCode.RESOURCE_EXHAUSTED):
         return Unreachable(f"the broker at {address} doesn't let this client in: {text}")
     if code is grpc.StatusCode.PERMISSION_DENIED:

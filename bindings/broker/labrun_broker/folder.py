@@ -82,10 +82,14 @@ class Folder:
                 return places_of(file.read())
         except FileNotFoundError:
             if is_needed:
-                raise JournalError(path, "it isn't there, and the journal can't be read without it") from None
+                raise JournalError(path, f"it isn't there, and the journal can't be read without it. {self._instead()}") from None
             return Places()
         except ValueError as fault:
-            raise JournalError(path, f"it isn't as the broker wrote it, and the journal can't be read without it: {fault}") from None
+            raise JournalError(path, f"it isn't as the broker wrote it, and the journal can't be read without it: {fault}. {self._instead()}") from None
+
+    def _instead(self) -> str:
+        out = f"move {PLACES}, {JOURNAL}, its numbered files and lock out of {self.path} (the records may stay)"
+        return f"Put back the one that belongs to it; or see that nobody is at the instruments, {out}, and begin again"
 
     def keeps(self, places: Places) -> None:
         path = f"{self.path}/{PLACES}"

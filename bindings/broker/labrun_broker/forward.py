@@ -11,7 +11,7 @@ from typing import Any, Callable, Iterator, Mapping, Optional
 
 from .bay import is_here
 from .relay import End, joins
-from .texts import plain
+from .texts import plain, why_none
 from .ways import Way, variable_of, way_of
 
 ANSWER = 20.0  # seconds: a guard asks for patience, and so may the instrument
@@ -102,7 +102,7 @@ class Forward:
         except ssl.SSLCertVerificationError as fault:
             raise OSError(f"the guard at {at} has no certificate that is known here: {fault.verify_message}") from None
         except (OSError, builtins.TimeoutError) as fault:
-            raise OSError(f"the guard at {at} doesn't answer: {fault or 'no answer'}") from None
+            raise OSError(f"the guard at {at} doesn't answer: {why_none(fault)}") from None
         said, _, there.early = there.early.partition(b"\n")
         if said != b"ok":
             there.cut()

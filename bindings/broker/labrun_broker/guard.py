@@ -20,7 +20,7 @@ import socket
 from typing import Any, Callable, NamedTuple, Optional
 
 from .relay import End, joins, resets
-from .texts import plain
+from .texts import plain, why_none
 
 FIRST_LINE, PATIENCE, CONNECTING = 5.0, 5.0, 5.0  # seconds
 CLOSING, AGAIN = 0.5, 0.001
@@ -239,14 +239,14 @@ class Guard:
                 raise
             return
         except (OSError, builtins.TimeoutError) as fault:
-            raise Refused(f"{self.way.instrument} doesn't answer: {fault or 'no answer'}") from None
+            raise Refused(f"{self.way.instrument} doesn't answer: {why_none(fault)}") from None
         # (what follows takes no time, and so isn't ended midway)
         one.connecting = None
         try:
             await loop.create_connection(lambda: one.there, sock=made)
         except OSError as fault:
             made.close()
-            raise Refused(f"{self.way.instrument} doesn't answer: {fault}") from None
+            raise Refused(f"{self.way.instrument} doesn't answer: {why_none(fault)}") from None
         if one.is_cut:
             one.there.cut()
 

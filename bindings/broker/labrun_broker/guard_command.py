@@ -20,20 +20,21 @@ import socket
 import ssl
 import time
 import tomllib
-from typing import TYPE_CHECKING, Any, Callable, Optional
+from typing import TYPE_CHECKING, Any, Callable, Coroutine, Optional
 
 from labrun.picks import near
 
 from .bay import BadAddress, is_here
 from .sockets import family_of, listens, parsed, tls_of, written
 from .texts import plain, seconds
-from .words import add_client, lab_of, say
+from .waking import kept
+from .words import add_client, lab_of, reading, say
 
 if TYPE_CHECKING:
     from .client import Lab
     from .guard import Guard
 
-AGAIN, SELDOM = 0.2, 60.0
+AGAIN, SELDOM, ENDING = 0.2, 60.0, 3.0
 KEYS: dict[str, Any] = {"listen": str, "instrument": str, "by_host": bool, "settle": (int, float), "clear": str}
 
 
@@ -64,7 +65,7 @@ class BadTable(BadAddress):
 def read_table(path: str, args: argparse.Namespace) -> dict[str, dict[str, Any]]:
     """For each instrument its five keys. BadTable names every fault."""
     try:
-        with open(path, "rb") as file:
+        with reading(path), open(path, "rb") as file:
             given = tomllib.load(file)
     except (tomllib.TOMLDecodeError, UnicodeDecodeError) as fault:
         raise BadTable(f"{path}: {fault}") from None
@@ -123,12 +124,20 @@ def run_guard(args: argparse.Namespace) -> int:
     table = read_table(args.table, args)
     context = context_of(args)
     check(table, args)
-    signal.signal(signal.SIGTERM, signal.default_int_handler)
-    try:
-        with lab_of(args, by="a guard") as lab:
-            return lab._run(guards(table, args, lab, context))
-    except KeyboardInterrupt:
-        return 0
+    with kept(signal.SIGTERM, signal.SIGINT) as ends, lab_of(args, by="a guard") as lab:
+        return lab._run(until_told(ends, guards(table, args, lab, context)))
+
+
+async def until_told(ends: socket.socket, work: Coroutine[Any, Any, int]) -> int:
+    """The work goes on until this socket has something. It is ended then, and has a moment for that: whatever it is at, this returns."""
+    goes_on, told = asyncio.create_task(work), asyncio.create_task(asyncio.get_running_loop().sock_recv(ends, 1))
+    await asyncio.wait({goes_on, told}, return_when=asyncio.FIRST_COMPLETED)
+    if goes_on.done():
+        told.cancel()
+        return goes_on.result()
+    goes_on.cancel()
+    await asyncio.wait({goes_on}, timeout=ENDING)
+    return 0
 
 
 async def guards(table: dict[str, dict[str, Any]], args: argparse.Namespace, lab: Lab, context: Optional[ssl.SSLContext]) -> int:

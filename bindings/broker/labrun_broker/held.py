@@ -55,6 +55,8 @@ class Held:
         # where the guards of its instruments are, and the ports that lead there
         self.guards: dict[str, str] = {}
         self._ways: Optional[Ways] = None
+        # for how long it may hold while somebody waits for what it has
+        self.limit: Optional[float] = None
         # it is called, on another thread, if the session was taken away while its owner works
         self.on_taken: Optional[Callable[[Exception], None]] = None
         # and if its limit is over soon
@@ -181,6 +183,7 @@ class Held:
         self.instruments, self.station = tuple(told.instruments), told.station
         self.number, self.token = told.session, told.token
         self.guards = dict(told.guards)
+        self.limit = told.limit if told.HasField("limit") else None
 
     async def _address(self, instrument: str) -> tuple[str, int]:
         self._raises_taken()
@@ -214,8 +217,8 @@ class Held:
     def _looks_at_the_time(self) -> None:
         if self.state != "held" or clock() < self._until:
             return
-        what = f"so the session is over, and others may hold these soon: {', '.join(self.instruments)}"
-        fault = TakenAway(f"{self.station}: nothing was heard from the broker for {self._lease or 0:g} s, {what}")
+        what = f"so the session is over, and others may hold these by now: {', '.join(self.instruments)}"
+        fault = TakenAway(f"{self.station}: nothing was heard from the broker for more than {self._lease or 0:g} s, {what}")
         stream, returns = self._stream, self._returns
         if returns is None and stream is not None:
             self._is_taken(stream, fault)

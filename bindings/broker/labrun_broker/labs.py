@@ -40,6 +40,10 @@ class LabFault(BayFault):
         self.args = ("\n".join(lines),)
 
 
+class NoBayFile(LabFault):
+    """One of these files can't be read."""
+
+
 @dataclass(frozen=True)
 class Lab:
     """The bays by their names, in the order of the file, each with the people and the limits of the lab; `paths` are their files."""
@@ -127,16 +131,19 @@ def texts_of(path: str) -> tuple[str, dict[str, str]]:
 def lab_at(text: str, path: str) -> Lab:
     """That of a file, with the files of its bays."""
     table, folder = table_in(text, path), os.path.dirname(path)
-    texts, faults = dict[str, str](), list[str]()
+    texts, faults, unread = dict[str, str](), list[str](), list[str]()
     paths = paths_of(table["bays"], folder)
     for name, at in paths.items():
         try:
             texts[name] = text_in(at)
         except OSError as fault:
-            faults.append(f"{path}: bays.{name}: {at}: {fault.strerror}")
+            unread.append(f"{path}: bays.{name}: {at}: {fault.strerror}")
         except BayFault as fault:
             faults.append(str(fault))
-    return lab_of_texts(text, texts, path, paths, faults)
+    try:
+        return lab_of_texts(text, texts, path, paths, unread + faults)
+    except LabFault as fault:
+        raise NoBayFile(path, fault.faults) if unread else fault from None
 
 
 def lab_of_texts(text: str, texts: Mapping[str, str], path: str = "lab", paths: Mapping[str, str] = {}, faults: Sequence[str] = ()) -> Lab:

@@ -33,7 +33,7 @@ def going_round(wish: Wish, out: dict[str, Out]) -> Wish:
 
 def told(name: str, it: Out) -> str:
     why = f": {it.why}" if it.why else ""
-    return f"{name} has been out of order for {span(time.time() - it.since)}{why} (says {it.by})"
+    return f"{name} has been out of order for {span(time.time() - it.since)}{why} (says {it.by}; once it is mended: labrun-broker enable {name})"
 
 
 async def disable(keeping: Keeping, name: str, why: str, by: str) -> None:

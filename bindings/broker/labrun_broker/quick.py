@@ -24,7 +24,7 @@ if TYPE_CHECKING:
 # the fields of Ask and of Told
 WISH, LET_GO = 1, 3
 HELD, WAITS, GONE, FAULT, TAKEN, WARNING = 1, 2, 4, 5, 6, 8
-LEASE, TOKEN, GUARDS = 6, 7, 8  # fields of Held
+LEASE, TOKEN, GUARDS, LIMIT = 6, 7, 8, 9  # fields of Held
 WAITS_FOR = 2  # of Waits
 
 
@@ -51,6 +51,7 @@ class Quick:
         self.on_warning: Optional[Callable[[str], None]] = None
         self.on_lacking: Optional[Callable[[list[str]], None]] = None
         self.is_released_if_gone = False
+        self.limit: Optional[float] = None
         self.wire = Wire()
         self._path, self._wish, self._waits, self._connects, self._begins, self._token = path, wish, waits, connects, begins, token
         self.ticket = binascii.b2a_base64(os.urandom(32), newline=False).decode().translate({43: "-", 47: "_", 61: None})
@@ -100,6 +101,7 @@ class Quick:
             if what == HELD:
                 self.station, self.number, self.instruments = text_of(of, 1), of[2][0], tuple(it.decode() for it in of[3])
                 self.token = of.get(TOKEN, [0])[0]
+                self.limit = struct.unpack("<d", of[LIMIT][0])[0] if LIMIT in of else None
                 self.guards = {text_of(it, 1): text_of(it, 2) for it in map(fields_of, of.get(GUARDS, []))}
                 if LEASE in of:
                     # (its client has to say again and again that it is there)

@@ -17,8 +17,9 @@ from .credentials import DEFAULT, user
 from .family import TELLING, Family, adopting, ends
 from .leaving import leaves
 from .quick import Quick, Wish
-from .texts import addresses_of, last, plain, seconds, station_name, unreached
-from .wire import Absent, NoBroker, Odd, Silent
+from .texts import addresses_of, last, plain, seconds, span, station_name, unreached
+from .waking import waking
+from .wire import FIRST, Absent, NoBroker, Odd, Silent
 from .within import Within, around
 from .words import CANT_RUN, ENVIRONMENT, NOT_FOUND, PROGRAM, TAKEN, USAGE, add_client, files_of, lab_of, say
 
@@ -64,7 +65,7 @@ def run_hold(args: argparse.Namespace) -> int:
     station = args.station or ""
     within.checks(station, any_of or (its,))
     wish = Wish(() if any_of else its, any_of, station, args.by or f"{user()} {os.getpid()} {what}"[:64], args.timeout, args.limit, args.urgent)
-    silence = Silence(address_of(args))
+    silence = Silence(address_of(args), args.timeout)
 
     def waits(text: str) -> None:
         if not args.quiet:
@@ -76,6 +77,8 @@ def run_hold(args: argparse.Namespace) -> int:
             if not args.quiet:
                 until_held.enter_context(silence)
             held = holds(args, wish, None if args.quiet and not within.stations else waits, signals, ends, within)
+        if args.limit is not None and held.limit is not None and held.limit < args.limit:
+            say(f"the bay's limit counts, which is shorter: {span(held.limit, 1)}, and not {span(args.limit, 1)}")
         variables, passes = ends.enter_context(leads(held, args))
         status = runs(args.command, held, signals, address_of(args), variables)
         if held.held:
@@ -114,8 +117,11 @@ def lets_go(held: Union[Quick, Held], status: int, signals: Signals, ends: conte
 class Silence:
     """Who waits is told if no word of the broker comes: it may be stopped, and then even its machine takes the connection. `with` it."""
 
-    def __init__(self, address: str) -> None:
+    def __init__(self, address: str, timeout: Optional[float] = None) -> None:
         self._address = address
+        # (of a list the one that answers is looked for)
+        first = FIRST if timeout is None else min(FIRST, timeout)
+        self._for = f"for {first:g} s in all" if len(addresses_of(address)) == 1 else "for a while"
         self._timer: Optional[threading.Timer] = None
 
     def __enter__(self) -> None:
@@ -128,10 +134,11 @@ class Silence:
     def is_broken(self) -> None:
         """There was a word."""
         self.__exit__()
+        self._for = "for a while"
         self._lasts(MINUTE)
 
     def _lasts(self, seconds: float) -> None:
-        self._timer = threading.Timer(seconds, say, [f"there is no word from the broker at {self._address}; hold keeps trying for a while, and Ctrl-C ends that"])
+        self._timer = threading.Timer(seconds, say, [f"there is no word from the broker at {self._address}; hold keeps trying {self._for}, and Ctrl-C ends that"])
         self._timer.daemon = True
         self._timer.start()
 
@@ -365,9 +372,10 @@ class Signals:
 def passing_on() -> Iterator[Signals]:
     signals = Signals()
     numbers = (signal.SIGINT, signal.SIGTERM, signal.SIGHUP, signal.SIGQUIT)
-    before = {number: signal.signal(number, signals.comes) for number in numbers}
-    try:
-        yield signals
-    finally:
-        for number, what in before.items():
-            signal.signal(number, what)
+    with waking():
+        before = {number: signal.signal(number, signals.comes) for number in numbers}
+        try:
+            yield signals
+        finally:
+            for number, what in before.items():
+                signal.signal(number, what)

@@ -60,6 +60,7 @@ async def serve(args: argparse.Namespace) -> int:
     from .bays import Bays
     from .entrance import Entrance
     from .folder import Folder
+    from .here import commands
     from .keeping import Keeping
 
     with reading(args.bay):
@@ -116,7 +117,8 @@ async def serve(args: argparse.Namespace) -> int:
         of = "" if lab is None else f"{counted(len(lab.bays), 'bay')} ({', '.join(lab.bays)}), "
         leads = "" if args.etcd is None else "leads: "
         say(f"{leads}{called(bay.what, bay.name)}: {of}{counted(len(bay.instruments), 'instrument')}, at {where}")
-        for it in (*keeping.complaints, *entrance.complaints(), *begins):
+        lacking = [line for one in (lab.bays.values() if lab else (bay,)) for line in commands(one)]
+        for it in (*keeping.complaints, *entrance.complaints(), *lacking, *begins):
             say(plain(it))
         keeping.says = lambda text: say(plain(text)[:MOST_TOLD]) if door.is_read() else None
         tell_systemd("READY=1\nSTATUS=")

@@ -156,6 +156,8 @@ class Client:
             held = pb.Held(station=it.name, session=it.number, instruments=it.instruments, ticket=wish.ticket, token=it.token)
             if (lease := self.keeping.lease_of(it)) is not None:
                 held.grace, held.lease = self.keeping.grace_of(it), lease
+            if it.limit is not None:
+                held.limit = it.limit
             held.guards.update({name: at for name, at in self.keeping.bay.guards.items() if name in it.instruments})
             told = pb.Told(held=held)
         except labrun.LabrunError as fault:

@@ -4,6 +4,7 @@ from __future__ import annotations
 
 import argparse
 import math
+import os
 import re
 from typing import Optional
 
@@ -100,6 +101,19 @@ def span_of(text: str) -> Optional[float]:
     """In seconds; None: it is none."""
     found = re.fullmatch(r"(\d{1,9}(?:\.\d{1,3})?)\s*(s|m|min|h|d)?", text)
     return float(found[1]) * {None: 1, "s": 1, "m": 60, "min": 60, "h": 3600, "d": 86400}[found[2]] if found else None
+
+
+SILENT = "(it is stopped, or the network is cut)"
+
+
+def why_none(fault: BaseException) -> str:
+    """Why there is no connection, in the system's words: asyncio says it otherwise, of a span that is over nothing, and of a name with several
+    addresses what each said."""
+    if isinstance(fault, TimeoutError) and not getattr(fault, "errno", None):
+        return f"nothing came {SILENT}"
+    if numbers := re.findall(r"\[Errno (\d+)\]", str(fault)):
+        return ", ".join(dict.fromkeys(os.strerror(int(it)).lower() for it in numbers))
+    return str(getattr(fault, "strerror", None) or fault).lower() or type(fault).__name__
 
 
 HTTP_THERE = "somebody speaks HTTP there, and not as the clients of a broker do"

@@ -13,6 +13,7 @@ from typing import Any, Iterator, Optional
 from .texts import HTTP_THERE
 
 SILENT = 10.0  # seconds without a word, after which the broker is asked whether it is there, and then as many for its answer
+FIRST = 30.0  # for a new client: for so long it waits for the first word of all
 LATE, LATER = 1.0, 6.0  # or a second once the time limit is over, and then longer: a broker takes it ill to be asked twice in five seconds
 MOST_BYTES = 16000  # of a wish: it is one frame
 DATA, HEADERS, RESET, SETTINGS, PING, WINDOW = 0, 1, 3, 4, 6, 8
@@ -51,18 +52,20 @@ class Wire:
     def __init__(self) -> None:
         self.socket, self._writing = socket.socket(socket.AF_UNIX), threading.Lock()
         self.was_there = self.is_leaving = False  # the broker; this client
+        self._begun, self._has_pinged = time.monotonic(), False
         # until when it may take to hold; and for how long it is waited for after that
         self.limit, self._late = math.inf, LATE
         # bytes that came: of frames, and of messages
         self._came = self._messages = b""
 
     def connects(self, path: str, token: Optional[str] = None) -> None:
-        self._is_patient()
+        self._begun = time.monotonic()
+        self._is_patient(FIRST)
         try:
             with _oddly():
                 self.socket.connect(path)
         except Odd as fault:
-            if isinstance(fault.__cause__, TimeoutError) and self._is_over():
+            if isinstance(fault.__cause__, TimeoutError):
                 raise Silent from fault
             if isinstance(fault.__cause__, (FileNotFoundError, ConnectionRefusedError)):
                 raise Absent(fault.__cause__.strerror) from fault
@@ -78,9 +81,10 @@ class Wire:
         self.limit = math.inf
         self.socket.settimeout(SILENT)
 
-    def _is_patient(self) -> None:
-        """For how long it waits for the next word."""
-        self.socket.settimeout(min(SILENT, max(self._late, self.limit - time.monotonic())))
+    def _is_patient(self, span: float = 0.0) -> None:
+        """For how long it waits for the next word. (Of the first one's time half is left for a question.)"""
+        span = span or (SILENT if self.was_there else max(LATE, self._begun + FIRST / 2 * (1 + self._has_pinged) - time.monotonic()))
+        self.socket.settimeout(min(span, max(self._late, self.limit - time.monotonic())))
 
     def _is_over(self) -> bool:
         return time.monotonic() > self.limit
@@ -117,7 +121,7 @@ class Wire:
 
     def _more(self) -> bytes:
         with _oddly():
-            if self.limit < math.inf:
+            if self.limit < math.inf or not self.was_there:
                 self._is_patient()
             try:
                 came = self.socket.recv(1 << 16)
@@ -129,18 +133,21 @@ class Wire:
             raise Odd
         if not self.was_there and came.startswith(b"HTTP/"):
             raise NoBroker(HTTP_THERE)
-        self.was_there = True
+        if not self.was_there:
+            self.was_there = True
+            self.socket.settimeout(SILENT)
         return came
 
     def _asks_whether_it_is_there(self) -> bytes:
         self.socket.sendall(frame(PING, 0, 0, bytes(8)))
-        if self.limit < math.inf:
+        self._has_pinged = True
+        if self.limit < math.inf or not self.was_there:
             self._is_patient()
             self._late = LATER
         try:
             return self.socket.recv(1 << 16)
         except TimeoutError:
-            if self._is_over():
+            if self._is_over() or not self.was_there:
                 raise Silent from None
             raise
 

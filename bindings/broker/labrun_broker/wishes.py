@@ -6,7 +6,7 @@ import hashlib
 import math
 import secrets
 from dataclasses import dataclass, replace
-from typing import TYPE_CHECKING, Any, Optional, Sequence
+from typing import TYPE_CHECKING, Any, Iterable, Optional, Sequence
 
 from labrun import LabrunError, MayNotUse, NotHeld
 from labrun.picks import NoSuch, TooFew, TooMany, counted, is_plain, near, sets_of, some
@@ -17,6 +17,7 @@ from .errors import BadWish, NoInstrument
 
 if TYPE_CHECKING:
     from .crossing import Crossing
+    from .standing import Session
 
 MOST_CHOICES, LEAST_TICKET, MOST_NEAR = 100, 16, 32
 KEPT_IN_MEMORY = 1000  # ends
@@ -215,13 +216,19 @@ def _no_such(name: str, bay: Bay) -> NoInstrument:
     return NoInstrument(f"{name or 'an empty name'} is no instrument of this {bay.what}: there are {some(bay.instruments)}{hint}")
 
 
-def no_station(name: str, bay: Bay) -> BadWish:
-    """Of those that hold, guests too."""
+def no_station(name: str, bay: Bay, sessions: Iterable[Session]) -> BadWish:
+    """Of those that hold, guests too. The sessions are all that there are."""
+    its = list(sessions)
+    if name in bay.instruments:
+        holder = next((it.name for it in its if it.is_at_work and name in it.instruments), None)
+        held = f": {holder} holds it" if holder else ": nobody holds it"
+        return BadWish(f"{name} is an instrument of this {bay.what}, and no station{held}")
     # (who waits has a name, too)
-    guests = (f"{'and ' if bay.stations else ''}guests that hold or wait, as guest-1",) if bay.guests else ()
+    there = tuple(dict.fromkeys(it.name for it in its if it.name and it.name not in bay.stations))
+    guests = (f"{'and ' if bay.stations else ''}guests that hold or wait: {some(there) or 'none now'}",) if bay.guests else ()
     stations = (some(tuple(bay.stations)),) if bay.stations else ()
     # (of a thousand guests the loop would look for long)
-    known = (*bay.stations, *bay.guest_names[:MOST_NEAR])
+    known = (*bay.stations, *there[:MOST_NEAR])
     return BadWish(f"{name[:bay.limits.name]} is no station of this {bay.what}: there are {', '.join((*stations, *guests))}{near(name, known)}")
 
 

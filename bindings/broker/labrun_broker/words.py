@@ -34,11 +34,11 @@ USAGE, NO_FILE, UNREACHABLE, NOT_WRITTEN, TIMED_OUT, TAKEN, MAY_NOT, NO_BAY, CAN
 
 STATUSES = (
     ("0", "done; `hold` gives the status of what it ran, or 128 and the number of the signal that ended it"),
-    ("1", "the broker said no, as to a release of a station that holds nothing; `bay check` found faults"),
+    ("1", "the broker said no, as to a station that the bay doesn't have, or a release of one that holds nothing; `bay check` found faults"),
     (str(USAGE), "the words aren't right, or the bay has no instrument of that name"),
-    (str(NO_FILE), "the file of a bay, a token or a certificate can't be read, or that isn't in it; a state folder can't be read"),
+    (str(NO_FILE), "the file of a bay, of guards, of a token or a certificate can't be read, or that isn't in it; a state folder can't be read"),
     (str(UNREACHABLE), "the broker can't be reached, or doesn't let this client in; of `hold`, the command may have run"),
-    (str(NOT_WRITTEN), "the broker couldn't write down what it did; of `hold`, the command may have run"),
+    (str(NOT_WRITTEN), "the broker couldn't write down what it did; of `hold`, the command may have run; `serve` can't read its own journal"),
     (str(TIMED_OUT), "the time limit passed; nothing was run"),
     (str(TAKEN), "the session was taken away while the command ran, which got SIGTERM"),
     (str(MAY_NOT), "the station, a guest or you may not use one of the instruments, or only operators may do that"),

@@ -72,7 +72,7 @@ def certificate(folder: str, name: str = "certificate", key: str = "key", of: st
 
 
 # the line of a `hold` that has waited for its first word for some seconds: on a busy machine any may have to
-UNHEARD = re.compile(r"^labrun-(?:broker|hold): there is no word from the broker at \S+; (?:labrun-)?hold keeps trying for a while, and Ctrl-C ends that\n", re.M)
+UNHEARD = re.compile(r"^labrun-(?:broker|hold): there is no word from the broker at \S+; (?:labrun-)?hold keeps trying for (?:a while|\S+ s in all), and Ctrl-C ends that\n", re.M)
 
 
 def heard(lines: Optional[IO[str]]) -> str:

@@ -43,6 +43,18 @@ def made(path: str) -> None:
 
 # a bay whose file says no name
 SHORT = 'instruments = ["scope"]\n[guests]\ncount = 1\n'
+# with what no machine has
+OTHERS = """
+instruments = ["scope", "load"]
+operators = ["ana"]
+[guests]
+count = 1
+[people]
+ana = {unix = "no-such-user"}
+[on_release]
+scope = "no-such-command --off"
+load = "FOLDER/bay.toml"
+"""
 
 
 class WithoutBroker(unittest.TestCase):
@@ -52,6 +64,10 @@ class WithoutBroker(unittest.TestCase):
             with open(f"{self.folder}/{name}", "w", encoding="utf-8") as file:
                 file.write(text)
             os.chmod(file.name, 0o644 if name == "open" else 0o600)
+        with open(f"{self.folder}/lab.toml", "w", encoding="utf-8") as file:
+            file.write('[bays]\nnorth = "no.toml"\n')
+        with open(f"{self.folder}/other.toml", "w", encoding="utf-8") as file:
+            file.write(OTHERS.replace("FOLDER", self.folder))
 
     def taken(self) -> int:
         """A port where somebody listens."""
@@ -95,6 +111,7 @@ class WithoutBroker(unittest.TestCase):
         bay, nowhere = f"{self.folder}/bay.toml", f"unix:{self.folder}/no.sock"
         outside = ["serve", bay, "--listen", "0.0.0.0:0"]
         wanted = "unix:PATH or HOST:PORT is wanted, with a port of up to 65535"
+        others = f"ok {self.folder}/other.toml: bay, 2 instruments, 0 stations, 1 guest, gone = keep\n"
         rows = (
             (["bay", "check", bay], 0, f"ok {bay}: bay north, 4 instruments, 2 stations, 4 guests, gone = keep\n", ""),
             (["bay", "check", f"{self.folder}/short.toml"], 0, f"ok {self.folder}/short.toml: bay, 1 instrument, 0 stations, 1 guest, gone = keep\n", ""),
@@ -102,6 +119,13 @@ class WithoutBroker(unittest.TestCase):
             (["bay", "check", f"{self.folder}/bad.toml"], 1, "", "bad.toml: instruments: scope is there twice"),
             (["bay", "check", f"{self.folder}/no.toml"], 66, "", f"labrun-broker: {self.folder}/no.toml: there is no such file\n"),
             (["serve", f"{self.folder}/no.toml"], 66, "", f"labrun-broker: {self.folder}/no.toml: there is no such file\n"),
+            (["guard", f"{self.folder}/no.toml"], 66, "", f"labrun-broker: {self.folder}/no.toml: there is no such file\n"),
+            (["bay", "check", f"{self.folder}/lab.toml"], 66, "", f"{self.folder}/lab.toml: bays.north: {self.folder}/no.toml: No such file or directory\n"),
+            (["serve", f"{self.folder}/lab.toml"], 66, "", f"{self.folder}/lab.toml: bays.north: {self.folder}/no.toml: No such file or directory\n"),
+            # (the broker may be for another machine)
+            (["bay", "check", f"{self.folder}/other.toml"], 0, others, "other.toml: people.ana.unix: this machine has no user no-such-user\n"),
+            (["bay", "check", f"{self.folder}/other.toml"], 0, others, "other.toml: on_release.scope: this machine has no command no-such-command\n"),
+            (["bay", "check", f"{self.folder}/other.toml"], 0, others, f"other.toml: on_release.load: {self.folder}/bay.toml can't be run on this machine\n"),
             (["serve", bay, "--listen", nowhere, "--token-file", "none"], 66, "", "labrun-broker: --token-file none: there is no such file\n"),
             ([], 2, "", "required: WORD"),
             (["fly"], 2, "", "labrun-broker: error: there is no word fly: there are serve, hold, guard, status, top, release, disable, enable, token, report, gantt, table, bay, manual; labrun-broker --help\n"),
@@ -516,7 +540,7 @@ class WithBroker(OnBroker):
             done = broker.ran("release", "board", "--session", "1")
             self.assertEqual((done.returncode, done.stderr), (1, "labrun-broker: board is in session 2 now, and not in 1\n"))
             self.assertEqual(station(lab, "board")["state"], "holding")
-        for name, text in (("board", "board holds nothing\n"), ("moon", "moon is no station of this bay: there are board, radio, and guests that hold or wait, as guest-1\n")):
+        for name, text in (("board", "board holds nothing\n"), ("moon", "moon is no station of this bay: there are board, radio, and guests that hold or wait: none now\n")):
             done = broker.ran("release", name)
             self.assertEqual((done.returncode, done.stdout), (1, ""))
             self.assertIn(text, done.stderr)

@@ -91,7 +91,7 @@ class Programs(OnAWay):
                 (at, fault, thinks), = told
                 self.assertTrue(held._until - 0.01 < at < holds)
                 self.assertFalse(thinks)
-                self.assertRegex(str(fault), "^guest-1: nothing was heard from the broker for 4.5 s, so the session is over, and others may hold these soon: scope$")
+                self.assertRegex(str(fault), "^guest-1: nothing was heard from the broker for more than 4.5 s, so the session is over, and others may hold these by now: scope$")
                 proxy.mend()
                 with self.assertRaises(labrun.TakenAway):
                     held.release()
@@ -108,7 +108,7 @@ class Programs(OnAWay):
                 held.on_taken = lambda fault: self.fail("whoever asks is told by that")
                 proxy.cut(how)
                 begun = time.monotonic()
-                with self.assertRaisesRegex(labrun.TakenAway, "nothing was heard from the broker for 4.5 s"):
+                with self.assertRaisesRegex(labrun.TakenAway, "nothing was heard from the broker for more than 4.5 s"):
                     held.note("5 V")
                 self.assertLess(time.monotonic() - begun, SOON)
                 self.assertFalse(held.held)
@@ -194,7 +194,7 @@ class Commands(OnAWay):
         proxy.mend()
         _, said = one.communicate(timeout=LIMIT)
         self.assertEqual(one.returncode, 76)
-        self.assertIn("nothing was heard from the broker for 6 s, so the session is over, and others may hold these soon: scope; the command is being ended", said)
+        self.assertIn("nothing was heard from the broker for more than 6 s, so the session is over, and others may hold these by now: scope; the command is being ended", said)
 
     def test_hold_is_killed(self) -> None:
         """Its command ends if others may have the instruments, and else goes on."""

@@ -200,7 +200,7 @@ class Exclusion(Inside):
         await self.instrument.server.wait_closed()
         guard.told(holder(1))
         client = await self.client()
-        self.assertRegex(await client.asks(f"labrun {TICKETS[1]}"), "no: scope doesn't answer: .*[Cc]onnect")
+        self.assertRegex(await client.asks(f"labrun {TICKETS[1]}"), "no: scope doesn't answer: connection refused$")
 
 
 class Between(Inside):

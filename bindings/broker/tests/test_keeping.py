@@ -493,11 +493,22 @@ class Gone(OnKeeping):
         self.assertEqual(await keeping.release("board", "eve", again.number), ("scope",))
         for name, kind, text in (
             ("radio", labrun.NotHeld, "^radio holds nothing$"),
-            ("lamp", BadWish, "lamp is no station of this bay: there are board, radio, and guests that hold or wait, as guest-1$"),
-            ("bord", BadWish, r"guest-1 \(did you mean board\?\)$"),
-            ("gest-3", BadWish, r"guest-1 \(did you mean guest-3\?\)$"),
+            ("lamp", BadWish, "^lamp is no station of this bay: there are board, radio, and guests that hold or wait: none now$"),
+            ("bord", BadWish, r": none now \(did you mean board\?\)$"),
+            # (who isn't there isn't meant)
+            ("gest-3", BadWish, "guests that hold or wait: none now$"),
+            ("scope", BadWish, "^scope is an instrument of this bay, and no station: nobody holds it$"),
         ):
             with self.subTest(name), self.assertRaisesRegex(kind, text):
+                await keeping.release(name, "eve")
+        await self.holds(keeping, "scope", station="radio")
+        await self.holds(keeping, "load-1")
+        for name, text in (
+            ("guest-9", r"there are board, radio, and guests that hold or wait: guest-1 \(did you mean guest-1\?\)$"),
+            ("scope", "^scope is an instrument of this bay, and no station: radio holds it$"),
+            ("load-1", "and no station: guest-1 holds it$"),
+        ):
+            with self.subTest(name), self.assertRaisesRegex(BadWish, text):
                 await keeping.release(name, "eve")
 
     async def test_a_release_of_one_that_waits(self) -> None:

@@ -17,7 +17,7 @@ from importlib.util import find_spec
 
 import labrun_broker
 from tests.asking import Asking
-from tests.brokers import BAY, COMMAND, LIMIT, TOP, UNHEARD, Broker, OnBroker, broker, heard, station, until
+from tests.brokers import BAY, COMMAND, LIMIT, TOP, UNHEARD, Broker, OnBroker, broker, free_port, heard, station, stopped, until
 from tests.proxies import OfSockets, Ways
 from tests.test_people import ANA, BOB, PEOPLE, WITHOUT_BOB
 
@@ -334,7 +334,7 @@ class Held(OnBroker):
             said = self.ends(hold, 76)
         finally:
             broker.process.send_signal(signal.SIGCONT)
-        self.assertIn("nothing was heard from the broker for 7.5 s, so the session is over, and others may hold these soon: scope", said)
+        self.assertIn("nothing was heard from the broker for more than 7.5 s, so the session is over, and others may hold these by now: scope", said)
         with open(f"{broker.folder}/ended", encoding="ascii") as file:
             # (three of four parts of it, from the last word that was answered; the margin is the fourth)
             self.assertTrue(4 < float(file.read()) - stopped < 10)
@@ -367,12 +367,36 @@ class Held(OnBroker):
             self.addCleanup(broker.process.send_signal, signal.SIGCONT)
             with self.waits(broker, "load-1", "--", "true") as asks:
                 assert asks.stderr is not None
-                text = f"labrun-hold: there is no word from the broker at {broker.address}.http; labrun-hold keeps trying for a while, and Ctrl-C ends that\n"
-                self.assertEqual((asks.stderr.readline(), waits.stderr.readline()), (text, text))
+                text = f"labrun-hold: there is no word from the broker at {broker.address}.http; labrun-hold keeps trying for FOR, and Ctrl-C ends that\n"
+                told = text.replace("FOR", "30 s in all"), text.replace("FOR", "a while")
+                self.assertEqual((asks.stderr.readline(), waits.stderr.readline()), told)
                 with open(f"{broker.folder}/over", "w", encoding="ascii"):
                     pass
                 broker.process.send_signal(signal.SIGCONT)
                 self.assertEqual((asks.wait(LIMIT), waits.wait(LIMIT), holder.wait(LIMIT)), (0, 0, 0))
+
+    def test_a_stopped_broker_is_given_up(self) -> None:
+        """After one time by this program and by `labrun-broker hold`, by each of its ways, also where a time limit is longer."""
+        port = free_port()
+        broker, _ = self.at(BAY, "--listen", f"127.0.0.1:{port}")
+        hold = [*COMMAND, "hold", "scope", "--broker"]
+        its = ([self.program, "scope"], [self.program, "scope", "--timeout", "900"], [*hold, broker.address], [*hold, broker.address, "--timeout", "900"])
+        its += ([*hold, f"127.0.0.1:{port}"], [*hold, broker.address.replace("unix:", "unix://")])
+        with stopped(broker):
+            begun = time.monotonic()
+            runs = [self.enterContext(subprocess.Popen([*it, "--", "true"], env=self.environment(broker), stderr=subprocess.PIPE, text=True)) for it in its]
+            for it in runs:
+                self.addCleanup(it.kill)
+            until(lambda: any(it.poll() is not None for it in runs), "that one gives up")
+            self.assertGreater(time.monotonic() - begun, 25)
+            # (they began together, and a machine that is busy is so for all of them)
+            until(lambda: all(it.poll() is not None for it in runs), "that all do")
+            self.assertLess(time.monotonic() - begun, 65)
+        for it in runs:
+            said = it.communicate()[1]
+            self.assertEqual(it.returncode, 69, said)
+            self.assertRegex(said, r"^labrun-\w+: there is no word from the broker at \S+; [\w-]+ keeps trying for 30 s in all, and Ctrl-C ends that\n")
+            self.assertIn("doesn't answer", said)
 
     def test_a_signal_while_its_wish_is_on_its_way(self) -> None:
         """To a broker that has much to do. It is told that this waits no longer once it has read the wish, and again if it didn't answer."""

@@ -13,7 +13,7 @@ from labrun_broker.bay import BayFault, bay_of
 from labrun_broker.errors import BadWish
 from labrun_broker.keeping import Keeping
 from labrun_broker.wishes import Ended, Wish
-from tests.brokers import BAY, LIMIT, OnBroker, until
+from tests.brokers import BAY, LIMIT, OnBroker, free_port, until
 from tests.test_keeping import TICKET, OnFolder, Owner
 
 LIMITED = "limit = \"2h\"\n" + BAY + "limit = \"30min\"\n[station_limits]\nradio = 90\n"
@@ -162,6 +162,26 @@ class Clients(OnBroker):
                 self.assertEqual(holds.returncode, 76)
                 self.assertRegex(said, r"labrun-broker: guest-1 may hold scope for 12 s, which is over in [01].[0-9] s")
                 self.assertRegex(said, r"taken away by the broker, because it held for longer than its limit of 12 s, .*; the command is being ended")
+
+
+class Shorter(OnBroker):
+    def test_a_hold_is_told_as_it_begins(self) -> None:
+        """That the bay's limit is shorter than its own, by each of its ways; and nothing if its own counts, or the bay has none."""
+        port = free_port()
+        limited = self.broker(f'limit = "90s"\ngone = "release"\n{BAY}', "--listen", f"127.0.0.1:{port}")
+        free = self.broker()
+        told = "labrun-broker: the bay's limit counts, which is shorter: 1 min 30 s, and not 1 h 0 min\n"
+        for at, limit, said in (
+            (limited.address, ["--limit", "1h"], told),
+            (limited.address.replace("unix:", "unix://"), ["--limit", "1h"], told),
+            (f"127.0.0.1:{port}", ["--limit", "1h"], told),
+            (limited.address, ["--limit", "80"], ""),
+            (limited.address, [], ""),
+            (free.address, ["--limit", "1h"], ""),
+        ):
+            with self.subTest(at, limit=limit):
+                done = limited.ran("hold", "scope", "--broker", at, *limit, "--", "true")
+                self.assertEqual((done.returncode, done.stderr), (0, said))
 
 
 if __name__ == "__main__":

@@ -196,7 +196,7 @@ class AfterASession(OnScript):
                 chooses = asyncio.create_task(keeping.hold(Wish(any_of=(("scope", "load-1"), ("load-1",))), self.owner))
                 load = await keeping.hold(Wish(("load-2",)), self.owner)
                 await keeping.let_go(held, self.owner)
-                with self.assertRaisesRegex(OutOfOrder, f"^scope has been out of order for .*: it wasn't made safe after session 1 of board: .*{why}.* .says the broker.$"):
+                with self.assertRaisesRegex(OutOfOrder, f"^scope has been out of order for .*: it wasn't made safe after session 1 of board: .*{why}.* .says the broker; once it is mended: labrun-broker enable scope.$"):
                     await asyncio.wait_for(waits, LIMIT)
                 self.assertEqual(((await chooses).instruments, load.instruments), (("load-1",), ("load-2",)))
                 self.assertRegex(self.said.pop(), f"^scope is out of order: it wasn't made safe after .*{why}.* .says the broker.$")

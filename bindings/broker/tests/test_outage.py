@@ -30,7 +30,7 @@ class Outages(OnFolder):
         """It is told so at once, and why; one with a choice goes round it; and all is as before once it is in order again."""
         keeping, owner = await self.opened(None), Owner()
         await disable(keeping, "load-1", "calibration until Friday", "ann")
-        with self.assertRaisesRegex(OutOfOrder, r"^load-1 has been out of order for \d+\.?\d* s: calibration until Friday \(says ann\)$"):
+        with self.assertRaisesRegex(OutOfOrder, r"^load-1 has been out of order for \d+\.?\d* s: calibration until Friday \(says ann; once it is mended: labrun-broker enable load-1\)$"):
             await keeping.hold(Wish(("scope", "load-1"), timeout=60), owner)
         other = await keeping.hold(Wish(any_of=(("load-1",), ("load-2",))), owner)
         self.assertEqual(other.instruments, ("load-2",))
@@ -52,7 +52,7 @@ class Outages(OnFolder):
         chooses = asyncio.create_task(keeping.hold(Wish(any_of=(("load-1",), ("load-2",)), timeout=30, by="bob"), owner))
         await asyncio.sleep(0.02)
         await disable(keeping, "load-1", "", "ann")
-        with self.assertRaisesRegex(OutOfOrder, r"load-1 has been out of order for \d+\.?\d* s \(says ann\)"):
+        with self.assertRaisesRegex(OutOfOrder, r"load-1 has been out of order for \d+\.?\d* s \(says ann; once it is mended: labrun-broker enable load-1\)"):
             await waits
         await keeping.note(held, owner, "5 V")
         await keeping.let_go(held, owner)
@@ -95,7 +95,7 @@ class Commands(OnBroker):
         broker = self.broker(BAY, "--state", "FOLDER/state")
         lab = self.lab(broker)
         self.assertEqual(broker.ran("disable", "scope", "calibration until Friday").returncode, 0)
-        self.assertRegex(broker.ran("status").stdout, r"\nscope has been out of order for \d+ s: calibration until Friday \(says .*@.*\)\n")
+        self.assertRegex(broker.ran("status").stdout, r"\nscope has been out of order for \d+ s: calibration until Friday \(says .*@.*; once it is mended: labrun-broker enable scope\)\n")
         for words in (("hold", "scope"), ("hold", "scope", "--timeout", "60")):
             done = broker.ran(*words, "--", "true")
             self.assertEqual(done.returncode, 1)

@@ -399,7 +399,7 @@ class Damaged(OnFolder):
             with self.assertRaisesRegex(labrun.JournalError, "bay.json: it isn't as the broker wrote it"):
                 await self.keeping(folder)
         os.unlink(f"{folder}/bay.json")
-        with self.assertRaisesRegex(labrun.JournalError, "bay.json: it isn't there"):
+        with self.assertRaisesRegex(labrun.JournalError, "bay.json: it isn't there, and the journal can't be read without it. Put back the one that belongs to it; or see that nobody is at the instruments, move "):
             await self.keeping(folder)
 
     async def test_any_note(self) -> None:

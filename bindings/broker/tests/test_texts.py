@@ -6,6 +6,7 @@ import os
 import re
 import shlex
 import shutil
+import socket
 import socketserver
 import subprocess
 import tempfile
@@ -20,6 +21,7 @@ import labrun_broker
 from labrun_broker import finding
 from labrun_broker.command import main
 from labrun_broker.errors import AnswerLost, Unreachable, why_lost
+from labrun_broker.texts import why_none
 from tests.brokers import BAY, COMMAND, LIMIT, OnBroker, free_port
 
 
@@ -123,6 +125,25 @@ class Network(OnBroker):
 
 
 class OfABrokerThatIsLost(unittest.TestCase):
+    def test_why_there_is_no_connection(self) -> None:
+        several = "Multiple exceptions: [Errno 111] Connect call failed ('::1', 1, 0, 0), [Errno 111] Connect call failed ('127.0.0.1', 1)"
+        for fault, why in (
+            (TimeoutError(), "nothing came (it is stopped, or the network is cut)"),
+            (ConnectionRefusedError(111, "Connect call failed ('127.0.0.1', 15999)"), "connection refused"),
+            (OSError(several), "connection refused"),
+            (OSError(113, "No route to host"), "no route to host"),
+            (TimeoutError(110, "Connection timed out"), "connection timed out"),
+            (socket.gaierror(-2, "Name or service not known"), "name or service not known"),
+            (OSError(), "OSError"),
+        ):
+            with self.subTest(repr(fault)):
+                self.assertEqual(why_none(fault), why)
+
+    def test_a_broker_that_ends(self) -> None:
+        """It may have done what was asked."""
+        fault = why_lost("unix:/there", grpc.StatusCode.UNAVAILABLE, "Cancelling all calls")
+        self.assertEqual((type(fault), str(fault)), (AnswerLost, "the broker at unix:/there can't be reached: it has ended"))
+
     def test_what_may_be_done(self) -> None:
         """Once there was a connection, what was asked may have been done."""
         rows = (
