@@ -46,7 +46,7 @@ class OnCrossings(OnBays):
         asks = list[Session]()
         task = asyncio.create_task(bays.hold(Wish(instruments, **more), self.owner, asks.append))
         self.addCleanup(task.cancel)
-        await self.eventually(lambda: task.done() or asks and re.match(f"in the bay {where}: .* is (held|kept)", bays.for_whom(asks[0])[1]), "it waits")
+        await self.eventually(lambda: task.done() or asks and re.match(f"in the bay {where}: .* (has been held|is kept)", bays.for_whom(asks[0])[1]), "it waits")
         self.assertFalse(task.done())
         return task, asks[0]
 
