@@ -695,7 +695,7 @@ static void gives_up(struct talk *wish_sent, double span) {
         }
     }
     if (!is_told && span >= LATE)
-        say("as far as is known here the broker wasn't told: the session may come to hold all the same, as `labrun-broker status` says");
+        say("the broker wasn't told, as far as is known here: the session may come to hold all the same, as `labrun-broker status` says");
     came = first;
     hang_up(&it);
     free(rest.at);

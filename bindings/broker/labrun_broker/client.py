@@ -251,19 +251,18 @@ class Lab:
             waits.cancel()
         if self._waiting:
             await asyncio.wait(set(self._waiting))
+        its = list(self._held)
         # (a broker that doesn't answer keeps what was held for whoever has its ticket)
         with contextlib.suppress(builtins.TimeoutError):
             async with asyncio.timeout(ANSWER):
-                for held in list(self._held):
+                for held in its if lets_go else ():
                     try:
-                        if lets_go:
-                            await held._let_go(None)
+                        await held._let_go(None)
                     except labrun.LabrunError as it:  # (the others are let go all the same)
                         fault = fault or it
-                    for task in (held._returns, held._beats):
-                        if task is not None:
-                            task.cancel()
         self._has_left = True
+        for task in (task for held in its for task in (held._returns, held._beats) if task is not None):
+            task.cancel()
         for stream in list(self._idle):
             stream.cancel()
         with contextlib.suppress(builtins.TimeoutError):

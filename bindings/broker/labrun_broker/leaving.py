@@ -21,4 +21,4 @@ def leaves(has_left: Callable[[float], bool]) -> None:
             is_told = has_left(GIVING_UP - UNTOLD)
     finally:
         if not is_told:
-            say("as far as is known here the broker wasn't told: the session may come to hold all the same, as `labrun-broker status` says")
+            say("the broker wasn't told, as far as is known here: the session may come to hold all the same, as `labrun-broker status` says")

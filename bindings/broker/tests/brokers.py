@@ -14,7 +14,7 @@ import sys
 import tempfile
 import time
 import unittest
-from typing import Any, Callable, Iterator, Optional
+from typing import IO, Any, Callable, Iterator, Optional
 
 import labrun_broker
 
@@ -76,6 +76,18 @@ def expires(certificate: str, key: str) -> None:
     subprocess.run(["openssl", "x509", "-in", certificate, "-signkey", key, "-days", "-1", "-out", certificate], check=True, capture_output=True)
 
 
+# the line of a `hold` that has waited for its first word for some seconds: on a busy machine any may have to
+UNHEARD = re.compile(r"^labrun-(?:broker|hold): there is no word from the broker at \S+; (?:labrun-)?hold keeps trying for (?:a while|\S+ s in all), and Ctrl-C ends that\n", re.M)
+
+
+def heard(lines: Optional[IO[str]]) -> str:
+    """The next line that is none of those."""
+    assert lines is not None
+    while UNHEARD.match(line := lines.readline()):
+        pass
+    return line
+
+
 class Broker:
     """`labrun-broker serve`, begun anew as often as wanted."""
 
@@ -126,7 +138,9 @@ class Broker:
     def ran(self, *words: str, **more: Any) -> subprocess.CompletedProcess[str]:
         """What a command says, and its status."""
         environment = {**os.environ, "LABRUN_BROKER": self.address}
-        return subprocess.run([*COMMAND, *words], env=environment, capture_output=True, text=True, timeout=LIMIT, **more)
+        done = subprocess.run([*COMMAND, *words], env=environment, capture_output=True, text=True, timeout=LIMIT, **more)
+        done.stderr = UNHEARD.sub("", done.stderr)
+        return done
 
     def started(self, *words: str) -> subprocess.Popen[str]:
         environment = {**os.environ, "LABRUN_BROKER": self.address}

@@ -132,7 +132,7 @@ class Browser(unittest.TestCase):
 
         def of_two(status: Any) -> Any:
             its = [{**it, "bay": bays[(it["instruments"] or ["scope"])[0]]} for it in status["stations"]]
-            waits = {"instrument": "oven", "station": "night", "holds": True, "since": time.time() - 120, "text": "oven is held by night"}
+            waits = {"instrument": "oven", "station": "night", "holds": True, "since": time.time() - 120, "text": "oven has been held by night for 120 s"}
             its.append({**next(it for it in its if it["name"] == "drive"), "state": "waiting", "instruments": ["oven"], "bay": "south", "waits_for": [waits]})
             return {**status, "stations": its, "instruments": [{**it, "bay": bays[it["name"]]} for it in status["instruments"]]}
 

@@ -18,7 +18,7 @@ from importlib.util import find_spec
 
 import labrun_broker
 from tests.asking import Asking
-from tests.brokers import BAY, COMMAND, LIMIT, TOP, Broker, OnBroker, broker, free_port, station, stopped, until
+from tests.brokers import BAY, COMMAND, LIMIT, TOP, UNHEARD, Broker, OnBroker, broker, free_port, heard, station, stopped, until
 from tests.proxies import OfSockets, Ways
 from tests.test_people import ANA, BOB, PEOPLE, WITHOUT_BOB
 from tests.test_warned import LONG, SOONER, THEN
@@ -51,7 +51,9 @@ class Held(OnBroker):
         return {**{name: it for name, it in os.environ.items() if name != "LABRUN_AROUND"}, "LABRUN_BROKER": broker.address, "USER": "ann", "LOGNAME": "ann"}
 
     def ran(self, broker: Broker, *words: str, **more: str) -> "subprocess.CompletedProcess[str]":
-        return subprocess.run([self.program, *words], env={**self.environment(broker), **more}, capture_output=True, text=True, timeout=2 * LIMIT)
+        done = subprocess.run([self.program, *words], env={**self.environment(broker), **more}, capture_output=True, text=True, timeout=2 * LIMIT)
+        done.stderr = UNHEARD.sub("", done.stderr)
+        return done
 
     def started(self, broker: Broker, *words: str) -> "subprocess.Popen[str]":
         """Once what it runs has begun, which says so in the file `begun`."""
@@ -63,7 +65,7 @@ class Held(OnBroker):
         return one
 
     def ends(self, one: "subprocess.Popen[str]", status: int) -> str:
-        said = one.communicate(timeout=LIMIT)[1]
+        said = UNHEARD.sub("", one.communicate(timeout=LIMIT)[1])
         self.assertEqual(one.returncode, status, said)
         return said
 
@@ -207,7 +209,7 @@ class Held(OnBroker):
         waits = subprocess.Popen([self.program, "scope", "--", "true"], env=self.environment(broker), stderr=subprocess.PIPE, text=True)
         self.addCleanup(waits.kill)
         assert waits.stderr is not None
-        self.assertRegex(waits.stderr.readline(), r"^labrun-hold: waits: scope has been held by board for .* \(ben\)$")
+        self.assertRegex(heard(waits.stderr), r"^labrun-hold: waits: scope has been held by board for .* \(ben\)$")
         one.lets_go(ticket)
         self.assertEqual((waits.wait(LIMIT), waits.stderr.read()), (0, ""))
         waits.stderr.close()
@@ -219,7 +221,7 @@ class Held(OnBroker):
         self.addCleanup(waits.communicate)
         self.addCleanup(waits.kill)
         assert waits.stderr is not None
-        self.assertRegex(waits.stderr.readline(), r"^labrun-hold: waits: scope has been held by board for .*ann")
+        self.assertRegex(heard(waits.stderr), r"^labrun-hold: waits: scope has been held by board for .*ann")
         dies.kill()
         killed = time.monotonic()
         self.assertRegex(waits.stderr.readline(), r"gone for .*: see to scope, and then run labrun-broker release board --session 1\)$")
@@ -233,7 +235,7 @@ class Held(OnBroker):
         assert hold.stderr is not None
         hold.send_signal(signal.SIGINT)
         hold.send_signal(signal.SIGINT)
-        said = hold.stderr.readline()
+        said = heard(hold.stderr)
         with open(f"{broker.folder}/go", "w", encoding="utf-8"):
             pass
         self.assertEqual(self.ends(hold, 0), "")
@@ -283,7 +285,7 @@ class Held(OnBroker):
         self.addCleanup(waits.kill)
         assert waits.stderr is not None
         said = "labrun-hold: this hold is within one of scope: if another hold has supply and waits for scope, both wait for ever; name all in one hold\n"
-        self.assertEqual(waits.stderr.readline(), said)
+        self.assertEqual(heard(waits.stderr), said)
         one.lets_go(ticket)
         self.assertEqual(self.ends(waits, 0), "")
 
@@ -368,7 +370,7 @@ class Held(OnBroker):
         with open(f"{broker.folder}/over", "w", encoding="ascii"):
             pass
         assert hold.stderr is not None
-        self.assertIn("ended with status 0; the broker doesn't answer", hold.stderr.readline())
+        self.assertIn("ended with status 0; the broker doesn't answer", heard(hold.stderr))
         broker.begin()
         self.assertEqual(self.ends(hold, 0), "")
         self.assertEqual(one.status("guest-1")["state"], "idle")
@@ -380,7 +382,7 @@ class Held(OnBroker):
         holder = self.started(broker, "scope", "--", "sh", "-c", "echo > FOLDER/begun; while [ ! -e FOLDER/over ]; do sleep 0.05; done")
         with self.waits(broker, "scope", "--", "true") as waits:
             assert waits.stderr is not None
-            self.assertIn("waits: scope is held", waits.stderr.readline())
+            self.assertIn("waits: scope has been held", heard(waits.stderr))
             broker.process.send_signal(signal.SIGSTOP)
             self.addCleanup(broker.process.send_signal, signal.SIGCONT)
             with self.waits(broker, "load-1", "--", "true") as asks:
@@ -431,7 +433,7 @@ class Held(OnBroker):
             self.assertTrue(asked.startswith(b"POST /v1/sessions?"))
             one.terminate()
             assert one.stderr is not None
-            self.assertIn("the broker doesn't answer, and is told for some seconds", one.stderr.readline())
+            self.assertIn("the broker doesn't answer, and is told for some seconds", heard(one.stderr))
             self.assertEqual(select.select([listens], [], [], 0)[0], [])
             body = b'{"state": "holding", "station": "guest-1", "instruments": ["scope"], "token": 1}'
             wish.sendall(b"HTTP/1.1 200 OK\r\nContent-Length: %d\r\n\r\n%s" % (len(body), body))
@@ -460,7 +462,7 @@ class Held(OnBroker):
                 with open(f"{one.folder}/over", "w", encoding="ascii"):
                     pass
                 assert hold.stderr is not None
-                self.assertIn("ended with status 0; the broker doesn't answer", hold.stderr.readline())
+                self.assertIn("ended with status 0; the broker doesn't answer", heard(hold.stderr))
                 self.assertIn(asking.status("guest-1")["state"], ("holding", "gone"))
                 way.mend()
                 self.assertEqual(self.ends(hold, 0), "")

@@ -18,7 +18,7 @@ from labrun_broker import quick, run
 from labrun_broker.command import main
 from labrun_broker.quick import HELD
 from labrun_broker.wire import Odd, Wire, _number, field, fields_of, text_field
-from tests.brokers import BAY, LIMIT, SOON, Broker, OnBroker, station, stopped, until
+from tests.brokers import BAY, LIMIT, SOON, UNHEARD, Broker, OnBroker, heard, station, stopped, until
 
 RELEASES = BAY.replace('bay = "north"', 'bay = "north"\ngone = "release"')
 
@@ -169,7 +169,7 @@ class Quick(OnBroker):
                 with open(f"{broker.folder}/go", "w", encoding="utf-8"):
                     pass
                 assert runs.stderr is not None
-                self.assertIn("the command has ended with status 5; the broker doesn't answer", runs.stderr.readline())
+                self.assertIn("the command has ended with status 5; the broker doesn't answer", heard(runs.stderr))
                 begun = time.monotonic()
                 runs.send_signal(number)
                 said = runs.communicate(timeout=LIMIT)[1]
@@ -271,7 +271,8 @@ class Quick(OnBroker):
         runs = broker.started("hold", "scope", "-n", "--", "echo", "ran")
         time.sleep(1.6)
         broker.process.send_signal(signal.SIGCONT)
-        self.assertEqual((runs.communicate(timeout=LIMIT), runs.returncode), (("ran\n", ""), 0))
+        out, said = runs.communicate(timeout=LIMIT)
+        self.assertEqual((out, UNHEARD.sub("", said), runs.returncode), ("ran\n", "", 0))
 
     def test_one_whose_time_is_over_has_asked_once(self) -> None:
         broker = self.broker(BAY, "--state", "FOLDER/state")

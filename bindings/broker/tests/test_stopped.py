@@ -199,6 +199,20 @@ class Killed(OnBroker):
         self.assertEqual(one.returncode, 69)
         broker.begin()
 
+    def test_a_lab_is_closed_meanwhile(self) -> None:
+        """Nobody looks any more for what it held, though the broker never said that it let go."""
+        broker = self.broker()
+        lab = self.lab(broker)
+        held = lab.hold("scope")
+        held.acquire()
+        broker.kill()
+        returns = until(lambda: held._returns, "that it looks for a broker")
+        with mock.patch.object(client, "ANSWER", 0.2):
+            lab.close()
+        until(returns.done, "that it doesn't any more")
+        why = None if returns.cancelled() else returns.exception()
+        self.assertTrue(returns.cancelled(), why)
+
 
 if __name__ == "__main__":
     unittest.main()

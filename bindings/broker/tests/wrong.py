@@ -267,6 +267,9 @@ WRONG = {
     "a hold that ends by a signal, and doesn't say that its session may come to hold": Wrong(
         "test_leaving.Leaves.test_another_signal_ends_it", "leaving.py", (("        if not is_told:\n", "        if False:\n"),)
     ),
+    "a lab that is closed while its broker is away, and goes on to look for it": Wrong(
+        "test_stopped.Killed.test_a_lab_is_closed_meanwhile", "client.py", (("held in its for task in (held._returns, held._beats)", "held in its for task in (held._beats,)"),)
+    ),
     "a short time limit that is over before anything is asked": Wrong(
         "test_stopped.Stopped.test_a_short_limit_leaves_a_try", "coming.py", (("max(self._until, self._loop.time()) + 2 * LATE", "self._until + 2 * LATE"),)
     ),

@@ -222,7 +222,7 @@ def need_of(wishes: Iterable[Wish], bay: Bay) -> Need:
     choices = tuple(choice for wish in wishes for choice in wish.choices(bay))
     need = Need(names, choices)
     if wishes and not need.ways():
-        raise Fault(f"{wishes[0].where(None)}: no instrument is left for any_of: there are {', '.join(bay)}")
+        raise Fault(f"{wishes[0].where(None)}: no instrument is left for any_of: there are {some(tuple(bay))}")
     return need
 
 

@@ -163,7 +163,7 @@ fn whose_chain_ends_at_who_has_held_longest() {
     let found = kept_from(&lab, &["scope", "load-1"], &[&[&["load-1", "load-2"]]], first);
     assert_eq!(
         told(&found),
-        "still waits for guest 1, at load-2 for _ s: load-1 is kept for guest 3, which waits for load-2, held by guest 1 for _ s, scope is \
+        "still waits for guest 1, at load-2 for _ s: load-1 is kept for guest 3, which waits for load-2, held by guest 1 for _ s, scope has been \
          held by guest 2 for _ s"
     );
 }
