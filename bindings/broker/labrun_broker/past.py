@@ -25,8 +25,11 @@ def iso(t: Optional[float]) -> str:
     return "" if t is None else datetime.fromtimestamp(t, timezone.utc).isoformat(timespec="milliseconds")
 
 
+WIDEST = 40  # letters of a column
+
+
 def table_of(rows: list[list[str]]) -> str:
-    return "\n".join([*aligned(rows), ""])
+    return "\n".join([*aligned(rows, WIDEST), ""])
 
 
 HEAD = ["station", "session", "by", "instruments", "asked", "held", "ended", "waited_s", "held_s", "end", "why", "notes"]

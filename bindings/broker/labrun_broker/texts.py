@@ -34,10 +34,11 @@ def called(what: str, name: str) -> str:
     return what if name == what else f"{what} {plain(name)}"
 
 
-def aligned(rows: list[list[str]]) -> list[str]:
-    """The lines of a table. (A row with fewer columns has a text as its last one, as wide as it is.)"""
+def aligned(rows: list[list[str]], widest: int = 1 << 16) -> list[str]:
+    """The lines of a table. (A row with fewer columns has a text as its last one, as wide as it is.) What is wider than `widest` moves the
+    rest of its own line alone."""
     most = max(map(len, rows))
-    widths = [max(len(row[at]) for row in rows if len(row) == most) for at in range(most - 1)]
+    widths = [max((len(row[at]) for row in rows if len(row) == most and len(row[at]) <= widest), default=0) for at in range(most - 1)]
     return ["  ".join([*(cell.ljust(width) for cell, width in zip(row[:-1], widths)), row[-1]]).rstrip() for row in rows]
 
 

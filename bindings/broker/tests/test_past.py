@@ -304,6 +304,16 @@ class Words(unittest.TestCase):
         # of the last minute: board worked from 70 to 100
         self.assertIn("board 0 0 1 0 0 30 s 50 % 0.00 s 0.00 s", [" ".join(it.split()) for it in of_last.splitlines()])
 
+    def test_a_long_reason_moves_its_own_line_alone(self) -> None:
+        why = "supply has been held by guest-1 for 5.9 s " + "(ann@bench-3 4711 sh) " * 8
+        records = [record(0, "held", "board", "scope", session=1), record(1, "let_go", "board", "scope", session=1)]
+        records += [record(2, "asked", "radio", "scope", session=2), record(3, "gave_up", "radio", "scope", session=2, text=why)]
+        with state(records) as folder:
+            head, done, gave_up = ran("table", folder)[1].splitlines()
+        self.assertIn(f"gave up: {why.strip()}", gave_up)
+        self.assertLess(max(len(head), len(done)), 140)
+        self.assertEqual(head.index("instruments"), done.index("scope"))
+
     def test_what_others_wrote_moves_no_cursor(self) -> None:
         note = "\x1b]0;x\x07\r\u202eab"
         records = [record(0, "held", "board", "scope", session=2, by="\x1b[2Jana"), record(1, "note", "board", text=note), record(2, "let_go", "board")]
