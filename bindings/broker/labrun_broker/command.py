@@ -190,17 +190,18 @@ def run_bay(args: argparse.Namespace) -> int:
     from .bay import BayFault
     from .here import lacks
     from .labs import Lab, NoBayFile, read_any
+    from .splitting import prints
 
     if args.what == "split":
-        return split_bay(args)
+        return prints(args.bay, args.most)
     try:
         with reading(args.bay):
             read = read_any(args.bay)
+    except NoBayFile:
+        raise
     except BayFault as fault:
-        if args.what == "apply" and isinstance(fault, NoBayFile):
-            raise
         print(fault, file=sys.stderr)
-        return NO_FILE if isinstance(fault, NoBayFile) else 1
+        return 1
     if args.what == "apply":
         return apply_bay(args, isinstance(read, Lab))
     if isinstance(read, Lab):
@@ -209,16 +210,6 @@ def run_bay(args: argparse.Namespace) -> int:
         print(f"ok {path}: {called('bay', bay.name)}, {counts_of(bay)}, gone = {bay.its_gone.told()}")
     for line in lacks(read):
         say(plain(f"{args.bay}: {line}"))
-    return 0
-
-
-def split_bay(args: argparse.Namespace) -> int:
-    from .splitting import told
-
-    if args.most < 1:
-        say("--most is 1 or more")
-        return USAGE
-    print("\n".join(told(args.bay, args.most)))
     return 0
 
 

@@ -12,7 +12,7 @@ from typing import Iterable, Mapping, Optional, Sequence
 
 from .sessions import Fault, Record, bays_in, read_records
 from .texts import counted, plain
-from .words import reading
+from .words import USAGE, reading, say
 
 MOST, ORDERS, SHOWN = 64, 40, 8
 Names = frozenset[str]
@@ -103,3 +103,12 @@ def told(folder: str, most: int) -> list[str]:
     crossing = sorted(((count, sorted(it)) for it, count in sessions.items() if not any(it <= bay for bay in bays)), key=lambda it: (-it[0], it[1]))
     lines += [f"{count} of them: {plain(' '.join(names))}" for count, names in crossing[:SHOWN]]
     return lines + ([f"{len(crossing) - SHOWN} other sets of instruments, too"] if len(crossing) > SHOWN else [])
+
+
+def prints(folder: str, most: int) -> int:
+    """The command; its status."""
+    if most < 1:
+        say("--most is 1 or more")
+        return USAGE
+    print("\n".join(told(folder, most)))
+    return 0

@@ -120,8 +120,8 @@ class WithoutBroker(unittest.TestCase):
             (["bay", "check", f"{self.folder}/no.toml"], 66, "", f"labrun-broker: {self.folder}/no.toml: there is no such file\n"),
             (["serve", f"{self.folder}/no.toml"], 66, "", f"labrun-broker: {self.folder}/no.toml: there is no such file\n"),
             (["guard", f"{self.folder}/no.toml"], 66, "", f"labrun-broker: {self.folder}/no.toml: there is no such file\n"),
-            (["bay", "check", f"{self.folder}/lab.toml"], 66, "", f"{self.folder}/lab.toml: bays.north: {self.folder}/no.toml: No such file or directory\n"),
-            (["serve", f"{self.folder}/lab.toml"], 66, "", f"{self.folder}/lab.toml: bays.north: {self.folder}/no.toml: No such file or directory\n"),
+            (["bay", "check", f"{self.folder}/lab.toml"], 66, "", f"labrun-broker: {self.folder}/lab.toml: bays.north: {self.folder}/no.toml: No such file or directory\n"),
+            (["serve", f"{self.folder}/lab.toml"], 66, "", f"labrun-broker: {self.folder}/lab.toml: bays.north: {self.folder}/no.toml: No such file or directory\n"),
             # (the broker may be for another machine)
             (["bay", "check", f"{self.folder}/other.toml"], 0, others, "other.toml: people.ana.unix: this machine has no user no-such-user\n"),
             (["bay", "check", f"{self.folder}/other.toml"], 0, others, "other.toml: on_release.scope: this machine has no command no-such-command\n"),
