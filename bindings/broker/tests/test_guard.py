@@ -125,12 +125,12 @@ class Commands(BeforeInstruments):
 
     def test_a_guard_that_is_away(self) -> None:
         self.at.end()
-        done = self.at.broker.ran("hold", "scope", "--", "bash", "-c", "exec 3<>/dev/tcp/127.0.0.1/${LABRUN_SCOPE#*:}; cat <&3")
+        done = self.at.broker.ran("hold", "scope", "--", "bash", "-c", "exec 3<>/dev/tcp/127.0.0.1/${LABRUN_SCOPE#*:}; cat <&3 2>/dev/null")
         told = f"labrun-broker: the guard at 127.0.0.1:{self.at.ports['scope']} doesn't answer: "
         self.assertEqual((done.stdout, done.stderr), ("", f"{told}connection refused\n"))
         with socket.create_server(("127.0.0.1", self.at.ports["scope"])):
             program = "import sys; from labrun_broker import command, forward; forward.ANSWER = 0.5; sys.exit(command.main())"
-            words = ["hold", "scope", "--broker", self.at.broker.address, "--", "bash", "-c", "exec 3<>/dev/tcp/127.0.0.1/${LABRUN_SCOPE#*:}; cat <&3"]
+            words = ["hold", "scope", "--broker", self.at.broker.address, "--", "bash", "-c", "exec 3<>/dev/tcp/127.0.0.1/${LABRUN_SCOPE#*:}; cat <&3 2>/dev/null"]
             ran = subprocess.run([sys.executable, "-c", program, *words], capture_output=True, text=True, timeout=LIMIT)
         self.assertEqual((ran.stdout, ran.stderr), ("", f"{told}nothing came (it is stopped, or the network is cut)\n"))
 
