@@ -178,7 +178,7 @@ class Doors(OnLab):
         self.assertEqual((status, "scope is an instrument of north" in said), (78, True))
         os.unlink(f"{self.folder}/north.toml")
         status, said = refused()
-        self.assertEqual((status, "north.toml: No such file or directory" in said), (78, True))
+        self.assertEqual((status, "north.toml: No such file or directory" in said), (66, True))
 
 
     def test_a_lab_and_a_bay_without_a_name(self) -> None:
