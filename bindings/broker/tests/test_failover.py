@@ -247,7 +247,7 @@ class MadeSafe(OnPair):
         for at in (0, 1):
             self.kills(at)
             said = self.ran("status").stdout
-            self.assertRegex(said, rf"\nscope has been out of order for .* s: {why} \(says the broker\)\n")
+            self.assertRegex(said, rf"\nscope has been out of order for .* s: {why} \(says the broker; once it is mended: labrun-broker enable scope\)\n")
             self.assertRegex(said, r"\nsupply has been out of order for .* s: until Friday \(says ")
             done = self.ran("hold", "scope", "--", "true")
             self.assertEqual(done.returncode, 1)

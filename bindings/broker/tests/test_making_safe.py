@@ -471,7 +471,7 @@ class Brokers(OnBroker):
         self.assertEqual(broker.ran("hold", "scope", "--", "true").returncode, 0)
         why = r"it wasn't made safe after session 1 of guest-1: ls /nowhere failed with status 2: ls: cannot access '/nowhere': No such file or directory"
         until(lambda: "out of order" in broker.ran("status").stdout)
-        self.assertRegex(broker.ran("status").stdout, rf"\nscope has been out of order for .* s: {why} \(says the broker\)\n")
+        self.assertRegex(broker.ran("status").stdout, rf"\nscope has been out of order for .* s: {why} \(says the broker; once it is mended: labrun-broker enable scope\)\n")
         done = broker.ran("hold", "scope", "--", "true")
         self.assertEqual(done.returncode, 1)
         self.assertRegex(done.stderr, why)
