@@ -144,7 +144,7 @@ class Mornings:
         lab, end = self.lab, time.monotonic() + 4 * LONG
         while True:
             after = copy.deepcopy(lab.model)
-            after.was_out, after.past, after.revoked = lab.model.was_out, lab.model.past, lab.model.revoked
+            after.was_out, after.past, after.revoked, after.untagged = lab.model.was_out, lab.model.past, lab.model.revoked, lab.model.untagged
             changes(after)
             path = f"{lab.folder}/candidate.toml"
             with open(path, "w", encoding="ascii") as file:
@@ -206,6 +206,7 @@ class Mornings:
         lab.model.revoked.add(new)
         lab.model.has_token(new, token)
         self._applies(lambda it: it.tokens[new].pop(0))
+        self.lab.model.untagged |= {"scope-2", "meter-2"}
         self._applies(lambda it: it.tags.update(precise=["scope-1", "scope-3", "meter-1", "meter-3"]))
 
     def _day_5(self) -> None:

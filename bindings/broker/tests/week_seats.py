@@ -81,6 +81,8 @@ class Seat:
             may.add("OutOfOrder")
         if words & lab.model.past:
             may |= {"NoInstrument", "OutOfOrder"}
+        if words & lab.model.untagged and "tag:precise" in lab.model.words_of(self.person):
+            may.add("MayNotUse")
         if self.person in lab.model.revoked:
             # (AnswerLost is a kind of Unreachable: of one that had waited at a broker that is gone)
             may |= {"Unreachable", "AnswerLost", "TakenAway", "NotAllowed"}

@@ -77,7 +77,8 @@ class Model:
         self.guests, self.limit, self.guests_limit = 16, "8h", "2h"
         self.tags = {"precise": ["scope-1", "scope-2", "meter-1", "meter-2"], "hot": ["oven-1", "oven-2"]}
         self.may, self.tokens = dict(MAY), dict[str, list[str]]()
-        self.past, self.was_out, self.revoked = set[str](), set[str](), set[str]()
+        # taken out; out of order since yesterday; who has no token, or another; and what a tag has no more
+        self.past, self.was_out, self.revoked, self.untagged = set[str](), set[str](), set[str](), set[str]()
         for name in PEOPLE:
             self.makes_token(name)
 
@@ -115,9 +116,13 @@ class Model:
         )
 
     def allowed(self, person: str) -> list[str]:
-        words = [*self.may.get(person, [])] + (["load-*", "meter-*", "supply-*"] if person in STUDENTS else [])
-        words += ["oven-*", "tag:precise", "camera-*"] if person in NIGHT else []
+        words = self.words_of(person)
         return self.matching(words) if words else list(self.instruments)
+
+    def words_of(self, person: str) -> list[str]:
+        """Of somebody who may not ask for all."""
+        words = [*self.may.get(person, [])] + (["load-*", "meter-*", "supply-*"] if person in STUDENTS else [])
+        return words + (["oven-*", "tag:precise", "camera-*"] if person in NIGHT else [])
 
     def matching(self, words: list[str]) -> list[str]:
         found = [it for word in words for it in (self.tags.get(word[4:], []) if word.startswith("tag:") else fnmatch.filter(self.instruments, word))]
