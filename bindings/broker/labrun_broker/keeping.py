@@ -32,7 +32,7 @@ if TYPE_CHECKING:
     from .entrance import Entrance
 
 UNTOLD = "before its client was told that it holds"
-NO_WAIT = "was refused, because it doesn't wait (-n, or a timeout of 0)"
+NO_WAIT = "was refused, because it doesn't wait (hold -n, or a timeout of 0)"
 NOT_AT_ONCE = "can't have all that it asks for at once"
 
 

@@ -18,7 +18,7 @@ if TYPE_CHECKING:
     from .standing import Session
     from .wishes import Wish
 
-THEN = "after that its session is taken away as soon as somebody waits for what it has"
+THEN = "its session is taken away as soon as somebody waits for what it has"
 
 # a client is warned when so much of the limit is left, and no sooner than so many seconds before its end
 SHARE, SOONEST = 0.1, 300.0
@@ -59,7 +59,8 @@ def told(keeping: Keeping, session: Session) -> tuple[str, float]:
     limit = session.limit or 0.0
     left = max(0.0, limit - (keeping.now() - session.limit_since) / 1000)
     its = session.instruments if session.crossing is None else session.crossing.instruments
-    return f"{session.name} may hold {', '.join(its)} for {_span(limit)}, which is over in {span(left, 1)}: {THEN}", left
+    then = f"over in {span(left, 1)}: after that {THEN}" if left else f"over: {THEN}"
+    return f"{session.name} may hold {', '.join(its)} for {_span(limit)}, which is {then}", left
 
 
 def because(keeping: Keeping, session: Session, how: int) -> str:

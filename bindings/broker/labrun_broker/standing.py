@@ -241,7 +241,7 @@ class Standings:
         first = f"{its['passed']} that asked later went before it" if its["passed"] else "it asked first"
         if its["keeps_place"]:
             first = "it is urgent" if its["urgent"] else "an urgent one asked after it"
-        text = f"{self._name(bit)} is kept for {other.name} until it holds, since {first}"
+        text = f"{self._name(bit)} is kept for {self._who(other)} until it holds, since {first}"
         return text + (f" and it waits for {', and '.join(ends)}" if (ends := self._ends(other)) else "")
 
     def _ends(self, other: Session) -> list[str]:
@@ -250,8 +250,12 @@ class Standings:
         if not held:
             by = [(it, self._keeping.machine.keeper(other.number, it)) for it in bits_of(other.wanted)]
             kept = [(it, self._keeping.by_number.get(who.number)) for it, who in by if who is not None]
-            held = [f"{self._name(it)} is kept for {who.name}" for it, who in kept if who is not None]
+            held = [f"{self._name(it)} is kept for {self._who(who)}" for it, who in kept if who is not None]
         return [re.sub(" (is|has been) ", ", ", it, count=1) for it in held]
+
+    def _who(self, waits: Session) -> str:
+        # (of a station others may wait at once, who are told this)
+        return waits.name + (f" ({waits.by})" if waits.by else "")
 
     def _is_taken(self, session: Session) -> str:
         of = [other for other, _, _ in self.holders if other.kind == session.kind]

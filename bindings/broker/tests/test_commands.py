@@ -310,7 +310,7 @@ class WithBroker(OnBroker):
                 (["--any", "0 of load-*"], 2, "", "labrun-broker: 0 of load-*: ask for 1 or more; there are 2: load-1, load-2\n"),
                 (["--any", "lamp-*"], 2, "", "labrun-broker: no instrument is like lamp-*: there are scope, supply, load-1, load-2\n"),
                 (["tag:lamps"], 2, "", "labrun-broker: lamps is no tag; there are none\n"),
-                (["-n", "load-1"], 75, "", "refused, because it doesn't wait (-n, or a timeout of 0): load-1 has been held by guest-1 for"),
+                (["-n", "load-1"], 75, "", "refused, because it doesn't wait (hold -n, or a timeout of 0): load-1 has been held by guest-1 for"),
                 (["--timeout", "0.1", "load-1"], 75, "", "given up when its time was over: load-1 has been held by guest-1 for"),
                 (["--no-wait", "scope"], 0, "scope\n", ""),
             )

@@ -142,7 +142,7 @@ class Sessions(OnHttp):
         self.assertTrue(0.4 <= time.monotonic() - began < SOON)
         self.told((409, "TimeoutError", "scope has been held by board for"), answer)
         self.assertEqual(one.of("t" * 20), answer)
-        self.told((409, "TimeoutError", "was refused, because it doesn't wait (-n, or a timeout of 0): scope has been held by board for"), one.asks("scope", timeout=0, wait=LIMIT))
+        self.told((409, "TimeoutError", "was refused, because it doesn't wait (hold -n, or a timeout of 0): scope has been held by board for"), one.asks("scope", timeout=0, wait=LIMIT))
 
     def test_one_that_waits_gives_up(self) -> None:
         _, one = self.http()

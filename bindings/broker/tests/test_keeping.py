@@ -116,6 +116,22 @@ class Sessions(OnKeeping):
         await keeping.let_go(await board, self.owner)
         await keeping.let_go(await guest, self.owner)
 
+    async def test_for_whom_of_a_station_it_is_kept(self) -> None:
+        """Several may wait as one station: the second of them isn't told just that it is kept for the board, as if for itself."""
+        keeping = await self.keeping("overtakes = 0\n" + BAY)
+        radio = await self.holds(keeping, "scope", station="radio")
+        first = await self.asks(keeping, "scope", "supply", station="board", by="ann@bench-3 4711 sh")
+        kept = r"supply is kept for board \(ann@bench-3 4711 sh\) until it holds, since it asked first and it waits for scope, held by radio for \d+\.\d s"
+        with self.assertRaisesRegex(labrun.TimeoutError, f"of board was given up when its time was over: {kept}$"):
+            await self.holds(keeping, "supply", station="board", by="bob@bench-4 815 sh", timeout=0.05)
+        second, third = await self.asks(keeping, "supply", "load-1", by="cem@bench-5 16 sh"), await self.asks(keeping, "load-1")
+        text = how(keeping, "guest-2")["waits_for"][0]["text"]
+        whom = "guest-1 (cem@bench-5 16 sh) until it holds, since it asked first and it waits for supply, kept for board (ann@bench-3 4711 sh)"
+        self.assertEqual(text, f"load-1 is kept for {whom}")
+        await keeping.let_go(radio, self.owner)
+        for one in (first, second, third):
+            await keeping.let_go(await one, self.owner)
+
     async def test_whoever_was_passed_comes_first(self) -> None:
         """It is said how often that was, and why it waits, though what it waits for is only kept for another."""
         keeping = await self.keeping("overtakes = 2\n" + BAY)
@@ -198,7 +214,7 @@ class Sessions(OnKeeping):
         """It is told so, and never that its time was over; and who keeps it, and since when."""
         keeping = await self.keeping()
         await self.holds(keeping, "scope", station="board", by="ann@bench-3 4711 sh")
-        told = r"of radio was refused, because it doesn't wait \(-n, or a timeout of 0\): scope has been held by board for \d+\.\d s \(ann@bench-3 4711 sh\)$"
+        told = r"of radio was refused, because it doesn't wait \(hold -n, or a timeout of 0\): scope has been held by board for \d+\.\d s \(ann@bench-3 4711 sh\)$"
         with self.assertRaisesRegex(labrun.TimeoutError, told):
             await self.holds(keeping, "scope", station="radio", timeout=0)
         with self.assertRaisesRegex(labrun.TimeoutError, "of radio was given up when its time was over: scope has been held by board"):

@@ -170,7 +170,7 @@ class Held(OnBroker):
             (["scope", "--timeout", "soon", "--", "true"], 2, "--timeout: this is no number of seconds, 0 or more and below 1000000000: soon"),
             (["scope", "--timeout", "-1", "--broker", "unix:/nowhere/bay.sock", "--", "true"], 2, "0 or more and below 1000000000: -1"),
             (["scope", "--tiemout", "1", "--", "true"], 2, "no such option: --tiemout"),
-            (["supply", "-n", "--", "true"], 75, "refused, because it doesn't wait (-n, or a timeout of 0): supply has been held by board for"),
+            (["supply", "-n", "--", "true"], 75, "refused, because it doesn't wait (hold -n, or a timeout of 0): supply has been held by board for"),
             (["supply", "--timeout=0.5", "--", "true"], 75, r"(b\u202en)"),
             (["supply", "--timeout=0.5", "--quiet", "--", "true"], 75, "given up when its time was over: supply has been held by board for"),
             (["supply", "--station", "radio", "--", "true"], 77, "radio may not use supply"),

@@ -65,8 +65,13 @@ class Limits(OnFolder):
         await asyncio.sleep(0.5)
         self.assertTrue(held.holds and quiet.holds, "nobody waits")
         [(text, seconds)] = owner.warnings
-        self.assertEqual((text, silent.warnings), ("board may hold scope for 0.4 s, which is over in 0.0 s: after that its session is taken away as soon as somebody waits for what it has", []))
+        # (a busy machine may say it late)
+        self.assertRegex(text, "^board may hold scope for 0.4 s, which is over(:| in 0.0 s: after that) its session is taken away as soon as somebody waits for what it has$")
+        self.assertEqual(silent.warnings, [])
         self.assertTrue(0 <= seconds <= 0.04 + 0.001)
+        # whoever comes back, or asks by HTTP, by then is told that it is over, and not that some is left
+        over = "board may hold scope for 0.4 s, which is over: its session is taken away as soon as somebody waits for what it has"
+        self.assertEqual(lasting.told(keeping, held), (over, 0.0))
         new = await keeping.hold(Wish(("scope",), timeout=LIMIT), other)
         why = "by the broker, because it held for longer than its limit of 0.4 s, and somebody waits for what it had"
         self.assertEqual((new.instruments, owner.told), (("scope",), [f"board: the session with scope was taken away {why}"]))
@@ -91,7 +96,7 @@ class Limits(OnFolder):
         with mock.patch.object(lasting, "SHARE", 1.0):
             await again.hold(Wish(ticket=TICKET, comes_back=True, wants_warning=True), owner)
             await asyncio.sleep(0.05)
-        self.assertRegex(owner.warnings[0][0], "^guest-1 may hold scope for 3 s, which is over in [0-3].[0-9] s:")
+        self.assertRegex(owner.warnings[0][0], "^guest-1 may hold scope for 3 s, which is over(| in [0-3].[0-9] s):")
         new = await again.hold(Wish(("scope",), timeout=LIMIT), Owner())
         self.assertGreater(new.number, held.number)
         self.assertRegex(owner.told[0], "longer than its limit of 3 s")
@@ -138,7 +143,7 @@ class Clients(OnBroker):
         held.on_taken = taken.append
         held.acquire()
         self.assertTrue(is_warned.wait(LIMIT))
-        self.assertRegex(warnings[0], "^board may hold scope for 1 s, which is over in 0.[01] s: after that its session is taken away as soon as somebody waits for what it has$")
+        self.assertRegex(warnings[0], "^board may hold scope for 1 s, which is over(:| in 0.[01] s: after that) its session is taken away as soon as somebody waits for what it has$")
         with other.hold("scope", timeout=LIMIT):
             until(lambda: taken, "it is told")
             with self.assertRaisesRegex(labrun.TakenAway, "longer than its limit of 1 s"):
@@ -160,7 +165,7 @@ class Clients(OnBroker):
                     pass
                 _, said = holds.communicate(timeout=LIMIT)
                 self.assertEqual(holds.returncode, 76)
-                self.assertRegex(said, r"labrun-broker: guest-1 may hold scope for 12 s, which is over in [01].[0-9] s")
+                self.assertRegex(said, r"labrun-broker: guest-1 may hold scope for 12 s, which is over(:| in [01].[0-9] s)")
                 self.assertRegex(said, r"taken away by the broker, because it held for longer than its limit of 12 s, .*; the command is being ended")
 
 

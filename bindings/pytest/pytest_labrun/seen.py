@@ -58,12 +58,13 @@ def _sessions(of: Sequence[Held]) -> str:
 
 def _in_all(sessions: Sequence[Held]) -> str:
     waiters = _waiters(sessions)
-    if not waiters:
+    total = sum(it.waited for it in waiters)
+    # (a broker of another machine takes a moment to answer, also where nobody keeps anybody waiting)
+    if total < 0.05 and not any(it.kept for it in waiters):
         return "nobody waited"
     longest = max(waiters, key=lambda it: it.waited)
     # (of a choice that it never got it isn't known)
     whom = ", ".join(f"{name} ({by})" for name, by in longest.kept.items()) or ", ".join(longest.instruments) or "one of several"
-    total = sum(it.waited for it in waiters)
     return f"waited {total:.1f} s in all, {len(waiters)} of {_sessions(sessions)}; the longest {longest.waited:.1f} s: {longest.test}, for {whom}"
 
 

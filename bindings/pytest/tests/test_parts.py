@@ -271,6 +271,10 @@ def test_the_table() -> None:
         "scope  in use 6.0 s of 9.0 s (67 %), 1 session, waited for 3.0 s",
         "waited 3.0 s in all, 1 of 1 session; the longest 3.0 s: test_b, for scope (test_a)",
     ]
+    # what the broker took to answer isn't told as a wait for an instrument that nobody had
+    assert table([Held("test_f", "gw0", ("scope",), 0.0, 0.03, 1.0, end="done")])[-1] == "nobody waited"
+    in_its_way = [Held("test_f", "gw0", ("scope",), 0.0, 0.03, 1.0, {"scope": "guest-1"}, "done")]
+    assert table(in_its_way)[-1] == "waited 0.0 s in all, 1 of 1 session; the longest 0.0 s: test_f, for scope (guest-1)"
     assert table([Held("test_e", "gw0", (), 1.0, None, 3.0, end="late")]) == [
         "waited 2.0 s in all, 1 of 1 session; the longest 2.0 s: test_e, for one of several"
     ]
