@@ -7,7 +7,7 @@ import math
 from typing import TYPE_CHECKING, Any, Coroutine, Optional
 
 from .errors import AnswerLost, Unreachable, is_for_good, plainly, raised
-from .stream import AGAIN, LATE, Lost, Silent, Stream
+from .stream import AGAIN, LATE, NOBODY, Lost, Silent, Stream
 from .texts import SILENT, none_answers
 from .wire import FIRST
 from .work import clock
@@ -124,8 +124,8 @@ class Coming:
         is_over = self._lost_at is not None and now > self._lost_at + patience or self._until is not None and now > self._until
         if lost.code not in AGAIN or is_for_good(str(lost)) or not patience or is_over:
             why = lab._why_lost(lost.code, str(lost))
-            # (who closes each connection at once has heard nothing)
-            self._may_hold = self._may_hold or isinstance(why, AnswerLost) and lab._was_there
+            # (who closes each connection at once has heard nothing, and nor has the one that doesn't let this client in)
+            self._may_hold = lost.code is not NOBODY and (self._may_hold or isinstance(why, AnswerLost) and lab._was_there)
             raise why from None
         if self._lost_at is None and lab._brokers.is_list:
             left = patience if self._until is None else min(patience, self._until - now)

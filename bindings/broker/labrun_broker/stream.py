@@ -34,6 +34,7 @@ class Silent(Exception):
     """A time limit is over, and the broker says nothing."""
 
 
+NOBODY = grpc.StatusCode.UNAUTHENTICATED  # whoever isn't let in
 # a broker that begins again, or a network that comes back, is worth another try
 AGAIN = (grpc.StatusCode.UNAVAILABLE, grpc.StatusCode.CANCELLED, grpc.StatusCode.UNKNOWN, grpc.StatusCode.INTERNAL, None)
 

@@ -370,6 +370,7 @@ class Brokers(OnPeople):
         ran = broker.ran("hold", "scope", "--", "true")
         self.assertEqual(ran.returncode, 69)
         self.assertRegex(ran.stderr, r"doesn't let this client in: the user .* of this machine is none of the bay's people: give the file of your token by")
+        self.assertNotIn("may hold", ran.stderr)
         environment = {**os.environ, "LABRUN_BROKER": broker.address, "LABRUN_BROKER_TOKEN_FILE": f"{broker.folder}/bob"}
         words = [sys.executable, "-c", "import labrun_broker\nwith labrun_broker.connect() as lab, lab.hold('load-1') as held: print(held.instruments)"]
         self.assertEqual(subprocess.run(words, env=environment, capture_output=True, text=True).stdout, "('load-1',)\n")
