@@ -88,9 +88,10 @@ class Crossing(Session):
         self.instruments = next(tuple(dict.fromkeys(it)) for it in self.wish.choices if set(it) == held)
         self.state, self.number = "holding", its[0][1].number
         self.is_kept = any(home.keeps(part) for home, part in its)
+        # (the shortest of all its bays' is that of each part: whoever waits for it may do so in any of them)
         self.limit = min((part.limit for _, part in its if part.limit is not None), default=None)
         for home, part in its:
-            part.is_kept, part.told_at = self.is_kept, home.now() - ago
+            part.is_kept, part.limit, part.told_at = self.is_kept, self.limit, home.now() - ago
             lasting.watches(home, part)
             home._news.changed()
         if self.owner is not None:

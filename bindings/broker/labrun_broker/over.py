@@ -136,6 +136,8 @@ def _is_back(bays: Bays, key: tuple[int, int], its: dict[Keeping, Session]) -> N
     it = Crossing(bays, tuple(its), key, Wish(names, person=first.person), None)
     for home, part in its.items():
         it.parts[home.bay.name], part.crossing = part, it
+        # (whose limit seemed to be over, for it counted from when this bay gave its part)
+        home.late = [one for one in home.late if one is not part]
     it.name, it.by = first.name, first.by
     # (it was told once the last of them held)
     it.is_whole(min(home.now() - part.since for home, part in its.items()))

@@ -1,6 +1,7 @@
 """For how long a session may hold while others wait."""
 
 import asyncio
+import shutil
 import threading
 import time
 import unittest
@@ -14,6 +15,8 @@ from labrun_broker.errors import BadWish
 from labrun_broker.keeping import Keeping
 from labrun_broker.wishes import Ended, Wish
 from tests.brokers import BAY, LIMIT, OnBroker, free_port, until
+from tests.test_bays import LAB, NORTH, SOUTH
+from tests.test_crossing import OnCrossings
 from tests.test_keeping import TICKET, OnFolder, Owner
 
 LIMITED = "limit = \"2h\"\n" + BAY + "limit = \"30min\"\n[station_limits]\nradio = 90\n"
@@ -132,6 +135,67 @@ class Limits(OnFolder):
         for limit in (0.0, -1.0, 1e9, float("nan")):
             with self.subTest(limit), self.assertRaisesRegex(BadWish, "a limit of"):
                 await keeping.hold(Wish(("scope",), limit=limit), owner)
+
+
+class OverBays(OnCrossings):
+    """Of sessions over several bays; test_crossing_ends has a limit that the client wished."""
+
+    async def test_the_limit_of_one_bay_counts_in_all(self) -> None:
+        """Whichever bay has it, and in whichever somebody waits; and what the client wishes, or another bay has, is longer or not there."""
+        short, long = 'limit = "0.4s"\n', 'limit = "1h"\n'
+        for north, south, wished in ((short, "", None), ("", short, None), (short, "", 3600.0), (long, short, 7200.0)):
+            for waits_for in ("scope", "oven"):
+                with self.subTest(north=north, south=south, wished=wished, waits_for=waits_for):
+                    bays, owner = await self.bays(LAB, north + NORTH, south + SOUTH, state=False), Owner()
+                    it = await self.crosses(bays, "scope", "oven", limit=wished, owner=owner)
+                    self.assertEqual(it.limit, 0.4)
+                    await asyncio.sleep(0.5)
+                    self.assertTrue(it.holds, "nobody waits")
+                    new = await asyncio.wait_for(bays.hold(Wish((waits_for,), timeout=LIMIT), self.owner), LIMIT)
+                    self.assertEqual(new.instruments, (waits_for,))
+                    await self.eventually(lambda: list(self.stands(bays)) == [waits_for], "the other is let go of, too")
+                    why = "by the broker, because it held for longer than its limit of 0.4 s, and somebody waits for what it had"
+                    self.assertEqual(owner.told, [f"guest-1: the session with scope, oven was taken away {why}"])
+                    # (each bay's records say why)
+                    for home in bays.peers:
+                        self.assertEqual([one["text"] for one in home.history if one["what"] == "taken"], [why])
+
+    async def test_who_waits_before_the_limit_of_another_bay_is_over(self) -> None:
+        for north, south, waits_for in (("limit = 1\n", "", "oven"), ("", "limit = 1\n", "scope")):
+            with self.subTest(waits_for):
+                bays = await self.bays(LAB, north + NORTH, south + SOUTH, state=False)
+                begun = asyncio.get_running_loop().time()
+                await self.crosses(bays, "scope", "oven")
+                await asyncio.wait_for(bays.hold(Wish((waits_for,), timeout=LIMIT), self.owner), LIMIT)
+                self.assertGreater(asyncio.get_running_loop().time() - begun, 0.9)
+
+    async def test_the_limit_of_one_bay_counts_in_all_over_a_restart(self) -> None:
+        for north, south, waits_for in (("limit = 1\n", "", "oven"), ("", "limit = 1\n", "scope")):
+            with self.subTest(waits_for):
+                bays = await self.bays(LAB, north + NORTH, south + SOUTH)
+                await self.crosses(bays, "scope", "oven", ticket=TICKET)
+                await bays.close()
+                again = await self.bays()
+                new = await asyncio.wait_for(again.hold(Wish((waits_for,), timeout=LIMIT), self.owner), LIMIT)
+                self.assertEqual(new.instruments, (waits_for,))
+                with self.assertRaisesRegex(Ended, "because it held for longer than its limit of 1 s"):
+                    await self.crosses(again, ticket=TICKET, comes_back=True)
+                await self.eventually(lambda: list(self.stands(again)) == [waits_for], "the other is let go of, too")
+                await again.close()
+                shutil.rmtree(self.state)
+
+    async def test_a_limit_counts_from_when_it_was_told_over_a_restart(self) -> None:
+        bays = await self.bays()
+        oven = await self.holds(bays, "oven", station="heat")
+        task, _ = await self.waits(bays, "south", "scope", "oven", ticket=TICKET, limit=2.0)
+        await asyncio.sleep(2.2)
+        begun = asyncio.get_running_loop().time()
+        await bays.let_go(oven, self.owner)
+        await asyncio.wait_for(task, LIMIT)
+        await bays.close()
+        again = await self.bays()
+        await asyncio.wait_for(again.hold(Wish(("scope",), timeout=LIMIT), self.owner), LIMIT)
+        self.assertGreater(asyncio.get_running_loop().time() - begun, 1.9)
 
 
 class Clients(OnBroker):

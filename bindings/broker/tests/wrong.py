@@ -75,6 +75,14 @@ WRONG = {
     "a limit of a session over two bays that counts from its first part": Wrong(
         "test_crossing_ends.Ends.test_a_limit_counts_from_when_it_is_told", "standing.py", (("        return self.since if self.told_at is None else self.told_at\n", "        return self.since\n"),)
     ),
+    "a session over two bays of which each part has its own bay's limit": Wrong(
+        "test_lasting.OverBays.test_the_limit_of_one_bay_counts_in_all",
+        "crossing.py",
+        (("part.is_kept, part.limit, part.told_at = self.is_kept, self.limit, ", "part.is_kept, part.told_at = self.is_kept, "),),
+    ),
+    "a limit of a session over two bays that counts from its first part once the broker began again": Wrong(
+        "test_lasting.OverBays.test_a_limit_counts_from_when_it_was_told_over_a_restart", "over.py", (("if one is not part]", "if one]"),)
+    ),
     "a guard that cuts nobody": Wrong(
         "test_guard_inside.Exclusion.test_many_times_over", "guard.py", (("                self.cuts += 1\n                one.cut()\n", "                self.cuts += 1\n                one.over.set()\n"),)
     ),
