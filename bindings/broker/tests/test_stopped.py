@@ -172,11 +172,11 @@ class Killed(OnBroker):
         """Who waited may hold: the broker may have written that down before it was killed, and the next one has it then. Who only comes now doesn't."""
         self.enterContext(mock.patch.object(coming, "GRACE", 0.5))
         broker = self.broker(BAY, "--state", "FOLDER/state")
-        lab, waits = self.lab(broker), list[str]()
         self.lab(broker).hold("scope").acquire()
         for timeout in (None, LIMIT):
             with self.subTest(timeout), ThreadPoolExecutor() as threads:
-                waits.clear()
+                # (a new one each time: gRPC tries one that was away again only after a while)
+                lab, waits = self.lab(broker), list[str]()
                 asked = threads.submit(lab.hold("scope", waits=waits.append, timeout=timeout).acquire)
                 until(lambda: waits, "it waits")
                 broker.kill()
