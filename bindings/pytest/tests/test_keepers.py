@@ -48,5 +48,8 @@ def test_the_report_names_who_had_it(pytester: pytest.Pytester, run: Run) -> Non
             named += 1
     # at least the last of the scope's five was waited for, by a worker with nothing else to do
     assert named >= 2
-    [one, other] = (f"test_the_report_names_who_had_it.py::test_supply[{number}]" for number in range(2))
-    assert sessions[other]["kept_by"] == f"supply: {one}"
+    # (whether the two of the supply meet is up to the workers)
+    supply = [f"test_the_report_names_who_had_it.py::test_supply[{number}]" for number in range(2)]
+    for one, other in (supply, supply[::-1]):
+        if float(sessions[other]["waited"]) > 0.05:
+            assert sessions[other]["kept_by"] == f"supply: {one}"
