@@ -194,6 +194,8 @@ class Held:
         self._raises_taken()
         if self.state != "held":
             raise NotHeld(f"the session is {self.state}: it doesn't hold its instruments")
+        if instrument not in self.instruments:
+            raise BadWish(f"this session doesn't hold {instrument}: it holds {', '.join(self.instruments)}")
         if self._ways is None:
             self._ways = Ways(self.guards, self.ticket, self.lab._certificate)
         return await self._ways.address(instrument)

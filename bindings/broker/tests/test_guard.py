@@ -77,6 +77,13 @@ class LetsThrough(BeforeInstruments):
             with self.assertRaisesRegex(labrun.LabrunError, "names no guard for load-1"):
                 held.address("load-1")
 
+    def test_an_instrument_that_the_session_does_not_hold(self) -> None:
+        """With a guard or without one, and of no bay: what is wrong is the session, not the bay's file."""
+        with self.lab().hold("supply", "load-1") as held:
+            for name in ("scope", "load-2", "nothing"):
+                with self.assertRaisesRegex(labrun.LabrunError, f"^this session doesn't hold {name}: it holds supply, load-1$"):
+                    held.address(name)
+
     def test_the_last_word_arrives(self) -> None:
         """What was written before the session lets go is at the instrument before anybody else is."""
         lab = self.lab()

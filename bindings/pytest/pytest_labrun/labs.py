@@ -9,7 +9,7 @@ import os
 import re
 import threading
 import time
-from typing import Any, AsyncContextManager, AsyncIterator, Optional, Protocol, Sequence
+from typing import Any, AsyncContextManager, AsyncIterator, Callable, Optional, Protocol, Sequence
 
 import labrun
 from labrun.machine import MOST_INSTRUMENTS
@@ -17,6 +17,7 @@ from labrun.machine import MOST_INSTRUMENTS
 _LAG = 0.5  # seconds, by which what the broker tells may be late
 
 Way = tuple[str, ...]
+Taken = Callable[[Exception], None]
 
 
 class LabFault(Exception):
@@ -29,11 +30,12 @@ class Lab(Protocol):
     def open(self, instruments: Sequence[str]) -> None:
         """For workers of which each may use these."""
 
-    def hold(self, test: str, ways: Sequence[Way], timeout: Optional[float]) -> AsyncContextManager[Any]:
-        """Entered, it holds all instruments of one of the ways, which its `instruments` say. TimeoutError says who is at them."""
+    def hold(self, test: str, ways: Sequence[Way], timeout: Optional[float], taken: Taken) -> AsyncContextManager[Any]:
+        """Entered, it holds all instruments of one of the ways, which its `instruments` say. TimeoutError says who is at them. `taken` is called,
+        on any thread, if the session is over before its end, but not by what a `note` or the end raises."""
 
     async def note(self, session: Any, text: str) -> None:
-        """A line from the test, where the lab keeps such."""
+        """A line from the test, where the lab keeps such. What it raises is raised no more at the session's end."""
 
     def who(self, text: str) -> str:
         """A text of the lab with the tests' names, where it has none."""
@@ -63,7 +65,7 @@ class OwnLab:
         self.lab = labrun.Lab(instruments)
 
     @contextlib.asynccontextmanager
-    async def hold(self, test: str, ways: Sequence[Way], timeout: Optional[float]) -> AsyncIterator[Any]:
+    async def hold(self, test: str, ways: Sequence[Way], timeout: Optional[float], taken: Taken) -> AsyncIterator[Any]:
         assert self.lab is not None
         names, more = _asked(ways)
         session = self.lab.hold(*names, timeout=timeout, **more)
@@ -113,9 +115,11 @@ class BrokerLab:
         pass
 
     @contextlib.asynccontextmanager
-    async def hold(self, test: str, ways: Sequence[Way], timeout: Optional[float]) -> AsyncIterator[Any]:
+    async def hold(self, test: str, ways: Sequence[Way], timeout: Optional[float], taken: Taken) -> AsyncIterator[Any]:
         names, more = _asked(ways)
-        async with self.client.hold(*names, timeout=timeout, **more) as session:
+        session = self.client.hold(*names, timeout=timeout, **more)
+        session.on_taken = taken
+        async with session:
             self._own[session.station] = math.inf
             try:
                 await session.note_async(test)

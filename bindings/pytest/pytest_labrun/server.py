@@ -169,6 +169,8 @@ class _Worker:
         self.lets_go = asyncio.Event()
         self.held: Optional[Held] = None
         self.at: Any = None
+        # why the session was over before its end, as it was told first
+        self.taken: Optional[Exception] = None
 
     def tell(self, **words: Any) -> None:
         self.writer.write(json.dumps(words).encode() + b"\n")
@@ -199,11 +201,23 @@ class _Worker:
         self.lets_go.set()
 
     async def on_note(self, text: str) -> None:
-        if self.held is not None and self.at is not None:
-            self.held.notes.append(text)
+        held, session = self.held, self.at
+        if held is None or session is None:
+            return
+        try:
+            await self.server.lab.note(session, text)
+        except Exception as fault:
             # (a broker that can't write it down says so at the session's end)
-            with contextlib.suppress(Exception):
-                await self.server.lab.note(self.at, text)
+            if not session.held:
+                return self.is_taken(held, fault)
+        held.notes.append(text)
+
+    def is_taken(self, held: Held, fault: Exception) -> None:
+        """The session is over before its end. Any thread may tell."""
+        if self.held is held and self.taken is None:
+            self.taken = fault
+            if held.held is not None:
+                held.let_go = self.server.past.now()
 
     async def holds(self, test: str, ways: tuple[Way, ...], timeout: Optional[float]) -> None:
         """One session, from its asking until it lets go, or until this task is cancelled because its worker is gone."""
@@ -212,15 +226,19 @@ class _Worker:
         if dealt.way in ways:
             ways = (dealt.way, *(way for way in ways if way != dealt.way))
         held = self.held = past.asks(test, self.name, ways[0] if len(ways) == 1 else ())
+        self.taken = None
         held.kept = server.kept(ways)
         # (a worker that was idle for want of something else didn't wait for this test)
         if dealt.since is not None and (held.kept or server.had(dealt.way or (), dealt.since)):
             held.asked = dealt.since
+        left = None if timeout is None else max(0.0, timeout - (past.now() - held.asked))
         try:
-            await self._holds(held, ways, timeout)
+            await self._holds(held, ways, left)
         except TimeoutError as late:
             held.end = "late"
-            keepers = "; ".join(str(keeper) for keeper in getattr(late, "keepers", ())) or str(late)
+            keepers = "; ".join(str(keeper) for keeper in getattr(late, "keepers", ()))
+            if not keepers:
+                keepers = f"its time limit of {timeout:g} s was over: {str(late).partition(': ')[2] or late}" if left == 0 else str(late)
             names = " or ".join(", ".join(way) for way in ways[:4])
             self.tell(late=server.lab.who(f"waited {past.now() - held.asked:.1f} s for {names}: {keepers}"))
         except asyncio.CancelledError:
@@ -237,8 +255,7 @@ class _Worker:
 
     async def _holds(self, held: Held, ways: tuple[Way, ...], timeout: Optional[float]) -> None:
         server, past = self.server, self.server.past
-        left = None if timeout is None else max(0.0, timeout - (past.now() - held.asked))
-        async with server.lab.hold(f"{held.test} ({self.name})", ways, left) as session:
+        async with server.lab.hold(f"{held.test} ({self.name})", ways, timeout, lambda fault: self.is_taken(held, fault)) as session:
             held.held, self.at = past.now(), session
             taken = next(at for at, way in enumerate(ways) if set(way) == set(session.instruments))
             held.instruments = ways[taken]
@@ -248,5 +265,7 @@ class _Worker:
             self.tell(held=held.instruments, waited=held.waited)
             await self.lets_go.wait()
             self.at = None
+            if self.taken is not None:
+                raise self.taken
         held.end, held.let_go = "done", past.now()
         past.times.note(held)

@@ -102,6 +102,58 @@ def test_others_hold_what_a_test_needs(pytester: pytest.Pytester, run: Run, brok
     outcomes = done.parseoutcomes()
     assert outcomes["passed"] >= 1 and outcomes["errors"] >= 8
     done.stdout.fnmatch_lines(["waited ?.? s for *scope*: *scope*held by guest-*"])
+    done.stdout.no_fnmatch_line("*doesn't wait*")
+
+
+def test_its_time_was_over_before_it_asked(pytester: pytest.Pytester, run: Run, broker: str) -> None:
+    """The second is sent to a worker that has been idle for as long as a test may wait."""
+    hand = [sys.executable, "-m", "labrun_broker", "hold", "--broker", broker, "scope", "--", "sh", "-c", "echo held; exec cat"]
+    process = subprocess.Popen(hand, stdin=subprocess.PIPE, stdout=subprocess.PIPE, text=True)
+    assert process.stdout is not None and process.stdout.readline() == "held\n"
+    pytester.makepyfile("import pytest\n@pytest.mark.instruments('scope')\n@pytest.mark.parametrize('at', range(2))\ndef test_it(at): pass\n")
+    done = run("-n", "2", "--lab-broker", broker, "--lab-timeout", "3")
+    process.communicate(timeout=60)
+    done.assert_outcomes(errors=2)
+    done.stdout.fnmatch_lines(["waited *.? s for scope: its time limit of 3 s was over: scope has been held by guest-*"])
+    done.stdout.no_fnmatch_line("*doesn't wait*")
+
+
+TAKEN = """
+    import json, os, subprocess, sys, time
+    import labrun_broker, pytest
+
+    @pytest.mark.instruments("scope")
+    def test_it(instruments):
+        began = time.monotonic()
+        instruments.note("before")
+        with labrun_broker.connect(os.environ["BROKER"]) as lab:
+            [station] = [it["holder"] for it in lab.status()["instruments"] if it["name"] == "scope"]
+        subprocess.run([sys.executable, "-m", "labrun_broker", "release", "--broker", os.environ["BROKER"], station], check=True)
+        time.sleep(float(os.environ["SLEEPS"]))
+        for _ in range(int(os.environ["NOTES"])):
+            instruments.note("after")
+        with open("took", "w") as file:
+            file.write(str(time.monotonic() - began))
+"""
+
+
+@pytest.mark.parametrize("words", [(), ("-n", "2")], ids=["alone", "workers"])
+@pytest.mark.parametrize(("sleeps", "notes"), [(0, 1), (4, 2), (4, 0)])
+def test_taken_away(
+    pytester: pytest.Pytester, run: Run, broker: str, monkeypatch: pytest.MonkeyPatch, words: tuple[str, ...], sleeps: int, notes: int
+) -> None:
+    """Whether it notes something behind that, or not. It held until then."""
+    for name, value in (("BROKER", broker), ("SLEEPS", str(sleeps)), ("NOTES", str(notes))):
+        monkeypatch.setenv(name, value)
+    pytester.makepyfile(TAKEN)
+    done = run(*words, "--lab-broker", broker, "--lab-report", "it.csv")
+    done.assert_outcomes(passed=1)
+    done.stderr.fnmatch_lines(["*PytestWarning: its instruments were no longer held at its end: TakenAway: *"])
+    [row] = read(pytester.path / "it.csv")
+    assert (row["end"], row["instruments"], row["notes"]) == ("taken", "scope", "before")
+    if sleeps:
+        took = float((pytester.path / "took").read_text())
+        assert 0 <= float(row["held"]) < took - sleeps / 2
 
 
 def test_unknown_instruments_and_no_broker(pytester: pytest.Pytester, run: Run, broker: str, tmp_path: Path) -> None:
