@@ -6,6 +6,7 @@ pub mod Tied
 pub mod Letting
 pub mod Steps
 pub mod Due
+pub mod Nobody
 pub mod Askers
 pub mod Alike
 pub mod Stops

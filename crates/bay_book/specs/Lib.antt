@@ -6,3 +6,4 @@ pub mod Books
 pub mod Restoring
 pub mod Runs
 pub mod Holding
+pub mod Settled

@@ -13,21 +13,24 @@ use crate::finding::{
     due, first_gone, first_late, first_over_limit, in_use, limit_due, place_of, taken,
 };
 use crate::making::{
-    asker, back_again, give_all, given, gone_since, hearing, holding, is_done, over, restored,
-    turn_all,
+    asker, back_again, give_all, given, gone_since, hearing, holding, over, restored, turn_all,
 };
 use crate::restoring::{NotRestored, may_be_restored};
+use crate::settling::{purge, with_place};
 use crate::telling::next_to_tell;
 use std::alloc::{AllocError, Global};
 use std::marker::Model;
 
-/// The asks, the least number that the next may have, the largest token so far, and how far the journal outlives a crash.
+/// The asks, the least number that the next may have, the largest token so far, and how far the journal outlives a crash; and from where to where those
+/// stand that aren't settled.
 #[derive(Drop)]
 pub struct Book {
     asks: Vec<Ask, Global>,
     next: u64,
     granted: u64,
     durable: u64,
+    from: usize,
+    to: usize,
 }
 
 impl Model for Book {
@@ -37,7 +40,9 @@ impl Model for Book {
 
     ghost view = { λ x. record { asks = x.asks.items; next = x.next; granted = x.granted; durable = x.durable } };
 
-    ghost invariant = { λ x. IsSound (record { asks = x.asks.items; next = x.next; granted = x.granted; durable = x.durable }) };
+    ghost use Rattle.bay_book.specs.Settled.{AreWithin};
+
+    ghost invariant = { λ x. IsSound (record { asks = x.asks.items; next = x.next; granted = x.granted; durable = x.durable }) × AreWithin x.asks.items x.from x.to };
 }
 
 impl Book {
@@ -50,6 +55,8 @@ impl Book {
             next: 0,
             granted: 0,
             durable: 0,
+            from: 0,
+            to: 0,
         }
     }
 
@@ -62,6 +69,8 @@ impl Book {
             next: next.max(granted),
             granted,
             durable: 0,
+            from: 0,
+            to: 0,
         }
     }
 
@@ -185,8 +194,11 @@ impl Book {
         requires waits { (ask_at self.old.asks place).stage ≡ Stage.Waits }
         ensures { self.new ≡ hold self.old place needs now keeps }
     {
+        let (from, to) = with_place(self.from, self.to, place, self.asks.len());
         self.granted += 1;
         self.asks[place] = holding(self.asks[place], needs, now, keeps, self.granted);
+        self.from = from;
+        self.to = to;
     }
 
     /// It is over from this moment on, and holds nothing. A line is owed if one was given that it holds.
@@ -195,7 +207,10 @@ impl Book {
         requires not_over { is_over (ask_at self.old.asks place).stage ≡ false }
         ensures { self.new ≡ end self.old place how now }
     {
+        let (from, to) = with_place(self.from, self.to, place, self.asks.len());
         self.asks[place] = over(self.asks[place], how, now);
+        self.from = from;
+        self.to = to;
     }
 
     /// Its client isn't there since this moment.
@@ -248,7 +263,7 @@ impl Book {
     pub fn next_to_tell(&self) -> Option<(usize, Outcome)>
         ensures { IsNextToTell self.now.asks self.now.durable result }
     {
-        next_to_tell(&self.asks, self.durable)
+        next_to_tell(&self.asks, self.from, self.to, self.durable)
     }
 
     /// It was told what it was to be told.
@@ -264,7 +279,9 @@ impl Book {
     pub fn purge(&mut self)
         ensures { self.new ≡ purge self.old }
     {
-        self.asks.retain(|ask| !is_done(*ask));
+        let (from, to) = purge(&mut self.asks, self.from, self.to);
+        self.from = from;
+        self.to = to;
     }
 
     /// All instruments of those that hold.

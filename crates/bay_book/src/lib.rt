@@ -10,6 +10,7 @@ pub mod laws;
 mod making;
 mod moments;
 mod restoring;
+mod settling;
 mod telling;
 
 pub use ask::{Ask, End, Heard, Mark, Outcome, Stage};

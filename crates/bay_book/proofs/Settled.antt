@@ -1,0 +1,202 @@
+-- Those that aren't settled: where they stand after each call, and that nobody else is to be told anything, or is done.
+use Rattle.std.proofs.Common.{◌≡◌, ◌≢◌, ◌⊎◌, ℕ, zero, suc, ◌+◌, ◌<◌, ◌≤◌, Bool, true, false, not, cond, List, [], ◌∷◌, ◌++◌, length, ◌&&◌, map, set, get_or, take, drop, Some, None, refl, sym, ap, ◌∙◌, subst, inl, inr, arith, length-set, length-append}
+use Rattle.std.specs.List.{filter, remove}
+use Rattle.std.proofs.lemmas.Bool.{cases_eq, cases_Bool, cases_lt, false≢true}
+use Rattle.std.proofs.lemmas.List.{get_or-set_same, get_or-set_other, get_or-map, get_or_append_left, get_or_push, length-map}
+use Rattle.std.proofs.lemmas.List.Edits.{get_or-remove_below, get_or-remove_above, length-remove}
+use Rattle.bay_book.specs.declared.ask.Ask.{Ask}
+use Rattle.bay_book.specs.declared.ask.Heard.{Heard}
+use Rattle.bay_book.specs.declared.ask.Heard.TheVariants.{Nothing, Holds as HeardHolds, End as HeardEnd}
+use Rattle.bay_book.specs.declared.ask.Outcome.{Outcome}
+use Rattle.bay_book.specs.declared.ask.Stage.{Stage}
+use Rattle.bay_book.specs.declared.ask.Stage.TheVariants.{Waits, Holds, Over}
+use Rattle.bay_book.specs.Asks.{no_ask, ask_at, is_over, is_done, turned, given}
+use Rattle.bay_book.specs.Telling.{to_tell, to_tell_at, says_over, NobodyIsDue}
+use Rattle.bay_book.specs.Settled.{is_settled_at, is_settled, AreWithin}
+use Rattle.bay_book.proofs.Sound.{none_told}
+
+-- ---- one ask
+
+silent_at : (durable : ℕ) (a : Ask) (s : Stage) (h : Heard) → is_settled_at s h ≡ true → to_tell_at durable a s h ≡ None
+silent_at durable a Waits h e = refl
+silent_at durable a Holds Nothing e = absurd (false≢true e)
+silent_at durable a Holds HeardHolds e = refl
+silent_at durable a Holds HeardEnd e = refl
+silent_at durable a (Over how) h e = absurd (false≢true e)
+
+silent : (durable : ℕ) (a : Ask) → is_settled a ≡ true → to_tell durable a ≡ None
+silent durable a e = silent_at durable a a.stage a.heard e
+
+open_at : (s : Stage) (h : Heard) → is_settled_at s h ≡ true → is_over s ≡ false
+open_at Waits h e = refl
+open_at Holds h e = refl
+open_at (Over how) h e = absurd (false≢true e)
+
+and_false : (a b c : Bool) → a ≡ false → (a && b && c) ≡ false
+and_false a b c h = subst (λ t. (t && b && c) ≡ false) (sym h) refl
+
+stays : (a : Ask) → is_settled a ≡ true → not (is_done a) ≡ true
+stays a e = ap not (and_false (is_over a.stage) _ _ (open_at a.stage a.heard e))
+
+-- ---- those that are looked at
+
+-- of those that aren't looked at, nobody is to be told anything
+pub nobody_within : (over : Bool) (asks : List Ask) (durable from to : ℕ) → AreWithin asks from to
+    → ((j : ℕ) → from ≤ j → j < to → (what : Outcome) → to_tell durable (ask_at asks j) ≡ Some what → says_over what ≡ over → ⊥) → NobodyIsDue over asks durable
+nobody_within over asks durable from to w none = λ j inside what due is. elim (cases_Bool (is_settled (ask_at asks j))) [
+  | inl settled ↦ none_told (to_tell durable (ask_at asks j)) what (silent durable (ask_at asks j) settled) due
+  | inr open ↦ let x = w.within j inside open in none j x.0 x.1 what due is
+]
+
+-- the first is looked at, and is settled
+pub without_first : (asks : List Ask) (from to : ℕ) → AreWithin asks from to → is_settled (ask_at asks from) ≡ true → AreWithin asks (from + 1) to
+without_first asks from to w settled = record {
+  few = w.few;
+  within = λ j inside open.
+      let x = w.within j inside open in
+      let other : j ≢ from = λ same. false≢true (sym open ∙ (ap (λ k. is_settled (ask_at asks k)) same ∙ settled)) in
+      (omega (arith, x.0, other), x.1);
+}
+
+-- so is the last
+pub without_last : (asks : List Ask) (from last to : ℕ) → AreWithin asks from to → to ≡ last + 1 → is_settled (ask_at asks last) ≡ true → AreWithin asks from last
+without_last asks from last to w is settled = record {
+  few = omega (arith, w.few, is);
+  within = λ j inside open.
+      let x = w.within j inside open in
+      let other : j ≢ last = λ same. false≢true (sym open ∙ (ap (λ k. is_settled (ask_at asks k)) same ∙ settled)) in
+      (x.0, omega (arith, x.1, other, is));
+}
+
+-- ---- after calls
+
+pub none_within : AreWithin [] 0 0
+none_within = record { few = omega arith; within = λ j inside open. absurd (omega (arith, inside)) }
+
+-- one is changed, and is no less settled than it was
+pub within_set : (asks : List Ask) (from to place : ℕ) (a : Ask) → place < length asks → AreWithin asks from to
+    → (is_settled a ≡ false → is_settled (ask_at asks place) ≡ false) → AreWithin (set asks place a) from to
+within_set asks from to place a inside w was = record {
+  few = omega (arith, w.few, length-set asks place a);
+  within = λ j in_set open. elim (cases_eq j place) [
+    | inl same ↦
+        let here : ask_at (set asks place a) j ≡ a = ap (ask_at (set asks place a)) same ∙ get_or-set_same asks place a no_ask inside in
+        let x = w.within place inside (was (sym (ap is_settled here) ∙ open)) in
+        (omega (arith, same, x.0), omega (arith, same, x.1))
+    | inr other ↦
+        let there : ask_at (set asks place a) j ≡ ask_at asks j = get_or-set_other asks place j a no_ask other in
+        w.within j (omega (arith, in_set, length-set asks place a)) (sym (ap is_settled there) ∙ open)
+  ];
+}
+
+-- one is changed, and is looked at from now on
+pub within_more : (asks : List Ask) (from to place first behind : ℕ) (a : Ask) → AreWithin asks from to
+    → ((j : ℕ) → from ≤ j → j < to → (first ≤ j) × (j < behind)) → (first ≤ place) × (place < behind) → behind ≤ length asks
+    → AreWithin (set asks place a) first behind
+within_more asks from to place first behind a w wider here few = record {
+  few = omega (arith, few, length-set asks place a);
+  within = λ j in_set open. elim (cases_eq j place) [
+    | inl same ↦ (omega (arith, same, here.0), omega (arith, same, here.1))
+    | inr other ↦
+        let there : ask_at (set asks place a) j ≡ ask_at asks j = get_or-set_other asks place j a no_ask other in
+        let x = w.within j (omega (arith, in_set, length-set asks place a)) (sym (ap is_settled there) ∙ open) in wider j x.0 x.1
+  ];
+}
+
+pub within_push : (asks : List Ask) (from to : ℕ) (a : Ask) → AreWithin asks from to → is_settled a ≡ true → AreWithin (asks ++ a ∷ []) from to
+within_push asks from to a w settled = record {
+  few = omega (arith, w.few, length-append asks (a ∷ []));
+  within = λ j in_push open. elim (cases_eq j (length asks)) [
+    | inl last ↦
+        let here : ask_at (asks ++ a ∷ []) j ≡ a = get_or_push asks a no_ask j (sym last) in
+        absurd (false≢true (sym open ∙ (ap is_settled here ∙ settled)))
+    | inr other ↦
+        let in_j : j < length asks = omega (arith, in_push, length-append asks (a ∷ []), other) in
+        let there : ask_at (asks ++ a ∷ []) j ≡ ask_at asks j = get_or_append_left asks (a ∷ []) no_ask j in_j in
+        w.within j in_j (sym (ap is_settled there) ∙ open)
+  ];
+}
+
+within_map : (f : Ask → Ask) → ((a : Ask) → is_settled (f a) ≡ is_settled a) → (asks : List Ask) (from to : ℕ) → AreWithin asks from to
+    → AreWithin (map f asks) from to
+within_map f same asks from to w = record {
+  few = omega (arith, w.few, length-map asks f);
+  within = λ j in_map open.
+      let in_j : j < length asks = omega (arith, in_map, length-map asks f) in
+      let there : ask_at (map f asks) j ≡ f (ask_at asks j) = get_or-map f asks j no_ask no_ask in_j in
+      w.within j in_j (sym (same (ask_at asks j)) ∙ (sym (ap is_settled there) ∙ open));
+}
+
+pub within_give : (at : ℕ) (asks : List Ask) (from to : ℕ) → AreWithin asks from to → AreWithin (map (given at) asks) from to
+within_give at asks from to w = within_map (given at) (λ a. refl) asks from to w
+
+pub within_turn : (at : ℕ) (asks : List Ask) (from to : ℕ) → AreWithin asks from to → AreWithin (map (turned at) asks) from to
+within_turn at asks from to w = within_map (turned at) (λ a. refl) asks from to w
+
+-- ---- those that are done
+
+abbrev PassOthers : (Ask → Bool) → List Ask → ℕ → Type 0
+PassOthers p asks i = (k : ℕ) → k < length asks → k ≢ i → p (ask_at asks k) ≡ true
+
+pass_here : (p : Ask → Bool) (a : Ask) (kept rest : List Ask) → p a ≡ true → kept ≡ rest → cond (p a) (a ∷ kept) kept ≡ a ∷ rest
+pass_here p a kept rest h same = ap (λ b. cond b (a ∷ kept) kept) h ∙ ap (λ (z : List Ask). a ∷ z) same
+
+all_pass : (p : Ask → Bool) (asks : List Ask) → ((k : ℕ) → k < length asks → p (ask_at asks k) ≡ true) → filter p asks ≡ asks
+all_pass p [] h = refl
+all_pass p (a ∷ asks) h = pass_here p a (filter p asks) asks (h 0 (omega arith)) (all_pass p asks (λ k inside. h (suc k) (omega (arith, inside))))
+
+all_but_one : (p : Ask → Bool) (asks : List Ask) (i : ℕ) → i < length asks → PassOthers p asks i → p (ask_at asks i) ≡ false → filter p asks ≡ remove asks i
+all_but_one p [] i inside h no = absurd (omega (arith, inside))
+all_but_one p (a ∷ asks) zero inside h no =
+    ap (λ b. cond b (a ∷ filter p asks) (filter p asks)) no ∙ all_pass p asks (λ k within. h (suc k) (omega (arith, within)) (omega arith))
+all_but_one p (a ∷ asks) (suc i) inside h no =
+    pass_here p a (filter p asks) (remove asks i) (h 0 (omega arith) (omega arith))
+    (all_but_one p asks i (omega (arith, inside)) (λ k within other. h (suc k) (omega (arith, within)) (omega (arith, other))) no)
+
+-- nobody is looked at, so nobody is done
+pub none_purged : (asks : List Ask) (from to : ℕ) → AreWithin asks from to → to ≤ from → asks ≡ filter (λ a. not (is_done a)) asks
+none_purged asks from to w none =
+    sym (all_pass (λ a. not (is_done a)) asks (λ k inside. elim (cases_Bool (is_settled (ask_at asks k))) [
+      | inl settled ↦ stays (ask_at asks k) settled
+      | inr open ↦ let x = w.within k inside open in absurd (omega (arith, x.0, x.1, none))
+    ]))
+
+others_settled : (asks : List Ask) (place k : ℕ) → AreWithin asks place (place + 1) → k < length asks → k ≢ place → is_settled (ask_at asks k) ≡ true
+others_settled asks place k w inside other = elim (cases_Bool (is_settled (ask_at asks k))) [
+  | inl settled ↦ settled
+  | inr open ↦ let x = w.within k inside open in absurd (omega (arith, x.0, x.1, other))
+]
+
+-- one is looked at, and is done
+pub one_purged : (asks : List Ask) (place : ℕ) → place < length asks → AreWithin asks place (place + 1) → is_done (ask_at asks place) ≡ true
+    → remove asks place ≡ filter (λ a. not (is_done a)) asks
+one_purged asks place inside w done =
+    sym (all_but_one (λ a. not (is_done a)) asks place inside (λ k in_k other. stays (ask_at asks k) (others_settled asks place k w in_k other)) (ap not done))
+
+pub one_gone : (asks : List Ask) (place : ℕ) → place < length asks → AreWithin asks place (place + 1) → AreWithin (remove asks place) 0 0
+one_gone asks place inside w = record {
+  few = omega arith;
+  within = λ j in_j open. elim (cases_lt j place) [
+    | inl less ↦
+        let there : ask_at (remove asks place) j ≡ ask_at asks j = get_or-remove_below asks place no_ask j less inside in
+        let settled = others_settled asks place j w (omega (arith, less, inside)) (omega (arith, less)) in
+        absurd (false≢true (sym open ∙ (ap is_settled there ∙ settled)))
+    | inr more ↦
+        let there : ask_at (remove asks place) j ≡ ask_at asks (j + 1) = get_or-remove_above asks place no_ask j more inside in
+        let settled = others_settled asks place (j + 1) w (omega (arith, in_j, length-remove asks place inside)) (omega (arith, more)) in
+        absurd (false≢true (sym open ∙ (ap is_settled there ∙ settled)))
+  ];
+}
+
+-- one is looked at, and isn't done
+pub none_done : (asks : List Ask) (place : ℕ) → AreWithin asks place (place + 1) → is_done (ask_at asks place) ≡ false
+    → asks ≡ filter (λ a. not (is_done a)) asks
+none_done asks place w not_done =
+    sym (all_pass (λ a. not (is_done a)) asks (λ k inside. elim (cases_eq k place) [
+      | inl same ↦ ap not (ap (λ i. is_done (ask_at asks i)) same ∙ not_done)
+      | inr other ↦ stays (ask_at asks k) (others_settled asks place k w inside other)
+    ]))
+
+-- all are looked at
+pub all_within : (asks : List Ask) → AreWithin asks 0 (length asks)
+all_within asks = record { few = omega arith; within = λ j inside open. (omega arith, inside) }
