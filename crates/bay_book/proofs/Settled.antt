@@ -8,9 +8,10 @@ use Rattle.bay_book.specs.declared.ask.Ask.{Ask}
 use Rattle.bay_book.specs.declared.ask.Heard.{Heard}
 use Rattle.bay_book.specs.declared.ask.Heard.TheVariants.{Nothing, Holds as HeardHolds, End as HeardEnd}
 use Rattle.bay_book.specs.declared.ask.Outcome.{Outcome}
+use Rattle.bay_book.specs.declared.ask.Outcome.TheVariants.{Holds as ToldHolds, Over as ToldOver}
 use Rattle.bay_book.specs.declared.ask.Stage.{Stage}
 use Rattle.bay_book.specs.declared.ask.Stage.TheVariants.{Waits, Holds, Over}
-use Rattle.bay_book.specs.Asks.{no_ask, ask_at, is_over, is_done, turned, given}
+use Rattle.bay_book.specs.Asks.{no_ask, ask_at, is_over, is_done, heard_of, turned, given}
 use Rattle.bay_book.specs.Telling.{to_tell, to_tell_at, says_over, NobodyIsDue}
 use Rattle.bay_book.specs.Settled.{is_settled_at, is_settled, AreWithin}
 use Rattle.bay_book.proofs.Sound.{none_told}
@@ -37,6 +38,13 @@ and_false a b c h = subst (λ t. (t && b && c) ≡ false) (sym h) refl
 
 stays : (a : Ask) → is_settled a ≡ true → not (is_done a) ≡ true
 stays a e = ap not (and_false (is_over a.stage) _ _ (open_at a.stage a.heard e))
+
+-- whoever is told something may be settled by it, and never less so
+pub heard_open : (s : Stage) (h : Heard) (what : Outcome) → is_settled_at s (heard_of what) ≡ false → is_settled_at s h ≡ false
+heard_open Waits h what e = e
+heard_open Holds h ToldHolds e = absurd (false≢true (sym e))
+heard_open Holds h (ToldOver how) e = absurd (false≢true (sym e))
+heard_open (Over how) h what e = refl
 
 -- ---- those that are looked at
 

@@ -1,5 +1,5 @@
 //! Which asks a book has to look at when it tells somebody, or lets go of those that are done: those that aren't settled.
-ghost use Rattle.std.specs.Prelude.{◌≡◌, ℕ, ◌<◌, ◌≤◌, not, length, filter};
+ghost use Rattle.std.specs.Prelude.{◌≡◌, ℕ, ◌+◌, ◌<◌, ◌≤◌, not, length, filter};
 ghost use Rattle.bay_book.specs.Asks.{is_done};
 ghost use Rattle.bay_book.specs.Settled.{is_settled_at, AreWithin};
 

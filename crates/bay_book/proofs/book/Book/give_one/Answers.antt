@@ -1,8 +1,10 @@
-use Rattle.std.proofs.Common.{◌≡◌, ◌<◌, length, refl, sym, ap, ◌∙◌, subst, arith}
+use Rattle.std.proofs.Common.{◌≡◌, ◌<◌, length, set, refl, sym, ap, ◌∙◌, subst, arith}
 use Rattle.std.proofs.lemmas.List.{get_or_read}
 use Rattle.bay_book.specs.declared.ask.Ask.{Ask}
 use Rattle.bay_book.specs.Asks.{no_ask, ask_at, given}
 use Rattle.bay_book.specs.Books.{BookView, IsSound, with_ask}
+use Rattle.bay_book.specs.Settled.{AreWithin}
+use Rattle.bay_book.proofs.Settled.{within_set}
 use Rattle.bay_book.proofs.Sound.{sound_set, sound_given}
 use Rattle.bay_book.proofs.book.Book.give_one.Goals as goal
 
@@ -15,5 +17,9 @@ invariant_of-self c =
     let here : c.index.result.now ≡ a =
     get_or_read x.asks place c.index.result.now inside c.index.ensures no_ask in
     let is : c.given.result ≡ given c.args.at a = c.given.ensures ∙ ap (given c.args.at) here in
-    subst (λ (v : Ask). IsSound (with_ask x place v)) (sym is)
-    (sound_set x place (given c.args.at a) inside refl refl (omega arith) (sound_given x.durable c.args.at a (c.self.invariant.each place no_ask inside)) c.self.invariant)
+    (
+        subst (λ (v : Ask). IsSound (with_ask x place v)) (sym is)
+        (sound_set x place (given c.args.at a) inside refl refl (omega arith) (sound_given x.durable c.args.at a (c.self.invariant.0.each place no_ask inside)) c.self.invariant.0),
+        subst (λ (v : Ask). AreWithin (set x.asks place v) i.from i.to) (sym is)
+            (within_set x.asks i.from i.to place (given c.args.at a) inside c.self.invariant.1 (λ e. e)),
+    )
