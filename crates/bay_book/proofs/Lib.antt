@@ -7,3 +7,4 @@ pub mod Going
 pub mod Told
 pub mod Apart
 pub mod Settled
+pub mod Counted

@@ -53,16 +53,16 @@ pub nobody_within : (over : Bool) (asks : List Ask) (durable from to : ℕ) → 
     → ((j : ℕ) → from ≤ j → j < to → (what : Outcome) → to_tell durable (ask_at asks j) ≡ Some what → says_over what ≡ over → ⊥) → NobodyIsDue over asks durable
 nobody_within over asks durable from to w none = λ j inside what due is. elim (cases_Bool (is_settled (ask_at asks j))) [
   | inl settled ↦ none_told (to_tell durable (ask_at asks j)) what (silent durable (ask_at asks j) settled) due
-  | inr open ↦ let x = w.within j inside open in none j x.0 x.1 what due is
+  | inr not_yet ↦ let x = w.within j inside not_yet in none j x.0 x.1 what due is
 ]
 
 -- the first is looked at, and is settled
 pub without_first : (asks : List Ask) (from to : ℕ) → AreWithin asks from to → is_settled (ask_at asks from) ≡ true → AreWithin asks (from + 1) to
 without_first asks from to w settled = record {
   few = w.few;
-  within = λ j inside open.
-      let x = w.within j inside open in
-      let other : j ≢ from = λ same. false≢true (sym open ∙ (ap (λ k. is_settled (ask_at asks k)) same ∙ settled)) in
+  within = λ j inside not_yet.
+      let x = w.within j inside not_yet in
+      let other : j ≢ from = λ same. false≢true (sym not_yet ∙ (ap (λ k. is_settled (ask_at asks k)) same ∙ settled)) in
       (omega (arith, x.0, other), x.1);
 }
 
@@ -70,30 +70,30 @@ without_first asks from to w settled = record {
 pub without_last : (asks : List Ask) (from last to : ℕ) → AreWithin asks from to → to ≡ last + 1 → is_settled (ask_at asks last) ≡ true → AreWithin asks from last
 without_last asks from last to w is settled = record {
   few = omega (arith, w.few, is);
-  within = λ j inside open.
-      let x = w.within j inside open in
-      let other : j ≢ last = λ same. false≢true (sym open ∙ (ap (λ k. is_settled (ask_at asks k)) same ∙ settled)) in
+  within = λ j inside not_yet.
+      let x = w.within j inside not_yet in
+      let other : j ≢ last = λ same. false≢true (sym not_yet ∙ (ap (λ k. is_settled (ask_at asks k)) same ∙ settled)) in
       (x.0, omega (arith, x.1, other, is));
 }
 
 -- ---- after calls
 
 pub none_within : AreWithin [] 0 0
-none_within = record { few = omega arith; within = λ j inside open. absurd (omega (arith, inside)) }
+none_within = record { few = omega arith; within = λ j inside not_yet. absurd (omega (arith, inside)) }
 
 -- one is changed, and is no less settled than it was
 pub within_set : (asks : List Ask) (from to place : ℕ) (a : Ask) → place < length asks → AreWithin asks from to
     → (is_settled a ≡ false → is_settled (ask_at asks place) ≡ false) → AreWithin (set asks place a) from to
 within_set asks from to place a inside w was = record {
   few = omega (arith, w.few, length-set asks place a);
-  within = λ j in_set open. elim (cases_eq j place) [
+  within = λ j in_set not_yet. elim (cases_eq j place) [
     | inl same ↦
         let here : ask_at (set asks place a) j ≡ a = ap (ask_at (set asks place a)) same ∙ get_or-set_same asks place a no_ask inside in
-        let x = w.within place inside (was (sym (ap is_settled here) ∙ open)) in
+        let x = w.within place inside (was (sym (ap is_settled here) ∙ not_yet)) in
         (omega (arith, same, x.0), omega (arith, same, x.1))
     | inr other ↦
         let there : ask_at (set asks place a) j ≡ ask_at asks j = get_or-set_other asks place j a no_ask other in
-        w.within j (omega (arith, in_set, length-set asks place a)) (sym (ap is_settled there) ∙ open)
+        w.within j (omega (arith, in_set, length-set asks place a)) (sym (ap is_settled there) ∙ not_yet)
   ];
 }
 
@@ -103,25 +103,25 @@ pub within_more : (asks : List Ask) (from to place first behind : ℕ) (a : Ask)
     → AreWithin (set asks place a) first behind
 within_more asks from to place first behind a w wider here few = record {
   few = omega (arith, few, length-set asks place a);
-  within = λ j in_set open. elim (cases_eq j place) [
+  within = λ j in_set not_yet. elim (cases_eq j place) [
     | inl same ↦ (omega (arith, same, here.0), omega (arith, same, here.1))
     | inr other ↦
         let there : ask_at (set asks place a) j ≡ ask_at asks j = get_or-set_other asks place j a no_ask other in
-        let x = w.within j (omega (arith, in_set, length-set asks place a)) (sym (ap is_settled there) ∙ open) in wider j x.0 x.1
+        let x = w.within j (omega (arith, in_set, length-set asks place a)) (sym (ap is_settled there) ∙ not_yet) in wider j x.0 x.1
   ];
 }
 
 pub within_push : (asks : List Ask) (from to : ℕ) (a : Ask) → AreWithin asks from to → is_settled a ≡ true → AreWithin (asks ++ a ∷ []) from to
 within_push asks from to a w settled = record {
   few = omega (arith, w.few, length-append asks (a ∷ []));
-  within = λ j in_push open. elim (cases_eq j (length asks)) [
+  within = λ j in_push not_yet. elim (cases_eq j (length asks)) [
     | inl last ↦
         let here : ask_at (asks ++ a ∷ []) j ≡ a = get_or_push asks a no_ask j (sym last) in
-        absurd (false≢true (sym open ∙ (ap is_settled here ∙ settled)))
+        absurd (false≢true (sym not_yet ∙ (ap is_settled here ∙ settled)))
     | inr other ↦
         let in_j : j < length asks = omega (arith, in_push, length-append asks (a ∷ []), other) in
         let there : ask_at (asks ++ a ∷ []) j ≡ ask_at asks j = get_or_append_left asks (a ∷ []) no_ask j in_j in
-        w.within j in_j (sym (ap is_settled there) ∙ open)
+        w.within j in_j (sym (ap is_settled there) ∙ not_yet)
   ];
 }
 
@@ -129,10 +129,10 @@ within_map : (f : Ask → Ask) → ((a : Ask) → is_settled (f a) ≡ is_settle
     → AreWithin (map f asks) from to
 within_map f same asks from to w = record {
   few = omega (arith, w.few, length-map asks f);
-  within = λ j in_map open.
+  within = λ j in_map not_yet.
       let in_j : j < length asks = omega (arith, in_map, length-map asks f) in
       let there : ask_at (map f asks) j ≡ f (ask_at asks j) = get_or-map f asks j no_ask no_ask in_j in
-      w.within j in_j (sym (same (ask_at asks j)) ∙ (sym (ap is_settled there) ∙ open));
+      w.within j in_j (sym (same (ask_at asks j)) ∙ (sym (ap is_settled there) ∙ not_yet));
 }
 
 pub within_give : (at : ℕ) (asks : List Ask) (from to : ℕ) → AreWithin asks from to → AreWithin (map (given at) asks) from to
@@ -154,25 +154,25 @@ all_pass p [] h = refl
 all_pass p (a ∷ asks) h = pass_here p a (filter p asks) asks (h 0 (omega arith)) (all_pass p asks (λ k inside. h (suc k) (omega (arith, inside))))
 
 all_but_one : (p : Ask → Bool) (asks : List Ask) (i : ℕ) → i < length asks → PassOthers p asks i → p (ask_at asks i) ≡ false → filter p asks ≡ remove asks i
-all_but_one p [] i inside h no = absurd (omega (arith, inside))
-all_but_one p (a ∷ asks) zero inside h no =
-    ap (λ b. cond b (a ∷ filter p asks) (filter p asks)) no ∙ all_pass p asks (λ k within. h (suc k) (omega (arith, within)) (omega arith))
-all_but_one p (a ∷ asks) (suc i) inside h no =
+all_but_one p [] i inside h isnt = absurd (omega (arith, inside))
+all_but_one p (a ∷ asks) zero inside h isnt =
+    ap (λ b. cond b (a ∷ filter p asks) (filter p asks)) isnt ∙ all_pass p asks (λ k within. h (suc k) (omega (arith, within)) (omega arith))
+all_but_one p (a ∷ asks) (suc i) inside h isnt =
     pass_here p a (filter p asks) (remove asks i) (h 0 (omega arith) (omega arith))
-    (all_but_one p asks i (omega (arith, inside)) (λ k within other. h (suc k) (omega (arith, within)) (omega (arith, other))) no)
+    (all_but_one p asks i (omega (arith, inside)) (λ k within other. h (suc k) (omega (arith, within)) (omega (arith, other))) isnt)
 
 -- nobody is looked at, so nobody is done
 pub none_purged : (asks : List Ask) (from to : ℕ) → AreWithin asks from to → to ≤ from → asks ≡ filter (λ a. not (is_done a)) asks
 none_purged asks from to w none =
     sym (all_pass (λ a. not (is_done a)) asks (λ k inside. elim (cases_Bool (is_settled (ask_at asks k))) [
       | inl settled ↦ stays (ask_at asks k) settled
-      | inr open ↦ let x = w.within k inside open in absurd (omega (arith, x.0, x.1, none))
+      | inr not_yet ↦ let x = w.within k inside not_yet in absurd (omega (arith, x.0, x.1, none))
     ]))
 
 others_settled : (asks : List Ask) (place k : ℕ) → AreWithin asks place (place + 1) → k < length asks → k ≢ place → is_settled (ask_at asks k) ≡ true
 others_settled asks place k w inside other = elim (cases_Bool (is_settled (ask_at asks k))) [
   | inl settled ↦ settled
-  | inr open ↦ let x = w.within k inside open in absurd (omega (arith, x.0, x.1, other))
+  | inr not_yet ↦ let x = w.within k inside not_yet in absurd (omega (arith, x.0, x.1, other))
 ]
 
 -- one is looked at, and is done
@@ -184,15 +184,15 @@ one_purged asks place inside w done =
 pub one_gone : (asks : List Ask) (place : ℕ) → place < length asks → AreWithin asks place (place + 1) → AreWithin (remove asks place) 0 0
 one_gone asks place inside w = record {
   few = omega arith;
-  within = λ j in_j open. elim (cases_lt j place) [
+  within = λ j in_j not_yet. elim (cases_lt j place) [
     | inl less ↦
         let there : ask_at (remove asks place) j ≡ ask_at asks j = get_or-remove_below asks place no_ask j less inside in
         let settled = others_settled asks place j w (omega (arith, less, inside)) (omega (arith, less)) in
-        absurd (false≢true (sym open ∙ (ap is_settled there ∙ settled)))
+        absurd (false≢true (sym not_yet ∙ (ap is_settled there ∙ settled)))
     | inr more ↦
         let there : ask_at (remove asks place) j ≡ ask_at asks (j + 1) = get_or-remove_above asks place no_ask j more inside in
         let settled = others_settled asks place (j + 1) w (omega (arith, in_j, length-remove asks place inside)) (omega (arith, more)) in
-        absurd (false≢true (sym open ∙ (ap is_settled there ∙ settled)))
+        absurd (false≢true (sym not_yet ∙ (ap is_settled there ∙ settled)))
   ];
 }
 
@@ -207,4 +207,4 @@ none_done asks place w not_done =
 
 -- all are looked at
 pub all_within : (asks : List Ask) → AreWithin asks 0 (length asks)
-all_within asks = record { few = omega arith; within = λ j inside open. (omega arith, inside) }
+all_within asks = record { few = omega arith; within = λ j inside not_yet. (omega arith, inside) }

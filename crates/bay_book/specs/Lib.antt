@@ -7,3 +7,4 @@ pub mod Restoring
 pub mod Runs
 pub mod Holding
 pub mod Settled
+pub mod Counted

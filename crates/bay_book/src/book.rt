@@ -6,9 +6,11 @@ ghost use Rattle.bay_book.specs.Moments.{is_gone_too_long, is_over_limit, due_at
 ghost use Rattle.bay_book.specs.Finding.{IsPlaceOf, IsFirst, IsFirstLate, IsLeast, IsInUse};
 ghost use Rattle.bay_book.specs.Telling.{to_tell, IsNextToTell};
 ghost use Rattle.bay_book.specs.Books.{IsSound, nobody, behind, add, restore, hold, end, set_gone, is_back, give, give_one, turn, reach, heard, purge};
+ghost use Rattle.bay_book.specs.Counted.{AreTaken};
 ghost use Rattle.bay_book.specs.Restoring.{MayBeRestored, IsWhyNotRestored};
 
 use crate::ask::{Ask, End, Outcome, Stage};
+use crate::counting::{count_down, count_up, with_needs, without_own};
 use crate::finding::{
     due, first_gone, first_late, first_over_limit, in_use, limit_due, place_of, taken,
 };
@@ -21,8 +23,8 @@ use crate::telling::next_to_tell;
 use std::alloc::{AllocError, Global};
 use std::marker::Model;
 
-/// The asks, the least number that the next may have, the largest token so far, and how far the journal outlives a crash; and from where to where those
-/// stand that aren't settled.
+/// The asks, the least number that the next may have, the largest token so far, and how far the journal outlives a crash; from where to where those
+/// stand that aren't settled; and what is counted: how many of each of the first 32 classes hold, what is in use, and whether that is sure.
 #[derive(Drop)]
 pub struct Book {
     asks: Vec<Ask, Global>,
@@ -31,6 +33,9 @@ pub struct Book {
     durable: u64,
     from: usize,
     to: usize,
+    taken: [usize; 32],
+    used: u64,
+    sure: bool,
 }
 
 impl Model for Book {
@@ -41,8 +46,9 @@ impl Model for Book {
     ghost view = { λ x. record { asks = x.asks.items; next = x.next; granted = x.granted; durable = x.durable } };
 
     ghost use Rattle.bay_book.specs.Settled.{AreWithin};
+    ghost use Rattle.bay_book.specs.Counted.{AreCounted};
 
-    ghost invariant = { λ x. IsSound (record { asks = x.asks.items; next = x.next; granted = x.granted; durable = x.durable }) × AreWithin x.asks.items x.from x.to };
+    ghost invariant = { λ x. IsSound (record { asks = x.asks.items; next = x.next; granted = x.granted; durable = x.durable }) × AreWithin x.asks.items x.from x.to × AreCounted x.asks.items x.taken x.used x.sure };
 }
 
 impl Book {
@@ -57,6 +63,9 @@ impl Book {
             durable: 0,
             from: 0,
             to: 0,
+            taken: [0; 32],
+            used: 0,
+            sure: true,
         }
     }
 
@@ -71,6 +80,9 @@ impl Book {
             durable: 0,
             from: 0,
             to: 0,
+            taken: [0; 32],
+            used: 0,
+            sure: true,
         }
     }
 
@@ -179,9 +191,13 @@ impl Book {
             token,
             self.durable,
         );
+        let (used, sure) = with_needs(self.used, self.sure, needs);
         let Ok(()) = self.asks.push(ask) else {
             return Err(NotRestored::NoMemory);
         };
+        count_up(&mut self.taken, ask, self.asks.len());
+        self.used = used;
+        self.sure = sure;
         self.next = self.next.max(number + 1).max(token);
         self.granted = self.granted.max(token);
         Ok(())
@@ -195,10 +211,15 @@ impl Book {
         ensures { self.new ≡ hold self.old place needs now keeps }
     {
         let (from, to) = with_place(self.from, self.to, place, self.asks.len());
+        let (used, sure) = with_needs(self.used, self.sure, needs);
         self.granted += 1;
-        self.asks[place] = holding(self.asks[place], needs, now, keeps, self.granted);
+        let ask = holding(self.asks[place], needs, now, keeps, self.granted);
+        count_up(&mut self.taken, ask, self.asks.len());
+        self.asks[place] = ask;
         self.from = from;
         self.to = to;
+        self.used = used;
+        self.sure = sure;
     }
 
     /// It is over from this moment on, and holds nothing. A line is owed if one was given that it holds.
@@ -208,9 +229,12 @@ impl Book {
         ensures { self.new ≡ end self.old place how now }
     {
         let (from, to) = with_place(self.from, self.to, place, self.asks.len());
+        let used = without_own(self.used, self.sure, self.asks[place]);
+        count_down(&mut self.taken, self.asks[place]);
         self.asks[place] = over(self.asks[place], how, now);
         self.from = from;
         self.to = to;
+        self.used = used;
     }
 
     /// Its client isn't there since this moment.
@@ -288,7 +312,17 @@ impl Book {
     pub fn in_use(&self) -> u64
         ensures { IsInUse self.now.asks result }
     {
+        if self.sure {
+            return self.used;
+        }
         in_use(&self.asks)
+    }
+
+    /// How many of each of the first 32 classes hold.
+    pub fn taken_of_each(&self) -> &[usize; 32]
+        ensures { AreTaken self.now.asks result.now }
+    {
+        &self.taken
     }
 
     /// How many of this class hold.

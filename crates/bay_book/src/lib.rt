@@ -5,6 +5,7 @@
 
 mod ask;
 mod book;
+mod counting;
 mod finding;
 pub mod laws;
 mod making;

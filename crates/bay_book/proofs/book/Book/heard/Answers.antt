@@ -4,7 +4,9 @@ use Rattle.bay_book.specs.declared.ask.Ask.{Ask}
 use Rattle.bay_book.specs.Asks.{no_ask, ask_at, hearing}
 use Rattle.bay_book.specs.Telling.{to_tell}
 use Rattle.bay_book.specs.Books.{BookView, IsSound, with_ask}
+use Rattle.bay_book.specs.Counted.{AreCounted}
 use Rattle.bay_book.specs.Settled.{AreWithin}
+use Rattle.bay_book.proofs.Counted.{counted_set}
 use Rattle.bay_book.proofs.Settled.{within_set, heard_open}
 use Rattle.bay_book.proofs.Sound.{sound_set, sound_hearing}
 use Rattle.bay_book.proofs.book.Book.heard.Goals as goal
@@ -25,4 +27,6 @@ invariant_of-self c =
         (sound_set x place (hearing c.args.what a) inside refl refl (omega arith) (sound_hearing x.durable a c.args.what due (c.self.invariant.0.each place no_ask inside)) c.self.invariant.0),
         subst (λ (v : Ask). AreWithin (set x.asks place v) i.from i.to) (sym is)
             (within_set x.asks i.from i.to place (hearing c.args.what a) inside c.self.invariant.1 (heard_open a.stage a.heard c.args.what)),
+        subst (λ (v : Ask). AreCounted (set x.asks place v) i.taken i.used i.sure) (sym is)
+            (counted_set x.asks place (hearing c.args.what a) i.taken i.used i.sure inside refl refl refl c.self.invariant.2),
     )

@@ -3,7 +3,9 @@ use Rattle.std.proofs.lemmas.List.{get_or_read}
 use Rattle.bay_book.specs.declared.ask.Ask.{Ask}
 use Rattle.bay_book.specs.Asks.{no_ask, ask_at, gone_since}
 use Rattle.bay_book.specs.Books.{BookView, IsSound, with_ask}
+use Rattle.bay_book.specs.Counted.{AreCounted}
 use Rattle.bay_book.specs.Settled.{AreWithin}
+use Rattle.bay_book.proofs.Counted.{counted_set}
 use Rattle.bay_book.proofs.Settled.{within_set}
 use Rattle.bay_book.proofs.Sound.{sound_set, sound_gone}
 use Rattle.bay_book.proofs.book.Book.set_gone.Goals as goal
@@ -22,4 +24,6 @@ invariant_of-self c =
         (sound_set x place (gone_since c.args.moment a) inside refl refl (omega arith) (sound_gone x.durable c.args.moment a (c.self.invariant.0.each place no_ask inside)) c.self.invariant.0),
         subst (λ (v : Ask). AreWithin (set x.asks place v) i.from i.to) (sym is)
             (within_set x.asks i.from i.to place (gone_since c.args.moment a) inside c.self.invariant.1 (λ e. e)),
+        subst (λ (v : Ask). AreCounted (set x.asks place v) i.taken i.used i.sure) (sym is)
+            (counted_set x.asks place (gone_since c.args.moment a) i.taken i.used i.sure inside refl refl refl c.self.invariant.2),
     )
