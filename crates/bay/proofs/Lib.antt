@@ -1,7 +1,6 @@
 pub mod Members
 pub mod InLine
 pub mod Sets
-pub mod Taken
 pub mod Tied
 pub mod Letting
 pub mod Steps
