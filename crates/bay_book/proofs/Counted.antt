@@ -1,5 +1,5 @@
 -- What a book keeps count of, after each call; and that what is in use is what it says.
-use Rattle.std.proofs.Common.{◌≡◌, ◌≢◌, ◌⊎◌, ℕ, zero, suc, ◌+◌, ◌<◌, ◌≤◌, ◌==◌, Bool, true, false, ◌||◌, ◌&&◌, not, cond, List, [], ◌∷◌, ◌++◌, length, map, set, get_or, slice_index_or, refl, sym, ap, ◌∙◌, subst, inl, inr, arith, length-set}
+use Rattle.std.proofs.Common.{◌≡◌, ◌≢◌, ℕ, zero, suc, ◌+◌, ◌<◌, ◌≤◌, ◌==◌, Bool, true, false, ◌&&◌, not, cond, List, [], ◌∷◌, ◌++◌, length, map, set, get_or, slice_index_or, refl, sym, ap, ◌∙◌, subst, inl, inr, arith, length-set}
 use Rattle.std.specs.List.{filter, count_by, sum_by}
 use Rattle.std.specs.Int.Bits.{bit_and, bit_or}
 use Rattle.std.proofs.lemmas.Bool.{cases_eq, cases_Bool, eq-eqb, ne_eqb, false≢true}
@@ -41,6 +41,7 @@ used_first a asks set holds_ u = record { apart = apart_; why = why_ }
     apart_ x none zero below holds = or_false_first (common x a.needs) (common x set) (sym (common_both x a.needs set) ∙ none)
     apart_ x none (suc j) below holds =
         u.apart x (or_false_second (common x a.needs) (common x set) (sym (common_both x a.needs set) ∙ none)) j (omega (arith, below)) holds
+
     why_ : (x : ℕ) → common x (bit_or a.needs set) ≡ true → (j : ℕ) × HoldsBelow (a ∷ asks) (suc (length asks)) j (λ needs. common x needs ≡ true)
     why_ x some = elim (or_true_cases (common x a.needs) (common x set) (sym (common_both x a.needs set) ∙ some)) [
       | inl first ↦ (zero, record { below = omega arith; holds = holds_; has = first })
@@ -55,6 +56,7 @@ used_not_first a asks set isnt u = record { apart = apart_; why = why_ }
         → common x (ask_at (a ∷ asks) j).needs ≡ false
     apart_ x none zero below holds = absurd (false≢true (sym isnt ∙ holds))
     apart_ x none (suc j) below holds = u.apart x none j (omega (arith, below)) holds
+
     why_ : (x : ℕ) → common x set ≡ true → (j : ℕ) × HoldsBelow (a ∷ asks) (suc (length asks)) j (λ needs. common x needs ≡ true)
     why_ x some = let w = u.why x some in (suc w.0, record { below = omega (arith, w.1.below); holds = w.1.holds; has = w.1.has })
 

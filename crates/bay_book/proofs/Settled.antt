@@ -1,32 +1,19 @@
 -- Those that aren't settled: where they stand after each call, and that nobody else is to be told anything, or is done.
-use Rattle.std.proofs.Common.{◌≡◌, ◌≢◌, ◌⊎◌, ℕ, zero, suc, ◌+◌, ◌<◌, ◌≤◌, Bool, true, false, not, cond, List, [], ◌∷◌, ◌++◌, length, ◌&&◌, map, set, get_or, take, drop, Some, None, refl, sym, ap, ◌∙◌, subst, inl, inr, arith, length-set, length-append}
+use Rattle.std.proofs.Common.{◌≡◌, ◌≢◌, ℕ, zero, suc, ◌+◌, ◌<◌, ◌≤◌, Bool, true, false, not, cond, List, [], ◌∷◌, ◌++◌, length, ◌&&◌, map, set, drop, refl, sym, ap, ◌∙◌, subst, inl, inr, arith, length-set, length-append}
 use Rattle.std.specs.List.{filter, remove}
 use Rattle.std.proofs.lemmas.Bool.{cases_eq, cases_Bool, cases_lt, false≢true}
 use Rattle.std.proofs.lemmas.List.{get_or-set_same, get_or-set_other, get_or-map, get_or_append_left, get_or_push, length-map}
 use Rattle.std.proofs.lemmas.List.Edits.{get_or-remove_below, get_or-remove_above, length-remove}
 use Rattle.bay_book.specs.declared.ask.Ask.{Ask}
 use Rattle.bay_book.specs.declared.ask.Heard.{Heard}
-use Rattle.bay_book.specs.declared.ask.Heard.TheVariants.{Nothing, Holds as HeardHolds, End as HeardEnd}
 use Rattle.bay_book.specs.declared.ask.Outcome.{Outcome}
 use Rattle.bay_book.specs.declared.ask.Outcome.TheVariants.{Holds as ToldHolds, Over as ToldOver}
 use Rattle.bay_book.specs.declared.ask.Stage.{Stage}
 use Rattle.bay_book.specs.declared.ask.Stage.TheVariants.{Waits, Holds, Over}
 use Rattle.bay_book.specs.Asks.{no_ask, ask_at, is_over, is_done, heard_of, turned, given}
-use Rattle.bay_book.specs.Telling.{to_tell, to_tell_at, says_over, NobodyIsDue}
 use Rattle.bay_book.specs.Settled.{is_settled_at, is_settled, AreWithin}
-use Rattle.bay_book.proofs.Sound.{none_told}
 
 -- ---- one ask
-
-silent_at : (durable : ℕ) (a : Ask) (s : Stage) (h : Heard) → is_settled_at s h ≡ true → to_tell_at durable a s h ≡ None
-silent_at durable a Waits h e = refl
-silent_at durable a Holds Nothing e = absurd (false≢true e)
-silent_at durable a Holds HeardHolds e = refl
-silent_at durable a Holds HeardEnd e = refl
-silent_at durable a (Over how) h e = absurd (false≢true e)
-
-silent : (durable : ℕ) (a : Ask) → is_settled a ≡ true → to_tell durable a ≡ None
-silent durable a e = silent_at durable a a.stage a.heard e
 
 open_at : (s : Stage) (h : Heard) → is_settled_at s h ≡ true → is_over s ≡ false
 open_at Waits h e = refl
@@ -45,36 +32,6 @@ heard_open Waits h what e = e
 heard_open Holds h ToldHolds e = absurd (false≢true (sym e))
 heard_open Holds h (ToldOver how) e = absurd (false≢true (sym e))
 heard_open (Over how) h what e = refl
-
--- ---- those that are looked at
-
--- of those that aren't looked at, nobody is to be told anything
-pub nobody_within : (over : Bool) (asks : List Ask) (durable from to : ℕ) → AreWithin asks from to
-    → ((j : ℕ) → from ≤ j → j < to → (what : Outcome) → to_tell durable (ask_at asks j) ≡ Some what → says_over what ≡ over → ⊥) → NobodyIsDue over asks durable
-nobody_within over asks durable from to w none = λ j inside what due is. elim (cases_Bool (is_settled (ask_at asks j))) [
-  | inl settled ↦ none_told (to_tell durable (ask_at asks j)) what (silent durable (ask_at asks j) settled) due
-  | inr not_yet ↦ let x = w.within j inside not_yet in none j x.0 x.1 what due is
-]
-
--- the first is looked at, and is settled
-pub without_first : (asks : List Ask) (from to : ℕ) → AreWithin asks from to → is_settled (ask_at asks from) ≡ true → AreWithin asks (from + 1) to
-without_first asks from to w settled = record {
-  few = w.few;
-  within = λ j inside not_yet.
-      let x = w.within j inside not_yet in
-      let other : j ≢ from = λ same. false≢true (sym not_yet ∙ (ap (λ k. is_settled (ask_at asks k)) same ∙ settled)) in
-      (omega (arith, x.0, other), x.1);
-}
-
--- so is the last
-pub without_last : (asks : List Ask) (from last to : ℕ) → AreWithin asks from to → to ≡ last + 1 → is_settled (ask_at asks last) ≡ true → AreWithin asks from last
-without_last asks from last to w is settled = record {
-  few = omega (arith, w.few, is);
-  within = λ j inside not_yet.
-      let x = w.within j inside not_yet in
-      let other : j ≢ last = λ same. false≢true (sym not_yet ∙ (ap (λ k. is_settled (ask_at asks k)) same ∙ settled)) in
-      (x.0, omega (arith, x.1, other, is));
-}
 
 -- ---- after calls
 
@@ -161,6 +118,13 @@ all_but_one p (a ∷ asks) (suc i) inside h isnt =
     pass_here p a (filter p asks) (remove asks i) (h 0 (omega arith) (omega arith))
     (all_but_one p asks i (omega (arith, inside)) (λ k within other. h (suc k) (omega (arith, within)) (omega (arith, other))) isnt)
 
+pub drop_remove : (s i : ℕ) (asks : List Ask) → s + i < length asks → drop s (remove asks (s + i)) ≡ remove (drop s asks) i
+drop_remove zero i asks inside = let same : 0 + i ≡ i = omega arith in ap (remove asks) same
+drop_remove (suc s) i [] inside = absurd (omega (arith, inside))
+drop_remove (suc s) i (a ∷ asks) inside =
+    let next : suc s + i ≡ suc (s + i) = omega arith in
+    ap (λ n. drop (suc s) (remove (a ∷ asks) n)) next ∙ drop_remove s i asks (omega (arith, inside))
+
 -- nobody is looked at, so nobody is done
 pub none_purged : (asks : List Ask) (from to : ℕ) → AreWithin asks from to → to ≤ from → asks ≡ filter (λ a. not (is_done a)) asks
 none_purged asks from to w none =
@@ -204,7 +168,3 @@ none_done asks place w not_done =
       | inl same ↦ ap not (ap (λ i. is_done (ask_at asks i)) same ∙ not_done)
       | inr other ↦ stays (ask_at asks k) (others_settled asks place k w inside other)
     ]))
-
--- all are looked at
-pub all_within : (asks : List Ask) → AreWithin asks 0 (length asks)
-all_within asks = record { few = omega arith; within = λ j inside not_yet. (omega arith, inside) }

@@ -11,6 +11,7 @@ pub mod laws;
 mod making;
 mod moments;
 mod restoring;
+mod row;
 mod settling;
 mod telling;
 

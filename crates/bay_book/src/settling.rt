@@ -5,7 +5,7 @@ ghost use Rattle.bay_book.specs.Settled.{is_settled_at, AreWithin};
 
 use crate::ask::{Ask, Heard, Stage};
 use crate::making::is_done;
-use std::alloc::Global;
+use crate::row::Row;
 
 /// Whether there is nothing to tell it, and it isn't done.
 fn is_settled(stage: Stage, heard: Heard) -> bool
@@ -65,42 +65,42 @@ fn last_open(asks: &[Ask], from: usize, to: usize) -> usize
 }
 
 /// The only one that isn't settled isn't there any more, if it is done.
-fn purge_one(asks: &mut Vec<Ask, Global>, place: usize) -> (usize, usize)
-    requires inside { place < length asks.old.items }
-    requires within { AreWithin asks.old.items place (place + 1) }
-    ensures items { asks.new.items ≡ filter (λ a. not (is_done a)) asks.old.items }
-    ensures within { AreWithin asks.new.items result.0 result.1 }
+fn purge_one(asks: &mut Row, place: usize, end: usize) -> (usize, usize)
+    requires one { end ≡ place + 1 }
+    requires within { AreWithin asks.old place end }
+    ensures items { asks.new ≡ filter (λ a. not (is_done a)) asks.old }
+    ensures within { AreWithin asks.new result.0 result.1 }
 {
-    if is_done(asks[place]) {
+    if is_done(asks.at(place)) {
         asks.remove(place);
         (0, 0)
     } else {
-        (place, place + 1)
+        (place, end)
     }
 }
 
 /// Those that are done aren't there any more.
-fn purge_all(asks: &mut Vec<Ask, Global>) -> (usize, usize)
-    ensures items { asks.new.items ≡ filter (λ a. not (is_done a)) asks.old.items }
-    ensures within { AreWithin asks.new.items result.0 result.1 }
+fn purge_all(asks: &mut Row) -> (usize, usize)
+    ensures items { asks.new ≡ filter (λ a. not (is_done a)) asks.old }
+    ensures within { AreWithin asks.new result.0 result.1 }
 {
-    asks.retain(|ask| !is_done(*ask));
+    asks.purge();
     (0, asks.len())
 }
 
 /// Those that are done aren't there any more. Answers from where to where those stand now that aren't settled.
-pub(crate) fn purge(asks: &mut Vec<Ask, Global>, from: usize, to: usize) -> (usize, usize)
-    requires { AreWithin asks.old.items from to }
-    ensures items { asks.new.items ≡ filter (λ a. not (is_done a)) asks.old.items }
-    ensures within { AreWithin asks.new.items result.0 result.1 }
+pub(crate) fn purge(asks: &mut Row, from: usize, to: usize) -> (usize, usize)
+    requires { AreWithin asks.old from to }
+    ensures items { asks.new ≡ filter (λ a. not (is_done a)) asks.old }
+    ensures within { AreWithin asks.new result.0 result.1 }
 {
-    let first = first_open(asks, from, to);
-    let end = last_open(asks, first, to);
+    let first = first_open(asks.all(), from, to);
+    let end = last_open(asks.all(), first, to);
     if end <= first {
         return (first, end);
     }
     if end - first == 1 {
-        purge_one(asks, first)
+        purge_one(asks, first, end)
     } else {
         purge_all(asks)
     }

@@ -6,5 +6,5 @@ use Rattle.bay_book.proofs.settling.purge.Goals as goal
 
 pub returns-then-end-first-clause-items : goal.returns-then-end-first-clause-items
 returns-then-end-first-clause-items c =
-    none_purged c.args.asks.now.items c.first_open-first.result c.last_open-end.result
-    (subst (λ (z : List Ask). AreWithin z c.first_open-first.result c.last_open-end.result) c.deref-2.ensures.value c.last_open-end.ensures) c.if-end-first.true
+    none_purged c.args.asks.now c.first_open-first.result c.last_open-end.result
+    (subst (λ (z : List Ask). AreWithin z c.first_open-first.result c.last_open-end.result) c.all-2.ensures c.last_open-end.ensures) c.if-end-first.true

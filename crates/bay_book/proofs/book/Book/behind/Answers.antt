@@ -11,9 +11,8 @@ use Rattle.bay_book.proofs.book.Book.behind.Goals as goal
 
 pub invariant_of-result : goal.invariant_of-result
 invariant_of-result c =
-    let none = sym c.new.ensures.items in
-    (
-        subst (λ (z : List Ask). IsSound (record { asks = z; next = c.max.result; granted = c.args.granted; durable = 0 })) none (sound_none (c.max.result) (c.args.granted) (omega (arith, c.max.ensures))),
-        subst (λ (z : List Ask). AreWithin z 0 0) none none_within,
-        subst (λ (z : List Ask). AreCounted z (replicate 32 0) 0 true) none (none_counted (replicate 32 0) refl (λ k few. get_or-replicate 32 k 0 0 few)),
+    let none = sym c.nobody.ensures in (
+      subst (λ (z : List Ask). IsSound (record { asks = z; next = c.max.result; granted = c.args.granted; durable = 0 })) none (sound_none (c.max.result) (c.args.granted) (omega (arith, c.max.ensures))),
+      subst (λ (z : List Ask). AreWithin z 0 0) none none_within,
+      subst (λ (z : List Ask). AreCounted z (replicate 32 0) 0 true) none (none_counted (replicate 32 0) refl (λ k few. get_or-replicate 32 k 0 0 few)),
     )

@@ -7,4 +7,4 @@ use Rattle.bay_book.proofs.book.Book.in_use.Goals as goal
 pub returns-then-self : goal.returns-then-self
 returns-then-self c =
     let i = c.self.inside in
-    subst (λ (v : BookView). IsInUse v.asks i.used) c.self.view_is (sure_in_use i.asks.items i.taken i.used i.sure c.self.invariant.2 c.if-self.true)
+    subst (λ (v : BookView). IsInUse v.asks i.used) c.self.view_is (sure_in_use i.asks i.taken i.used i.sure c.self.invariant.2 c.if-self.true)
