@@ -3,7 +3,7 @@ use Rattle.std.proofs.Common.{◌≡◌, ◌⊎◌, ℕ, zero, suc, ◌+◌, ◌
 use Rattle.std.specs.Int.{bit_at}
 use Rattle.std.specs.Int.Bits.{bit_or}
 use Rattle.std.specs.List.{count_by}
-use Rattle.std.proofs.lemmas.Bool.{cases_Bool, false≢true}
+use Rattle.std.proofs.lemmas.Bool.{false≢true}
 use Rattle.bay_line.specs.declared.wish.Wish.{Wish}
 use Rattle.bay_book.specs.declared.ask.Ask.{Ask}
 use Rattle.bay_book.specs.declared.ask.End.{End}
@@ -17,8 +17,8 @@ use Rattle.bay.specs.declared.classes.Class.{Class}
 use Rattle.bay.specs.declared.terms.Terms.{Terms}
 use Rattle.bay.specs.Members.{Has}
 use Rattle.bay.specs.Classes.{class_at}
-use Rattle.bay.specs.Cores.{Core, IsTied, IsFreeClass, AreFree, NobodyWaits}
-use Rattle.bay.specs.Following.{IsDue, IsWanted, NobodyIsDue, NobodyOverLimit}
+use Rattle.bay.specs.Cores.{Core, IsTied, IsFreeClass, NobodyWaits}
+use Rattle.bay.specs.Following.{IsDue, IsWanted, NobodyIsDue}
 use Rattle.bay.proofs.Members.{has_at, cases_lt}
 use Rattle.bay.proofs.Sets.{none_yet, with_one, without_one}
 
@@ -81,9 +81,6 @@ no_wish (v ∷ wishes) w none h = absurd (omega (arith, none))
 not_wanted : (classes : List Class) (x : Core) (a : Ask) → length x.line.wishes ≡ 0 → IsWanted classes x a → ⊥
 not_wanted classes x a none (inl w) = no_wish x.line.wishes w.0 none w.1
 not_wanted classes x a none (inr full) = no_wish x.line.wishes full.0.0 none full.0.1
-
-pub nobody_over_limit : (classes : List Class) (now : ℕ) (x : Core) → length x.line.wishes ≡ 0 → NobodyOverLimit classes now x
-nobody_over_limit classes now x none = λ place inside wanted past. not_wanted classes x (ask_at x.book.asks place) none wanted
 
 never_written : (now : ℕ) (written : Bool) (deadline : Option ℕ) → is_past now (if written then None else later deadline None) ≡ false
 never_written now true deadline = refl
