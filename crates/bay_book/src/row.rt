@@ -34,9 +34,9 @@ fn move_up(asks: &mut Vec<Ask, Global>, start: usize)
     requires { start ≤ length asks.old.items }
     ensures { asks.new.items ≡ drop start asks.old.items }
 {
-    let len = asks.len() - start;
-    asks.rotate_left(start);
-    asks.truncate(len);
+    let len = asks.len();
+    asks.copy_within(start..len, 0);
+    asks.truncate(len - start);
 }
 
 impl Row {
