@@ -1,10 +1,10 @@
 -- Jobs that are passed over because they aren't in the set.
-use Rattle.std.proofs.Common.{◌≡◌, ◌≢◌, ℕ, ◌+◌, ◌<◌, ◌≤◌, Bool, true, false, if◌then◌else◌, List, Option, Some, None, ap, sym, ◌∙◌, inl, inr, arith}
+use Rattle.std.proofs.Common.{◌≡◌, ◌≢◌, ℕ, ◌<◌, ◌≤◌, false, if◌then◌else◌, List, Option, Some, None, ap, sym, ◌∙◌, inl, inr, arith}
 use Rattle.std.proofs.lemmas.Bool.{cases_lt, false≢true}
 use Rattle.lab_plan.specs.InstrumentSets.{holds}
 use Rattle.late_thirst.specs.declared.asker.Asker.{Asker}
 use Rattle.late_thirst.specs.declared.asker.Reason.{Reason}
-use Rattle.late_thirst.specs.Outside.{place, passed_by, passed_at, IsDueAt, IsFirst}
+use Rattle.late_thirst.specs.Outside.{place, passed_by, passed_at, IsFirst}
 use Rattle.late_thirst.proofs.Passing.{ArePassedTo}
 
 -- no job from n up to m is in the set

@@ -1,6 +1,6 @@
 -- Of those that may be let in only those matter that are outside; and who is outside afterwards, as a set.
 use Rattle.std.proofs.Common.{◌≡◌, ℕ, zero, suc, ◌+◌, ◌*◌, ◌%◌, ◌^◌, ◌<◌, ◌≤◌, ◌↔◌, ◌==◌, bit_and, bit_or, bit_xor, min, Bool, true, false, ◌||◌, nat_eq, if◌then◌else◌, List, length, replicate, Option, Some, None, set, get_or-set_same, get_or-set_other, w32, arith, refl, sym, ap, inl, inr, subst, ◌∙◌}
-use Rattle.std.proofs.Math.Bool.{or-false, or-true}
+use Rattle.std.proofs.Math.Bool.{or-false}
 use Rattle.std.proofs.lemmas.Bool.{cases_Bool, cases_eq, cases_lt, eq-eqb, ne_eqb, false≢true}
 use Rattle.std.proofs.lemmas.List.{get_or_past}
 use Rattle.std.specs.Int.{bit_at, bit_not}
@@ -142,8 +142,8 @@ left_outside most ready used old set new outside lets are j = elim (cases_Bool (
   | inr not_in ↦
       let same = xor_out outside set j not_in in (
         λ h.
-        let out = (are j).0 (sym same ∙ h) in
-        outside_if (place new j) (λ none. false≢true (sym not_in ∙ (gone_in most ready used old set new lets j).1 (out, none))),
+            let out = (are j).0 (sym same ∙ h) in
+            outside_if (place new j) (λ none. false≢true (sym not_in ∙ (gone_in most ready used old set new lets j).1 (out, none))),
         λ out. same ∙ (are j).1 (outside_if (place old j) (λ none. not_both (place new j) out.0 out.1 (before_in most ready used old set new lets j none))),
       )
 ]
@@ -190,13 +190,16 @@ chain_alike a b most (suc n) old new s (mid, k, earlier, inside, due, goes) =
 
 lets_alike : (a b most used : ℕ) (old : List (Option Asker)) (set : ℕ) (new : List (Option Asker)) → Agree a b old → LetsIn most a used old set new
     → LetsIn most b used old set new
-lets_alike a b most used old set new s (inl (some, p)) = inl (some, record {
-  many = p.many;
-  one_by_one = chain_alike a b most p.many old new s p.one_by_one;
-  all = nobody_alike a b (Passed most) new (agree_on a b old new s (chain_before most a p.many old new p.one_by_one)) p.all;
-  gone = p.gone;
-  some = p.some;
-})
+lets_alike a b most used old set new s (inl (some, p)) = inl (
+  some,
+  record {
+    many = p.many;
+    one_by_one = chain_alike a b most p.many old new s p.one_by_one;
+    all = nobody_alike a b (Passed most) new (agree_on a b old new s (chain_before most a p.many old new p.one_by_one)) p.all;
+    gone = p.gone;
+    some = p.some;
+  },
+)
 lets_alike a b most used old set new s (inr (inl (none, k, first, goes, gone))) = inr (inl (
   nobody_alike a b (Passed most) old s none,
   k,

@@ -10,9 +10,11 @@ loop-job-init c =
 
 pub loop-job-preserved : goal.loop-job-preserved
 loop-job-preserved c =
-    let l = c.loop-job in let next = c.next_of-job-in-loop-job.ensures in
-    (still_first c.args.reason c.args.ready c.args.places.now (l.job + 1) c.next_of-job-in-loop-job.result c.pick-first.result next.low next.passed
-    c.pick-first.ensures, next.high)
+    let l = c.loop-job in let next = c.next_of-job-in-loop-job.ensures in (
+      still_first c.args.reason c.args.ready c.args.places.now (l.job + 1) c.next_of-job-in-loop-job.result c.pick-first.result next.low next.passed
+          c.pick-first.ensures,
+      next.high,
+    )
 
 pub returns : goal.returns
 returns c =

@@ -16,7 +16,7 @@ invariant_of-self c =
     let many = as_many_after x.most those used c.deref_mut.result.now set c.let_in-set.new.places lets in
     let items = with_items_is x.places c.let_in-set.new.places (many ∙ c.deref_mut.ensures.len) in
     let before : LetsIn x.most those used x.places.items set c.let_in-set.new.places =
-        subst (λ (l : List (Option Asker)). LetsIn x.most those used l set c.let_in-set.new.places) c.deref_mut.ensures.value lets in
+    subst (λ (l : List (Option Asker)). LetsIn x.most those used l set c.let_in-set.new.places) c.deref_mut.ensures.value lets in
     let long = as_many_after x.most those used x.places.items set c.let_in-set.new.places before in let few = c.self.invariant.0 in
     subst (λ (l : List (Option Asker)). (length l ≤ 32) × AreOutside l (bit_xor x.outside set)) (sym items)
     (omega (arith, long, few), left_outside x.most those used x.places.items set c.let_in-set.new.places x.outside before c.self.invariant.1)
