@@ -1,5 +1,5 @@
 -- A set of jobs as a list: read, and changed at a job.
-use Rattle.std.proofs.Common.{◌≡◌, ℕ, ◌+◌, ◌-◌, ◌*◌, ◌%◌, ◌^◌, ◌<◌, ◌≤◌, ◌||◌, nat_eq, bit_and, bit_or, Bool, true, false, List, length, replicate, set, slice_index_or, get_or-set_same, get_or-set_other, length-set, w32, refl, sym, ap, ◌∙◌, subst, inl, inr, arith}
+use Rattle.std.proofs.Common.{◌≡◌, ℕ, ◌-◌, ◌*◌, ◌%◌, ◌^◌, ◌<◌, ◌≤◌, ◌||◌, bit_and, bit_or, Bool, true, false, List, length, replicate, set, slice_index_or, get_or-set_same, get_or-set_other, length-set, w32, refl, sym, ap, ◌∙◌, subst, inl, inr, arith}
 use Rattle.std.proofs.Math.Bool.{or-false, or-true}
 use Rattle.std.specs.Int.{bit_not}
 use Rattle.std.proofs.lemmas.Bool.{cases_eq, eq-eqb, ne_eqb}

@@ -1,4 +1,4 @@
-use Rattle.std.proofs.Common.{◌≡◌, ◌<◌, length, sym, ap, ◌∙◌, subst, arith}
+use Rattle.std.proofs.Common.{◌≡◌, ◌<◌, length, sym, ◌∙◌, subst, arith}
 use Rattle.settling.specs.Left.{DueView}
 use Rattle.settling.specs.Attending.{with_due}
 use Rattle.settling.proofs.Members.{length_members, members_with}

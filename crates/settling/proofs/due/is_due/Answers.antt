@@ -1,4 +1,4 @@
-use Rattle.std.proofs.Common.{◌≡◌, ◌<◌, ℕ, length, true, sym, ap, ◌∙◌, subst, arith}
+use Rattle.std.proofs.Common.{◌≡◌, ◌<◌, length, true, sym, ◌∙◌, subst, arith}
 use Rattle.settling.specs.Left.{DueView, is_due}
 use Rattle.settling.proofs.Members.{length_members, member_at}
 use Rattle.settling.proofs.due.is_due.Goals as goal

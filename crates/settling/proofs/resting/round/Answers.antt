@@ -1,4 +1,4 @@
-use Rattle.std.proofs.Common.{◌≡◌, ℕ, ◌+◌, ◌<◌, ◌≤◌, length, sym, ap, ◌∙◌, subst, arith}
+use Rattle.std.proofs.Common.{◌≡◌, ◌+◌, ◌<◌, length, sym, ap, subst, arith}
 use Rattle.lab_plan.specs.LabPlan.{LabPlan}
 use Rattle.legal_steps.specs.Legal.{IsJob}
 use Rattle.interleaving.specs.World.{WorldView}
@@ -33,17 +33,20 @@ next_due-job-requires-in-loop-job-clause-jobs g c =
 pub loop-job-preserved : goal.loop-job-preserved
 loop-job-preserved g c =
     let w : WorldView = c.args.world.now in let due : DueView = c.args.due.now in let l = c.loop-job in let next = c.next_due-job-in-loop-job.ensures in
-    let low = next.low in let some = c.attend-done.ensures.few in let before = l.invariant.1 in
-    (jobs_same w c.attend-done.new.world due c.attend-done.new.due (l.job + 1) c.next_due-job-in-loop-job.result (l.done + c.attend-done.result) next.passed
-    (jobs_more w l.world c.attend-done.new.world due l.due c.attend-done.new.due l.job l.done c.attend-done.result l.invariant.0 c.attend-done.ensures.attends),
-    omega (arith, low, some, before), next.high, next.found)
+    let low = next.low in let some = c.attend-done.ensures.few in let before = l.invariant.1 in (
+      jobs_same w c.attend-done.new.world due c.attend-done.new.due (l.job + 1) c.next_due-job-in-loop-job.result (l.done + c.attend-done.result) next.passed
+          (jobs_more w l.world c.attend-done.new.world due l.due c.attend-done.new.due l.job l.done c.attend-done.result l.invariant.0 c.attend-done.ensures.attends),
+      omega (arith, low, some, before),
+      next.high,
+      next.found,
+    )
 
 pub returns-clause-attends : goal.returns-clause-attends
 returns-clause-attends g c =
     let w : WorldView = c.args.world.now in let l = c.loop-job in
     let all : l.job ≡ length w.plan.jobs =
-        let a = l.invariant.2 in let b = c.loop-job-test.false in let d = c.jobs-jobs.ensures.jobs in
-        let e = ap (λ (p : LabPlan). length p.jobs) c.plan.ensures.plan in omega (arith, a, b, d, e) in
+    let a = l.invariant.2 in let b = c.loop-job-test.false in let d = c.jobs-jobs.ensures.jobs in
+    let e = ap (λ (p : LabPlan). length p.jobs) c.plan.ensures.plan in omega (arith, a, b, d, e) in
     subst (λ n. Attends (λ k. k < n) w c.args.due.now l.done l.world l.due) all l.invariant.0
 
 pub returns-clause-few : goal.returns-clause-few

@@ -1,5 +1,4 @@
 use Rattle.std.proofs.Common.{rules, ◌∙◌}
-use Rattle.settling.specs.Left.{IsDueOf}
 use Rattle.settling.specs.Members.{members}
 use Rattle.settling.proofs.Marks.{fresh}
 use Rattle.settling.proofs.Members.{length_members, all_members}
