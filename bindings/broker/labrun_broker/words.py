@@ -34,7 +34,7 @@ USAGE, NO_FILE, UNREACHABLE, NOT_WRITTEN, TIMED_OUT, TAKEN, MAY_NOT, NO_BAY, CAN
 
 STATUSES = (
     ("0", "done; `hold` gives the status of what it ran, or 128 and the number of the signal that ended it"),
-    ("1", "the broker said no, as to a station that the bay doesn't have, or a release of one that holds nothing; `bay check` found faults"),
+    ("1", "the broker said no, as to a station that the bay doesn't have, or a release of one that holds nothing; `bay check` or `bay apply` found faults"),
     (str(USAGE), "the words aren't right, or the bay has no instrument of that name"),
     (str(NO_FILE), "a file can't be read, of a bay, guards, a token, a certificate, a key or a password, or that isn't in it; nor a state folder"),
     (str(UNREACHABLE), "the broker can't be reached, or doesn't let this client in; of `hold`, the command may have run"),
