@@ -65,9 +65,9 @@ class Places:
         stations = tuple(dict.fromkeys((*self.stations, *bay.stations)))
         for what, names, most, its in (("instruments", instruments, MOST_INSTRUMENTS, bay.instruments), ("stations", stations, MOST_STATIONS, bay.stations)):
             if len(names) > most:
-                former = [it for it in names if it not in its]
-                why = f"{len(its)} in the file and {len(former)} taken out before; a state folder, or etcd, has places for {most} of both in all its life"
-                raise BayFault(what, [f"{why}: use the name of one that was taken out ({', '.join(former[:SHOWN])}), or begin anew"])
+                out = [it for it in names if it not in its]
+                why = f"{len(its)} in the file and {len(out)} taken out before; a state folder, or etcd, has places for {most} of both in all its life"
+                raise BayFault(what, [f"{why}: use the name of one that was taken out ({', '.join(out[:SHOWN])}), or begin anew"])
         new, known = Former() if self.former is None and not before else Former(by, round(time.time(), 3)), self.former or {}
         former = {name: new if name in before else known.get(name, new) for name in self.instruments if name not in bay.instruments}
         return replace(self, instruments=instruments, stations=stations, former=former)
