@@ -706,16 +706,16 @@ static void tell(const struct talk *it, struct text *said, double *said_at) {
     struct text who = {0};
     const char *at = value_of(body_of(it), "waits_for");
     char *why = text_of(value_of(body_of(it), "text"));
-    /* (of a place, or a disk, nobody is named; and whose client is gone is named as before) */
-    putf(&who, "%.4s", why);
+    /* (of a place, or a disk, nobody is named: there the text says it, up to the first span; and whose client is gone is named as before) */
+    const char *span = strstr(why, " for ");
+    putf(&who, "%.*s", (int)(span != NULL ? span - why : (long)strlen(why)), why);
     for (const char *gone = why; (gone = strstr(gone, "gone for ")) != NULL; gone++)
         put(&who, "gone,", 5);
     if (at != NULL && *at == '[')
         for (at = over_space(at + 1); *at == '{'; at = over_space(at + 1)) {
-            char *name = text_of(value_of(at, "instrument")), *by = text_of(value_of(at, "station"));
-            putf(&who, "%s %s,", name, by);
+            char *name = text_of(value_of(at, "instrument"));
+            putf(&who, "%s %.0f,", name, number_of(value_of(at, "session")));
             free(name);
-            free(by);
             if ((at = over_value(at, 20)) == NULL || *(at = over_space(at)) != ',')
                 break;
         }

@@ -127,7 +127,7 @@ async def _apply(keeping: Keeping, text: str, after: Bay, by: str, is_check: boo
     if after.name != before.name:
         raise CantChange(f"the file is of the bay {after.name}, and this one is {before.name}: give it a broker and a folder of its own")
     try:
-        places = keeping.places.with_bay(after)
+        places = keeping.places.with_bay(after, by, before.instruments)
     except BayFault as fault:
         raise CantChange(str(fault)) from None
     for entrance in keeping.entrances:

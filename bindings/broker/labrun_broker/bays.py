@@ -142,10 +142,10 @@ class Bays:
 
     def _of_wish(self, wish: Wish) -> Union[Keeping, over.Over]:
         """BadWish, NoInstrument, MayNotUse: no bay has it for this client. OutOfOrder."""
-        wishes.check(wish, self.bay)
+        wishes.check(wish, self.bay, self._taken_out)
         resolved, out = wishes.resolved(wish, self.bay), {name: it for home in self.peers for name, it in home.places.out.items()}
         homes = {home for way in over.ways_of(self, resolved) for home in way}
-        return homes.pop() if len(homes) == 1 else over.Over(self, outage.going_round(resolved, out))
+        return homes.pop() if len(homes) == 1 else over.Over(self, outage.going_round(resolved, out, self.bay))
 
     def _of_session(self, session: Session) -> Union[Keeping, Crossing]:
         return session if isinstance(session, Crossing) else session.home or self.peers[0]
@@ -185,8 +185,11 @@ class Bays:
             raise no_bay(name, tuple(self.of))
         return it
 
+    def _taken_out(self, name: str) -> str:
+        return next(filter(None, (it.places.taken_out(name) for it in self.peers)), "")
+
     def with_instrument(self, name: str) -> Keeping:
-        wishes.check_instrument(name, self.bay)
+        wishes.check_instrument(name, self.bay, self._taken_out)
         return next(it for it in self.peers if name in it.bay.instruments)
 
     def with_all(self, names: Sequence[str]) -> Kept:
@@ -230,8 +233,8 @@ class Bays:
         its = [{**record, "bay": name} for name, it in self.of.items() for record in it.recent()]
         return sorted(its, key=lambda record: float(record["t"]))
 
-    def status(self) -> dict[str, Any]:
-        return status_of(self.lab.name, self.refusals, {name: it.status() for name, it in self.of.items()})
+    def status(self, person: str = "") -> dict[str, Any]:
+        return status_of(self.lab.name, self.refusals, {name: it.status(person) for name, it in self.of.items()})
 
     @property
     def refusals(self) -> int:

@@ -11,12 +11,11 @@ import json
 import os
 import re
 import sys
-import time
 from typing import TYPE_CHECKING, Any, Callable, NoReturn, Optional, Sequence
 
 from .credentials import user
 from .run import add_hold, run_hold
-from .texts import aligned, called, counted, last, plain, session, span
+from .texts import called, counted, last, plain, session
 from .words import ABOUT, INTERRUPTED, MAY_NOT, NO_BAY, NO_FILE, NOT_WRITTEN, PROGRAM, STATUSES, TAKEN, TIMED_OUT, UNREACHABLE, USAGE, Word, add_client, lab_of, reading, say
 
 if TYPE_CHECKING:
@@ -37,6 +36,8 @@ def add_status(parser: argparse.ArgumentParser) -> None:
 
 
 def run_status(args: argparse.Namespace) -> int:
+    from .telling import lines_of
+
     with lab_of(args) as lab:
         status = only(lab.status(), args.bay)
     print(json.dumps(status) if args.json else "\n".join(lines_of(status)))
@@ -44,6 +45,8 @@ def run_status(args: argparse.Namespace) -> int:
 
 
 def run_top(args: argparse.Namespace) -> int:
+    from .telling import lines_of
+
     clears = "\x1b[H\x1b[2J" if sys.stdout.isatty() and not args.json else ""
     with contextlib.suppress(BrokenPipeError), lab_of(args) as lab:
         for each in lab.watch():
@@ -63,77 +66,6 @@ def only(status: dict[str, Any], bay: Optional[str]) -> dict[str, Any]:
     if bay is None or not status.get("bays"):
         return status
     return {**its[bay], "bays": [one for one in status["bays"] if one["bay"] == bay]}
-
-
-def lines_of(status: dict[str, Any]) -> list[str]:
-    """How the bay stands, or each of several, for people."""
-    from .together import parts
-
-    if len(its := parts(status)) == 1:
-        return lines_of_bay(its[0][1])
-    lines = [f"{called('lab', status['bay'])}: {counted(len(its), 'bay')}"]
-    return [*lines, *(line for _, one in its for line in ("", *lines_of_bay(one)))]
-
-
-def lines_of_bay(status: dict[str, Any]) -> list[str]:
-    at, since = status["at"], time.strftime("%Y-%m-%d %H:%M", time.localtime(status["since"]))
-    rows = [["INSTRUMENT", "HELD BY", "FOR", "WAITING", "LABEL" if any(one.get("label") for one in status["instruments"]) else ""]]
-    for one in status["instruments"]:
-        holder, held_for = holder_of(one, status)
-        rows.append([one["name"], holder, held_for, " ".join(one["waiting"]), plain(one.get("label", ""))])
-    outs = [out_of(it, at) for it in status["instruments"] if it.get("out") is not None]
-    lines = [f"{called('bay', status['bay'])}, {counted(status['sessions'], 'session')} since {since}", *brokers_of(status), *disk_of(status), *outs, "", *aligned(rows), ""]
-    rows = [["STATION", "", "FOR", "INSTRUMENTS", "BY"]]
-    for one in status["stations"]:
-        if one["state"] != "idle":
-            by = plain(one["by"] or "") + (f" | {plain(one['note'])}" if one["note"] else "")
-            rows.append([one["name"], one["state"], span(at - (one["gone_since"] or one["since"])), " ".join(one["instruments"]), by])
-            rows += [["", "", "", text] for text in (*line_of(one, status), *(plain(keeper["text"]) for keeper in one["waits_for"]))]
-    for one in status["in_line"]:
-        rows.append([one["station"] or "a guest", "in line", span(at - one["since"]), " ".join(one["instruments"]), plain(one["by"] or "")])
-        place = f"{one['station']} is in one session at a time" if one["station"] else "all places for guests are taken (guests.count says how many hold at once)"
-        # (who goes first counts only while there is a place)
-        rows += [["", "", "", text] for text in (*line_of({**one, "passed": 0, "keeps_place": False}, status), place)]
-    return [*lines, *(aligned(rows) if len(rows) > 1 else ["nobody holds or waits"])]
-
-
-def holder_of(one: dict[str, Any], status: dict[str, Any]) -> tuple[str, str]:
-    """Who holds an instrument, and for how long."""
-    if not one["holder"]:
-        return "-" if one.get("out") is None else "(out of order)", ""
-    if any(it["name"] == one["holder"] and it["state"] == "waiting" for it in status["stations"]):
-        return f"({one['holder']}, once that is written)", ""
-    safe_since = one.get("being_made_safe")
-    return "(being made safe)" if safe_since else one["holder"], span(status["at"] - (safe_since or one["since"]))
-
-
-def line_of(it: dict[str, Any], status: dict[str, Any]) -> list[str]:
-    """Where somebody who waits stands, and how often others went before."""
-    if not it.get("place"):
-        return []
-    said = f"number {it['place']} in line{', urgent' if it.get('urgent') else ''}"
-    if it.get("keeps_place"):
-        return [f"{said}{'' if it['urgent'] else ', and an urgent one asked after it'}: nobody who asks later goes before it"]
-    return [said + (f"; {it['passed']} that asked later went first, and after {status['overtakes']} what it needs is kept for it" if it["passed"] else "")]
-
-
-def out_of(it: dict[str, Any], at: float) -> str:
-    why = f": {plain(it['out'])}" if it["out"] else ""
-    return f"{it['name']} has been out of order for {span(at - it['out_since'])}{why} (says {plain(it['out_by'])}; once it is mended: labrun-broker enable {it['name']})"
-
-
-def brokers_of(status: dict[str, Any]) -> list[str]:
-    """Who leads, of brokers that stand by for one another."""
-    if not status.get("leads"):
-        return []
-    others = status["stands_by"]
-    return [plain(f"{status['leads']} leads, and {', '.join(others) or 'no other'} {'stand' if len(others) > 1 else 'stands'} by")]
-
-
-def disk_of(status: dict[str, Any]) -> list[str]:
-    if not status["disk"]:
-        return []
-    return [f"the broker hasn't been able to write for {span(status['at'] - status['disk_since'])}: {plain(status['disk'])}. Nobody comes to hold until it can"]
 
 
 # ---- for who looks after the bay

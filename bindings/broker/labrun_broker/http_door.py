@@ -124,8 +124,8 @@ class HttpDoor:
     async def _describes(self, _: web.Request) -> web.Response:
         return web.Response(body=self._openapi, content_type="application/json")
 
-    async def _status(self, _: web.Request) -> web.Response:
-        return answer({**self.keeping.status(), "notice": self.keeping.notice})
+    async def _status(self, request: web.Request) -> web.Response:
+        return answer({**self.keeping.status(request[CALLER].person), "notice": self.keeping.notice})
 
     async def _release(self, request: web.Request) -> web.Response:
         given = http_words.read(await self._body(request), http_words.RELEASE, "station")
@@ -195,7 +195,7 @@ class HttpDoor:
         while is_there(request):
             state = visit.state
             about = http_words.told(visit.fault)[1] if visit.fault is not None else visit.shown()
-            now = f"{state} {about.get('warning') is not None}" + "".join(f" {it['instrument']} {it['station']} {it['holds']}" for it in about.get("waits_for", ()))
+            now = f"{state} {about.get('warning') is not None} {visit.for_whom()}"
             if now != last or loop.time() > last_at + BEAT:
                 last, last_at = now, loop.time()
                 # (when the broker ends, what is held is held on)

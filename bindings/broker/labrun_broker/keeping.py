@@ -19,11 +19,12 @@ from .bay import Bay
 from .errors import TimeoutError as TimedOut
 from .folder import Folder, State
 from .journals import PART, notes_of
+from .labels import free_label
 from .opening import Opened
 from .records import News, Record
 from .settling import Settling, settled
 from .shell import Shell
-from .standing import ENDING, Owner, Session, Standings, free_label
+from .standing import ENDING, Owner, Session, Standings
 from .taking_up import carries, takes_up
 from .together import no_bay
 from .wishes import Ended, Ends, Wish
@@ -59,8 +60,7 @@ class Keeping:
         self.idle_since: dict[str, int] = {}
         self._opens, self._syncs = opens, syncs
         self._by_key: dict[tuple[int, int], Session] = {}
-        self._ends = Ends()
-        self._is_closed = False
+        self._ends, self._is_closed = Ends(), False
         # one after another (applying.py), and who looks after the doors meanwhile
         self.changing = asyncio.Lock()
         self.entrances: list[Entrance] = []
@@ -106,8 +106,9 @@ class Keeping:
         self._news.write()
         await self._shell.close()
         self._news.write(is_all=True)
-        if self._opened.state is not None:
-            self._opened.state.close()
+        # (whoever opens the folder next meets no write of this broker: if the disk doesn't answer it stays locked. etcd sees to that itself)
+        if (state := self._opened.state) is not None and (state.lets_wait or await self._shell.has_ended()):
+            state.close()
 
     def now(self) -> int:
         return self._shell.now()
@@ -147,8 +148,8 @@ class Keeping:
                 return leases.comes_back(self, held, wish, owner)
             if wish.comes_back:
                 raise self._ends.why(key)
-            wishes.check(wish, self.bay)
-            wish = outage.going_round(wishes.resolved(wish, self.bay), self.places.out)
+            wishes.check(wish, self.bay, self.places.taken_out)
+            wish = outage.going_round(wishes.resolved(wish, self.bay), self.places.out, self.bay)
             session = self._asks(wish, key, owner, held)
         except LabrunError:
             self.refusals += 1
@@ -361,9 +362,9 @@ class Keeping:
         return self
 
     def in_bay(self, name: str) -> Keeping:
-        if name not in ("", self.bay.name):
-            raise no_bay(name, (self.bay.name,))
-        return self
+        if name in ("", self.bay.name):
+            return self
+        raise no_bay(name, (self.bay.name,))
 
     # ---- what is told
 
@@ -385,9 +386,9 @@ class Keeping:
         await self._shell.durable()
         await self.settling.leads()
 
-    def status(self) -> dict[str, Any]:
+    def status(self, person: str = "") -> dict[str, Any]:
         leads, stands_by = ("", ()) if self._opened.state is None else self._opened.state.brokers()
-        return {**Standings(self).status(), "leads": leads, "stands_by": list(stands_by)}
+        return {**Standings(self).status(person), "leads": leads, "stands_by": list(stands_by)}
 
     @property
     def write_failures(self) -> int:

@@ -60,7 +60,7 @@ class Opened:
         if self.state is not None:
             self.state.store.cut(self.machine.used)
             # (before anybody is told of the grace; and a broker begins on a full disk, too)
-            if self.places != before:
+            if self.places != replace(before, former=before.former or {}):
                 self.state.keeps(self.places)
 
     def _was_kept(self, it: Left, before: Places) -> bool:

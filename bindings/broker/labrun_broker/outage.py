@@ -15,30 +15,32 @@ from labrun.machine import WAITS
 from .applying import keeps
 from .errors import OutOfOrder
 from .places import Out
+from .rights import to_enable
 from .texts import span
 from .wishes import Wish, check_instrument, check_note
 
 if TYPE_CHECKING:
+    from .bay import Bay
     from .keeping import Keeping
     from .standing import Session
 
 
-def going_round(wish: Wish, out: dict[str, Out]) -> Wish:
+def going_round(wish: Wish, out: dict[str, Out], bay: Bay) -> Wish:
     """The wish without the sets that can't be had. OutOfOrder: there is no other."""
     left = tuple(it for it in wish.choices if not out.keys() & set(it))
     if not left:
-        raise OutOfOrder(", ".join(told(name, out[name]) for name in wish.names if name in out))
+        raise OutOfOrder(", ".join(told(name, out[name], bay, wish.person) for name in wish.names if name in out))
     return wish if left == wish.choices else replace(wish, any_of=left)
 
 
-def told(name: str, it: Out) -> str:
+def told(name: str, it: Out, bay: Bay, person: str) -> str:
     why = f": {it.why}" if it.why else ""
-    return f"{name} has been out of order for {span(time.time() - it.since)}{why} (says {it.by}; once it is mended: labrun-broker enable {name})"
+    return f"{name} has been out of order for {span(time.time() - it.since)}{why} (says {it.by}; {to_enable(bay, person, name)})"
 
 
 async def disable(keeping: Keeping, name: str, why: str, by: str) -> None:
     """JournalError: it couldn't be written, and so isn't so. NoInstrument, BadWish."""
-    check_instrument(name, keeping.bay)
+    check_instrument(name, keeping.bay, keeping.places.taken_out)
     check_note(why, keeping.bay)
     await puts_out(keeping, name, why, by)
 
@@ -52,7 +54,7 @@ async def puts_out(keeping: Keeping, name: str, why: str, by: str) -> None:
 
 
 async def enable(keeping: Keeping, name: str, by: str) -> None:
-    check_instrument(name, keeping.bay)
+    check_instrument(name, keeping.bay, keeping.places.taken_out)
     async with keeping.changing:
         if name not in keeping.places.out:
             raise OutOfOrder(f"{name} isn't out of order")
@@ -67,7 +69,7 @@ def _tells(keeping: Keeping, name: str) -> None:
     for session in _of(keeping, waiting):
         if name in session.wish.names:
             try:
-                _asks_again(keeping, session, going_round(session.wish, keeping.places.out))
+                _asks_again(keeping, session, going_round(session.wish, keeping.places.out, keeping.bay))
             except OutOfOrder as fault:
                 keeping._leaves(session, fault)
 

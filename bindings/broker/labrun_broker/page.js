@@ -32,6 +32,11 @@ function make(tag, name, ...parts) {
 }
 const bold = text => make("b", "", named(text));
 const named = text => make("bdi", "", text);
+// (of a station several may wait)
+const eachOnce = names => [...new Set(names)].flatMap((it, at) => {
+  const count = names.filter(one => one === it).length;
+  return [at ? ", " : "", named(it), count > 1 ? ` (${count} sessions)` : ""];
+});
 const list = names => names.flatMap((it, at) => at ? [", ", named(it)] : [named(it)]);
 
 function ago(seconds) {
@@ -107,7 +112,7 @@ function rowOf(it, long) {
   if (holder && holder.by) state.append(make("span", "soft", " by ", named(holder.by)));
   row.append(state, make("span", "since", since(isEnding ? holder.since : it.holder ? it.since : null)));
   if (it.label) row.append(make("span", "line label", make("bdi", "", it.label)));
-  if (it.waiting.length) row.append(make("span", "line", it.waiting.length === 1 ? "waits: " : `${it.waiting.length} wait: `, ...list(it.waiting)));
+  if (it.waiting.length) row.append(make("span", "line", it.waiting.length === 1 ? "waits: " : `${it.waiting.length} wait: `, ...eachOnce(it.waiting)));
   if (holder && holder.note) row.append(make("span", "line of-note", make("bdi", "note", holder.note)));
   if (it.out != null) row.append(make("span", "line", isOut ? "" : "out of order", !isOut && it.out ? ": " : "", make("bdi", "", it.out), " (says ", make("bdi", "", it.out_by), ")"));
   return row;
@@ -132,6 +137,10 @@ function overtakesOf(it) {
   const bay = (status.bays || []).find(one => one.bay === it.bay);
   return bay ? bay.overtakes : status.overtakes;
 }
+function sessionOf(it) {
+  // (of one of several that wait as one station)
+  return it.session && status.in_line.some(one => one.station === (it.name || it.station)) ? ` (session ${it.session}${it.name && it.by ? `, ${it.by}` : ""})` : "";
+}
 function lineOf(it) {
   if (!it.place) return "";
   const said = `, number ${it.place} in line${it.urgent ? ", urgent" : ""}`;
@@ -140,14 +149,20 @@ function lineOf(it) {
 }
 function chainOf(it) {
   // (a line is too short for all of it: for what it waits stands beside the instruments, too)
-  const box = WALL ? make("div", "chain", bold(it.name), it.urgent ? ", urgent, " : " ", since(it.since)) : make("div", "chain", bold(it.name), " waits for ", ...list(it.instruments), ": ", since(it.since), make("span", "soft", lineOf(it)));
+  const box = WALL ? make("div", "chain", bold(it.name), it.urgent ? ", urgent, " : " ", since(it.since)) : make("div", "chain", bold(it.name), named(sessionOf(it)), " waits for ", ...list(it.instruments), ": ", since(it.since), make("span", "soft", lineOf(it)));
   for (const why of it.waits_for.slice(0, WALL ? 1 : MOST_CHAINS)) box.append(make("div", "links", ...(WALL ? [] : [named(it.name)]), ...links(why, new Set([it.name]))));
   if (!it.waits_for.length) box.append(make("div", "links", status.disk ? "it waits for the disk" : "nobody keeps it waiting at this moment"));
   return box;
 }
 function inLineOf(it) {
-  const whose = it.station ? ["for ", bold(it.station), " to be idle"] : ["until a guest goes home"];
-  return make("div", "chain", bold(it.by || "somebody"), " waits ", ...whose, ", and then for ", ...list(it.instruments), ": ", since(it.since), make("span", "soft", lineOf({...it, passed: 0, keeps_place: false})));
+  const keepers = it.waits_for || [], isTaken = !keepers.length;
+  const whose = !it.station ? ["until a guest goes home"] : isTaken ? ["for ", bold(it.station), " to be idle"] : ["as ", bold(it.station)];
+  const line = lineOf(isTaken ? {...it, passed: 0, keeps_place: false} : it);
+  const box = make("div", "chain", bold(it.by || "somebody"), it.station ? sessionOf(it) : "", " waits ", ...whose, isTaken ? ", and then for " : " for ", ...list(it.instruments), ": ", since(it.since), make("span", "soft", line));
+  if (WALL) return box;
+  for (const why of keepers.slice(0, MOST_CHAINS)) box.append(make("div", "links", named(it.station), ...links(why, new Set([it.station]))));
+  if (it.text) box.append(make("div", "links", make("bdi", "", it.text)));
+  return box;
 }
 function drawNow() {
   const long = worst(), waiting = status.stations.filter(it => it.state === "waiting").sort((a, b) => a.since - b.since);

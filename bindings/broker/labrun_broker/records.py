@@ -45,7 +45,7 @@ class Records:
         self.path, self._syncs = path, syncs
         self.file = os.open(path, os.O_RDWR | os.O_CREAT | os.O_APPEND | os.O_CLOEXEC, 0o640)
         self._waiting = bytearray()
-        self._is_synced, self._is_due = True, False
+        self._is_synced, self._is_due, self._is_closed = True, False, False
         # nothing was lost: each record is in the file, or will be
         self.is_whole = True
         self._again: Optional[asyncio.TimerHandle] = None
@@ -67,6 +67,8 @@ class Records:
         """What can't be written is kept, and tried again with the next, and soon if none comes."""
         self._is_due = False
         self._stops_trying()
+        if self._is_closed:
+            return  # (by now its number may be another file's)
         try:
             while self._waiting:
                 del self._waiting[: os.write(self.file, self._waiting)]
@@ -103,6 +105,7 @@ class Records:
         self.write()
         self._stops_trying()
         self.sync()
+        self._is_closed = True
         os.close(self.file)
 
 

@@ -4,7 +4,7 @@ from __future__ import annotations
 
 from typing import TYPE_CHECKING, Optional, Protocol
 
-from labrun.picks import NoSuch, matching
+from labrun.picks import NoSuch, matching, some
 
 from .errors import MayNotUse, NotAllowed
 
@@ -41,6 +41,16 @@ def check_operator(bay: Bay, person: str, what: str) -> None:
     """NotAllowed: there are people, and this one doesn't look after the bay."""
     if bay.people and person not in bay.people.operators:
         raise NotAllowed(f"{person or 'nobody'} may not {what}; {bay.people.to_ask()}")
+
+
+def to_enable(bay: Bay, person: str, name: str) -> str:
+    """What whoever meets an instrument that is out of order may do once it isn't: the command is for those who may give it."""
+    people = bay.people
+    if not people or person in people.operators:
+        return f"once it is mended: labrun-broker enable {name}"
+    if not people.operators:
+        return "nobody may enable it: the bay's file names no operators"
+    return f"once it is mended, ask an operator to enable it: {some(people.operators)}"
 
 
 def check_urgent(bay: Bay, person: str) -> None:

@@ -264,15 +264,15 @@ class Service:
                 self.entrance.clients -= 1
 
     async def Status(self, _: Any, context: Any) -> Any:
-        async with self._paces(context, looks=True):
-            return pb.Bay(**self.keeping.status())
+        async with self._paces(context, looks=True) as person:
+            return pb.Bay(**self.keeping.status(person))
 
     async def Watch(self, _: Any, context: Any) -> AsyncIterator[Any]:
-        async with self._paces(context, looks=True):
-            yield pb.Bay(**self.keeping.status())
+        async with self._paces(context, looks=True) as person:
+            yield pb.Bay(**self.keeping.status(person))
             async for _ in self.keeping.changes():
                 await asyncio.sleep(WATCH)
-                yield pb.Bay(**self.keeping.status())
+                yield pb.Bay(**self.keeping.status(person))
 
     async def Guard(self, wish: Any, context: Any) -> AsyncIterator[Any]:
         async with self._paces(context):

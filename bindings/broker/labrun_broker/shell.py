@@ -47,6 +47,8 @@ class Shell:
         self._thread = ThreadPoolExecutor(1, "journal")
         self._sync_timer: Optional[asyncio.TimerHandle] = None
         self._is_syncing = self._is_urgent = self._takes_all = self._is_closed = False
+        # done once the thread is through with all that it was given
+        self._last: Optional[asyncio.Future[None]] = None
         self._took_all_at = self._loop.time()
         self.path = "" if store is None else store.path
         # (a store that isn't a file says so)
@@ -331,5 +333,11 @@ class Shell:
         for it in (self._timer, self._sync_timer, self._slow_timer, self._mending):
             if it is not None:
                 it.cancel()
+        # (behind all that the thread was given)
+        self._last = self._loop.run_in_executor(self._thread, lambda: None)
         self._thread.shutdown(wait=False)
         self.machine.free()
+
+    async def has_ended(self) -> bool:
+        """Once it is closed: whether its thread has ended, so that nothing is written any more. Else the disk doesn't answer."""
+        return self._last is not None and not (await asyncio.wait({self._last}, timeout=CLOSING))[1]

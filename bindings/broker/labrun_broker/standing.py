@@ -5,18 +5,19 @@ from __future__ import annotations
 
 import collections
 import functools
-import itertools
 import math
 import operator
 import re
 import time
 from dataclasses import dataclass, field
-from typing import TYPE_CHECKING, Any, Iterable, Optional, Protocol
+from typing import TYPE_CHECKING, Any, Optional, Protocol
 
 from labrun.machine import HOLDS, WAITS
 
 from .journals import notes_of
+from .labels import number_last
 from .places import bits_of
+from .rights import to_enable
 from .texts import counted, span
 from .wishes import Wish
 
@@ -155,6 +156,11 @@ class Standings:
                 self.holders.append((session, it.needs, it.since))
             elif it.what == WAITS:
                 self.waiters.append((session, it.since))
+        # of each station those that wait
+        self._as = collections.defaultdict[int, list[Session]](list)
+        for session, _ in self.waiters:
+            if session.kind:
+                self._as[session.kind].append(session)
         self._places = {session.number: place for place, (session, _) in enumerate(self.waiters, 1)}
         # for each instrument, by its bit: who holds it, and since when
         self._held = {bit: (session, since) for session, needs, since in self.holders for bit in bits_of(needs)}
@@ -188,7 +194,7 @@ class Standings:
         key = bit, it.number
         if key not in self._told:
             text = self._is_held(bit, other, it.since) if it.what == HOLDS else self._is_kept(bit, other)
-            about = {"instrument": self._name(bit), "station": other.name, "holds": it.what == HOLDS}
+            about = {"instrument": self._name(bit), "station": other.name, "session": it.number, "holds": it.what == HOLDS}
             self._told[key] = {**about, "since": self.when(it.since), "text": text}
         return self._told[key]
 
@@ -213,8 +219,20 @@ class Standings:
     def for_whom(self, session: Session) -> tuple[list[dict[str, Any]], str, tuple[Any, ...]]:
         """Whom a session waits for, as a text, too; and what of that has to change before it is told again."""
         keepers, why = self.keepers(session), self.why(session)
-        who = tuple((it["instrument"], it["station"], it["holds"]) for it in keepers)
-        return keepers, why, (who, self.is_full(session.kind), self._holds(session) and why, why.count(GONE), why.count(ONCE))
+        who = tuple((it["instrument"], it["session"], it["holds"]) for it in keepers)
+        # (of guests, so many of which come and go, only whether there is a place)
+        place = tuple(it.number for it, _, _ in self.holders if it.kind == session.kind) if session.kind else self.is_full(session.kind)
+        text = "; ".join(filter(None, (why, self._before(session))))
+        return keepers, text, (who, place, self._holds(session) and why, why.count(GONE), why.count(ONCE))
+
+    def _before(self, session: Session) -> str:
+        """Who else waits as the same station, and asked before."""
+        its = [it for it in self._as.get(session.kind, ()) if it.number < session.number]
+        if not its or self._holds(session):
+            return ""
+        first = f"session {its[0].number} of {its[0].name}" + (f" ({its[0].by})" if its[0].by else "")
+        text = f"{first} waits before this one" if len(its) == 1 else f"{first} and {len(its) - 1} more wait before this one"
+        return text if self.is_full(session.kind) else f"{text}: a station is in one session at a time"
 
     def _name(self, bit: int) -> str:
         return self._keeping.places.instruments[bit]
@@ -255,14 +273,15 @@ class Standings:
 
     def _who(self, waits: Session) -> str:
         # (of a station others may wait at once, who are told this)
-        return waits.name + (f" ({waits.by})" if waits.by else "")
+        name = f"session {waits.number} of {waits.name}" if len(self._as.get(waits.kind, ())) > 1 else waits.name
+        return name + (f" ({waits.by})" if waits.by else "")
 
     def _is_taken(self, session: Session) -> str:
         of = [other for other, _, _ in self.holders if other.kind == session.kind]
         if session.kind and of[0].state == ENDING:
             return f"{session.name} is in one session at a time, and {self._is_made_safe(of[0].instruments[0], of[0])}"
         if session.kind:
-            return f"{session.name} has been in a session for {self._for(of[0].since)}{self._about(of[0])}, and a station is in one at a time"
+            return f"{session.name} has been in session {of[0].number} for {self._for(of[0].since)}{self._about(of[0])}, and a station is in one at a time"
         # (who has to be seen to stands first)
         of.sort(key=lambda it: it.gone_at is None)
         its = [f"{it.name} by {it.by or 'somebody'}{self._about(it, is_named=True)}" for it in of[:SHOWN]]
@@ -296,7 +315,7 @@ class Standings:
 
     # the whole
 
-    def status(self) -> dict[str, Any]:
+    def status(self, person: str = "") -> dict[str, Any]:
         keeping = self._keeping
         rows, in_line = self._rows()
         waiting = collections.defaultdict[int, list[str]](list)
@@ -307,7 +326,7 @@ class Standings:
             "bay": keeping.bay.name,
             "at": round(self._at, 3),
             "since": self.when(keeping.opened_at),
-            "instruments": [self._instrument(name, waiting) for name in keeping.bay.instruments],
+            "instruments": [self._instrument(name, waiting, person) for name in keeping.bay.instruments],
             "stations": rows,
             "in_line": in_line,
             "sessions": keeping.sessions,
@@ -318,13 +337,14 @@ class Standings:
             "overtakes": keeping._opened.overtakes,
         }
 
-    def _instrument(self, name: str, waiting: dict[int, list[str]]) -> dict[str, Any]:
+    def _instrument(self, name: str, waiting: dict[int, list[str]], person: str) -> dict[str, Any]:
         bit = self._keeping.places.instruments.index(name)
         holder, since = self._held.get(bit, (None, None))
         bay, out = self._keeping.bay, self._keeping.places.out.get(name)
         row: dict[str, Any] = {"name": name, "label": bay.labels.get(name, ""), "tags": [tag for tag, its in bay.tags.items() if name in its]}
         row |= {"holder": None if holder is None else holder.name, "since": self.when(since), "waiting": waiting.get(bit, [])}
         row["being_made_safe"] = self.when(holder.unsafe.get(name)) if holder is not None else None
+        row["to_enable"] = "" if out is None else to_enable(bay, person, name)
         return {**row, "out": None if out is None else out.why, "out_since": out and out.since, "out_by": out and out.by}
 
     def _rows(self) -> tuple[list[dict[str, Any]], list[dict[str, Any]]]:
@@ -333,13 +353,18 @@ class Standings:
         in_line = []
         for session, since in self.waiters:
             if session.name in of or self.is_full(session.kind):
-                station = session.name if session.kind else ""
-                row = {"station": station, "instruments": list(session.instruments), "by": session.by, "since": self.when(since)}
-                in_line.append({**row, **self._line(session)})
+                in_line.append(self._row_in_line(session, since))
             else:
                 of[session.name] = session, since
         usual = (*self._keeping.bay.stations, *self._keeping.bay.guest_names)
-        return [self._row(name, of.get(name)) for name in dict.fromkeys((*usual, *sorted(of, key=_number_last)))], in_line
+        return [self._row(name, of.get(name)) for name in dict.fromkeys((*usual, *sorted(of, key=number_last)))], in_line
+
+    def _row_in_line(self, session: Session, since: int) -> dict[str, Any]:
+        # (of guests it would be the same in each row)
+        taken = self._is_taken(session) if session.kind and self.is_full(session.kind) else ""
+        text = "; ".join(filter(None, (taken, self._before(session))))
+        row = {"station": session.name if session.kind else "", "session": session.number, "instruments": list(session.instruments), "by": session.by}
+        return {**row, "since": self.when(since), **self._line(session), "waits_for": self.keepers(session), "text": text}
 
     def _row(self, name: str, of: Optional[tuple[Session, int]]) -> dict[str, Any]:
         session, since = of or (None, self._keeping.idle_since.get(name, self._keeping.opened_at))
@@ -371,15 +396,3 @@ class Standings:
     def _is_untold(self, session: Session) -> bool:
         """It holds, and its client isn't told so before that is on the disk."""
         return session.state == "waiting" and self._holds(session)
-
-
-def _number_last(name: str) -> tuple[str, int]:
-    """The order of guest-2 and guest-10."""
-    word, _, number = name.rpartition("-")
-    return (word, int(number)) if number.isdigit() else (name, 0)
-
-
-def free_label(sessions: Iterable[Session]) -> str:
-    """The name of the next guest: that with the least number that nobody has."""
-    taken = {it.name for it in sessions}
-    return next(name for number in itertools.count(1) if (name := f"guest-{number}") not in taken)

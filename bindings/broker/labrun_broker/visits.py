@@ -208,6 +208,10 @@ class Visit:
         part = self.session.limited
         return lasting.told(part.home or self._keeping.peers[0], part)[0]
 
+    def for_whom(self) -> str:
+        """Another text whenever it waits for somebody else."""
+        return repr(self._keeping.for_whom(self.session)[2]) if self.state == WAITING and self.session is not None else ""
+
     def shown(self) -> dict[str, Any]:
         """As it is told: always with the same keys."""
         it, waits, lease = self.session, self.state == WAITING, None

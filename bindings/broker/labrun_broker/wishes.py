@@ -6,7 +6,7 @@ import hashlib
 import math
 import secrets
 from dataclasses import dataclass, replace
-from typing import TYPE_CHECKING, Any, Iterable, Optional, Sequence
+from typing import TYPE_CHECKING, Any, Callable, Iterable, Optional, Sequence
 
 from labrun import LabrunError, MayNotUse, NotHeld
 from labrun.picks import NoSuch, TooFew, TooMany, counted, is_plain, near, sets_of, some
@@ -111,8 +111,9 @@ def check_form(wish: Wish, bay: Bay) -> None:
         raise BadWish(f"a ticket has {LEAST_TICKET} characters or more")
 
 
-def check(wish: Wish, bay: Bay) -> None:
-    """Whether the bay has it for this client. BadWish, NoInstrument, MayNotUse or NotAllowed says what is wrong."""
+def check(wish: Wish, bay: Bay, taken_out: Callable[[str], str] = lambda name: "") -> None:
+    """Whether the bay has it for this client. BadWish, NoInstrument, MayNotUse or NotAllowed says what is wrong. `taken_out` says of an instrument
+    that the bay had before what became of it."""
     if wish.station and wish.station not in bay.stations:
         hint = "; guests ask without one" if wish.station in bay.guest_names else near(wish.station, bay.stations)
         raise BadWish(f"{wish.station} is no station of this {bay.what}: there are {some(tuple(bay.stations)) or 'none'}{hint}")
@@ -127,14 +128,14 @@ def check(wish: Wish, bay: Bay) -> None:
     may = _may_use(wish, bay)
     for name in filter(is_plain, wish.names):
         if name not in bay.instruments:
-            raise _no_such(name, bay)
+            raise _no_such(name, bay, taken_out(name))
         if name not in may:
             raise _may_not_use(wish, (name,), bay)
 
 
-def check_instrument(name: str, bay: Bay) -> None:
+def check_instrument(name: str, bay: Bay, taken_out: Callable[[str], str]) -> None:
     if name not in bay.instruments:
-        raise _no_such(name, bay)
+        raise _no_such(name, bay, taken_out(name))
 
 
 def _may_use(wish: Wish, bay: Bay) -> tuple[str, ...]:
@@ -212,10 +213,22 @@ def _is_there(words: Sequence[str], its: Sequence[str], bay: Bay) -> bool:
         return False
 
 
-def _no_such(name: str, bay: Bay) -> NoInstrument:
+def _no_such(name: str, bay: Bay, out: str) -> NoInstrument:
+    if out:
+        return NoInstrument(f"{name} is no instrument of this {bay.what} any more: {out}. There are {some(bay.instruments)}")
     its = name.split(",")
-    hint = f" (each is a word of its own: {' '.join(its)})" if len(its) > 1 and set(its) <= set(bay.instruments) else near(name, bay.instruments)
+    hint = f" (each is a word of its own: {' '.join(its)})" if len(its) > 1 and set(its) <= set(bay.instruments) else near_instrument(name, bay)
     return NoInstrument(f"{name or 'an empty name'} is no instrument of this {bay.what}: there are {some(bay.instruments)}{hint}")
+
+
+def near_instrument(name: str, bay: Bay) -> str:
+    """Which was meant, if one is nearly called so. (`load-2` isn't nearly `load-1`, but another one.)"""
+    number = _digits_of(name)
+    return near(name, [it for it in bay.instruments if not number or _digits_of(it) in (number, "")])
+
+
+def _digits_of(name: str) -> str:
+    return "".join(it for it in name if it.isdigit())
 
 
 def no_station(name: str, bay: Bay, sessions: Iterable[Session]) -> BadWish:

@@ -12,6 +12,7 @@ import socket
 import subprocess
 import sys
 import tempfile
+import threading
 import time
 import unittest
 from typing import IO, Any, Callable, Iterator, Optional
@@ -183,6 +184,32 @@ class OnBroker(unittest.TestCase):
 
     def lab(self, at: Broker, station: str = "") -> labrun_broker.Lab:
         return self.enterContext(at.lab(station))
+
+
+class Turns:
+    """The board holds the scope, for ann; then bob waits as the board, too; then he has it, although somebody waits for the scope and load-1, which
+    a guest keeps."""
+
+    def __init__(self, test: OnBroker, at: Broker) -> None:
+        of = lambda name, by: test.enterContext(labrun_broker.connect(at.address, station=name, by=by))
+        self.lab, self._bob = of("board", "ann"), of("board", "bob")
+        self._held, self._load = self.lab.hold("scope"), of("", "cem").hold("load-1")
+        self._load.acquire()
+        self._held.acquire()
+        self._waits = threading.Thread(target=lambda: self._bob.hold("scope", timeout=2 * LIMIT).acquire())
+        test.addCleanup(self._ends)
+
+    def bob_waits(self) -> None:
+        self._waits.start()
+        until(lambda: any(it["by"] == "bob" for it in self.lab.status()["in_line"]), "bob waits")
+
+    def ann_goes(self) -> None:
+        self._held.release()
+        self._waits.join(LIMIT)
+
+    def _ends(self) -> None:
+        if self._waits.is_alive():
+            self.ann_goes()
 
 
 def station(lab: labrun_broker.Lab, name: str) -> dict[str, Any]:

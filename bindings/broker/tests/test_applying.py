@@ -1,22 +1,27 @@
 """A bay that changes while sessions hold and wait."""
 
 import asyncio
+import json
 import os
 import signal
 import subprocess
 import sys
 import tempfile
 import threading
+import time
 import unittest
 from typing import Optional
 from unittest import mock
 
 from labrun import JournalError
 from labrun.store import FileStore
+from labrun_broker import places
 from labrun_broker.applying import apply, changes
 from labrun_broker.bay import BayFault, bay_of
 from labrun_broker.errors import BadWish, CantChange, NoInstrument
+from labrun_broker.folder import Folder
 from labrun_broker.keeping import Keeping
+from labrun_broker.outage import disable, enable
 from labrun_broker.places import Places
 from labrun_broker.wishes import Wish
 from tests.brokers import BAY, SOON, TOP, Broker, OnBroker, station, until
@@ -56,7 +61,73 @@ class OfAWholeLife(unittest.TestCase):
         full = Places().with_bay(bay_of(bay(*most)))
         with self.assertRaisesRegex(BayFault, r"^instruments: 64 in the file and 1 taken out before; a state folder, or etcd, has places for 64 of both in all its life: use the name of one that was taken out \(load-0\), or begin anew"):
             full.with_bay(bay_of(bay(*most[1:], "oven")))
-        self.assertEqual(full.with_bay(bay_of(bay(*most[2:]))).with_bay(bay_of(bay(*most[1:]))), full)
+        again = full.with_bay(bay_of(bay(*most[2:]))).with_bay(bay_of(bay(*most[1:])))
+        self.assertEqual((again.instruments, again.stations), (full.instruments, full.stations))
+
+
+class TakenOut(OnFolder):
+    """Whoever asks for an instrument that was taken out is told so, and not that another one may be meant."""
+
+    async def why(self, keeping: Keeping, name: str) -> str:
+        with self.assertRaises(NoInstrument) as caught:
+            await keeping.hold(Wish((name,)), Owner())
+        for does in (disable(keeping, name, "", "ann"), enable(keeping, name, "ann")):
+            with self.assertRaises(NoInstrument) as other:
+                await does
+            self.assertEqual(str(other.exception), str(caught.exception))
+        return str(caught.exception)
+
+    async def test_by_whom_and_when(self) -> None:
+        """Also after a restart; by another file with which the broker began, nobody is named; and one that is back is as any."""
+        folder, there = self.folder(), "There are supply, load-1, load-2"
+        keeping = await self.keeping(folder)
+        await apply(keeping, LESS, "ana: ana@bench-3 4711 labrun-broker", False)
+        told = rf"^scope is no instrument of this bay any more: it was taken out \d\d? s ago by ana: ana@bench-3 4711 labrun-broker\. {there}$"
+        with mock.patch.object(places.time, "time", lambda now=time.time: now() + 2 * 3600):
+            self.assertRegex(await self.why(keeping, "scope"), r"^scope is .* taken out 2 h 0 min ago by ana: ana@")
+        self.assertRegex(await self.why(keeping, "scope"), told)
+        # (another change doesn't take it out once more)
+        await apply(keeping, LESS.replace("count = 4", "count = 5"), "eve", False)
+        await keeping.close()
+        again = await self.keeping(folder, LESS)
+        self.assertRegex(await self.why(again, "scope"), told)
+        await again.close()
+        fewer = await self.keeping(folder, LESS.replace(', "load-2"', ""))
+        self.assertRegex(
+            await self.why(fewer, "load-2"),
+            r"^load-2 is no instrument of this bay any more: it was taken out \d\d? s ago by the file with which the broker began\. There are supply, load-1$",
+        )
+        await apply(fewer, BAY, "ana", False)
+        await fewer.hold(Wish(("scope",)), Owner())
+
+    async def test_of_an_older_broker_s_folder(self) -> None:
+        """It doesn't say when, nor who did it; and goes on as it is, also where nothing can be written."""
+        folder = self.folder()
+        await (await self.keeping(folder)).close()
+        with open(path := f"{folder}/bay.json", encoding="utf-8") as file:
+            its = json.load(file)
+        self.assertEqual(its.pop("former"), {})
+        with open(path, "w", encoding="utf-8") as file:
+            json.dump(its, file)
+        with mock.patch.object(Folder, "keeps", side_effect=OSError(28, "No space left on device")):
+            await (await self.keeping(folder)).close()
+        less = await self.keeping(folder, LESS)
+        self.assertEqual(await self.why(less, "scope"), "scope is no instrument of this bay any more: it was taken out. There are supply, load-1, load-2")
+
+    async def test_without_a_folder(self) -> None:
+        keeping = Keeping(bay_of(BAY))
+        await keeping.open()
+        self.addAsyncCleanup(keeping.close)
+        await apply(keeping, LESS, "ana", False)
+        self.assertRegex(await self.why(keeping, "scope"), r"any more: it was taken out \d\d? s ago by ana\. There are ")
+
+    async def test_no_other_number_is_meant(self) -> None:
+        """`load-3` was never there, and is no slip of the hand for `load-1`."""
+        keeping = await self.keeping(self.folder())
+        there = "there are scope, supply, load-1, load-2"
+        for name, hint in (("load-3", ""), ("laod-3", ""), ("laod-2", " (did you mean load-2?)"), ("scop3", " (did you mean scope?)"), ("load", " (did you mean load-2?)")):
+            with self.subTest(name):
+                self.assertEqual(await self.why(keeping, name), f"{name} is no instrument of this bay: {there}{hint}")
 
 
 class OnApplied(OnFolder):

@@ -2,6 +2,7 @@
 
 from __future__ import annotations
 
+import re
 import shutil
 import time
 import unittest
@@ -146,6 +147,39 @@ class Browser(unittest.TestCase):
         self.at(0)
         self.do("tell", "note", "night")
         self.seen("#waits", lambda text: "board → supply: drive has held for 1 min, and waits in the bay south → oven: night has held for 2 min" in " ".join(text.split()))
+
+    def test_which_of_a_station_waits_for_which(self) -> None:
+        """Of two that wait as one station; the broker says so of the second, and nothing else contradicts that."""
+        self.at(60)
+        self.do("hold", "night", "oven")
+        self.at(30)
+        self.do("ask", "radio", "oven", by="ann@bench-3 4711 sh")
+        self.at(0)
+        keeping, night = self.web.keeping, self.web.keeping.stations["night"]
+        keeping.stations["radio"]["session"] = 2
+        waits = {"instrument": "oven", "station": "night", "session": 1, "holds": True, "since": night["since"], "text": "oven is held by night"}
+        row = {"station": "radio", "session": 3, "instruments": ["oven"], "by": "cem@bench-4 815 python", "since": time.time(), "place": 2, "passed": 1}
+        text = "session 2 of radio (ann@bench-3 4711 sh) waits before this one: a station is in one session at a time"
+        row |= {"urgent": False, "keeps_place": False, "waits_for": [waits], "text": text}
+        does, more = keeping.status, dict[str, Any]()
+
+        def status() -> Any:
+            it = does()
+            rows = [{**one, "waiting": [*one["waiting"], "radio"] if one["name"] == "oven" else one["waiting"]} for one in it["instruments"]]
+            return {**it, "overtakes": 4, "instruments": rows, "in_line": [{**row, **more}]}
+
+        keeping.status = status
+        self.do("note", "night", "now")
+        words = lambda: " ".join(self.text("#waits").split())
+        self.seen("#waits", lambda text: "cem@bench-4" in text)
+        self.assertRegex(words(), r"^radio \(session 2, ann@bench-3 4711 sh\) waits for oven: 3\d s radio → oven: night has held for 1 min cem@bench-4 815 python \(session 3\) waits as radio for oven: \d+ s, ")
+        self.assertIn(f", number 2 in line; 1 that asked later went first, and after 4 what it needs is kept for it radio → oven: night has held for 1 min {text}", words())
+        self.assertIn("2 wait: radio (2 sessions)", self.text(self.row("oven")))
+        taken = "radio has been in session 2 for 3.0 s (ann@bench-3 4711 sh), and a station is in one at a time"
+        more |= {"waits_for": [], "text": taken}
+        self.do("note", "night", "later")
+        self.seen("#waits", lambda text: taken in text)
+        self.assertRegex(words(), rf"cem@bench-4 815 python \(session 3\) waits for radio to be idle, and then for oven: \d+ s, number 2 in line {re.escape(taken)}$")
 
     def test_hostile_text_is_shown_as_text(self) -> None:
         evil = "<img src=x onerror=\"document.title='evil'\"><script>document.title='evil'</script>\u202e" + "m" * 400

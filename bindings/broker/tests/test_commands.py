@@ -21,8 +21,9 @@ from unittest import mock
 import labrun
 from labrun_broker.__main__ import main as begins
 from labrun_broker.client import _who
-from labrun_broker.command import lines_of, main
+from labrun_broker.command import main
 from labrun_broker.run import Signals
+from labrun_broker.telling import lines_of
 from tests.brokers import BAY, COMMAND, LIMIT, SOON, TOP, UNHEARD, Broker, OnBroker, heard, station, until
 
 # (two runs of these tests at once look for the sleeps of their own)

@@ -32,7 +32,7 @@ from labrun_broker.keeping import Keeping
 from labrun_broker.visits import WAITING, Visits
 from labrun_broker.wishes import Ended, Wish
 from tests.asking import KINDS, OPENAPI, Asking, found
-from tests.brokers import BAY, LIMIT, SOON, TOP, Broker, OnBroker, free_port, until
+from tests.brokers import BAY, LIMIT, SOON, TOP, Broker, OnBroker, Turns, free_port, station, until
 
 SOCKET = ("--http", "unix:FOLDER/bay.sock.http")
 RELEASES = f'gone = "release"\n{BAY}'
@@ -222,6 +222,26 @@ class Sessions(OnHttp):
         self.assertEqual((rest[-1][0], rest[-1][1]["kind"]), ("over", "TakenAway"))
         status, heads, _ = one.raw("GET", f"/v1/sessions/{ticket}/events")
         self.assertEqual((status, heads["Content-Type"]), (410, "application/json; charset=utf-8"))
+
+    def test_events_of_the_next_session_of_a_station(self) -> None:
+        """Also where the station is whom it waits to be. (Else it would be told again after a while.)"""
+        folder = self.enterContext(tempfile.TemporaryDirectory())
+        text = "import sys\nfrom labrun_broker import command, http_door\nhttp_door.BEAT = 1000\nsys.exit(command.main())"
+        broker = Broker(folder, BAY, tuple(it.replace("FOLDER", folder) for it in SOCKET), [sys.executable, "-c", text])
+        self.addCleanup(broker.ends)
+        one = Asking(f"{folder}/bay.sock.http")
+        turns = Turns(self, broker)
+        its = [one.events(one.asks("scope", "load-1")[1]["ticket"])]
+        told = [next(its[0])[1]]
+        turns.bob_waits()
+        its.append(one.events(one.asks("supply", station="board")[1]["ticket"]))
+        told.append(next(its[1])[1])
+        self.assertEqual(["(ann)" in about["text"] for about in told], [True, True])
+        turns.ann_goes()
+        texts = [next(events)[1]["text"] for events in its]
+        self.assertRegex(texts[0], r"scope has been held by board for .* \(bob\)")
+        self.assertRegex(texts[1], r"^board has been in session 4 for .* \(bob\)")
+        self.assertEqual([(it["instrument"], it["session"]) for it in station(turns.lab, "guest-2")["waits_for"]], [("scope", 4), ("load-1", 1)])
 
     def test_events_when_the_broker_ends(self) -> None:
         """None says that the session is over: it holds on, and the next broker has it."""

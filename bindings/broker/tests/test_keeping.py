@@ -4,6 +4,7 @@ import asyncio
 import json
 import os
 import random
+import re
 import tempfile
 import threading
 import time
@@ -21,6 +22,7 @@ from labrun_broker.keeping import Keeping
 from labrun_broker.places import Places
 from labrun_broker.sessions import Past, read_records
 from labrun_broker.standing import Session, Standings
+from labrun_broker.telling import lines_of
 from labrun_broker.wishes import Ended, Wish
 from tests.brokers import BAY, LIMIT
 
@@ -288,7 +290,7 @@ class Sessions(OnKeeping):
     async def test_a_station_is_in_one_session(self) -> None:
         keeping = await self.keeping()
         seat = await self.holds(keeping, "supply", station="board", by="ann")
-        with self.assertRaisesRegex(TimedOut, r"board has been in a session for \d\.\d s \(ann\), and a station is in one at a time"):
+        with self.assertRaisesRegex(TimedOut, r"board has been in session 1 for \d\.\d s \(ann\), and a station is in one at a time"):
             await self.holds(keeping, "scope", station="board", timeout=0.02)
         waits = await self.asks(keeping, "scope", station="board")
         await keeping.let_go(seat, self.owner)
@@ -307,6 +309,81 @@ class Sessions(OnKeeping):
         self.assertEqual(((await waits[0]).instruments, waits[1].done()), (("scope",), False))
         await keeping.let_go(await waits[0], self.owner)
         self.assertEqual((await waits[1]).instruments, ("supply",))
+
+    async def test_which_of_a_station_waits_for_which(self) -> None:
+        """Before one of them holds, and after that: what each is told, and `status`."""
+        keeping = await self.keeping()
+        guest = await self.holds(keeping, "scope", by="ben@bench-1 7 sh")
+        first = await self.asks(keeping, "scope", station="board", by="ann@bench-3 4711 sh")
+        second = await self.asks(keeping, "scope", station="board", by="cem@bench-4 815 python")
+        text = lambda number: re.sub(r"\d+(\.\d)? s\b", "N s", keeping.for_whom(keeping.by_number[number])[1])
+        rows = lambda: [re.sub(r" \d+(\.\d)? s\b", " N s", it) for it in lines_of(keeping.status())[2:]]
+        held = "scope has been held by guest-1 for N s (ben@bench-1 7 sh)"
+        before = "session 2 of board (ann@bench-3 4711 sh) waits before this one"
+        self.assertEqual((text(2), text(3)), (held, f"{held}; {before}: a station is in one session at a time"))
+        self.assertEqual(
+            [re.split("  +", it.strip()) for it in rows() if it],
+            [
+                ["INSTRUMENT", "HELD BY", "FOR", "WAITING"],
+                ["scope", "guest-1", "N s", "board (2 sessions)"],
+                ["supply", "-"], ["load-1", "-"], ["load-2", "-"],
+                ["STATION", "FOR", "INSTRUMENTS", "BY"],
+                ["board", "waiting", "N s", "scope", "ann@bench-3 4711 sh"],
+                ["session 2, number 1 in line"],
+                [held],
+                ["guest-1", "holding", "N s", "scope", "ben@bench-1 7 sh"],
+                ["board", "in line", "N s", "scope", "cem@bench-4 815 python"],
+                ["session 3, number 2 in line"],
+                [held],
+                [f"{before}: a station is in one session at a time"],
+            ],
+        )  # fmt: skip
+        (row,) = keeping.status()["in_line"]
+        self.assertEqual((row["session"], [(it["instrument"], it["session"]) for it in row["waits_for"]]), (3, [("scope", 1)]))
+        third = await self.asks(keeping, "supply", "load-1", station="", by="dee")
+        await third
+        fourth = await self.asks(keeping, "supply", station="board", by="eve")
+        self.assertTrue(text(5).endswith("; session 2 of board (ann@bench-3 4711 sh) and 1 more wait before this one: a station is in one session at a time"), text(5))
+        await keeping.let_go(guest, self.owner)
+        board = await first
+        taken = "board has been in session 2 for N s (ann@bench-3 4711 sh), and a station is in one at a time"
+        behind = "session 3 of board (cem@bench-4 815 python) waits before this one"
+        self.assertEqual((text(3), text(5)), (taken, f"{taken}; {behind}"))
+        self.assertEqual(
+            [re.split("  +", it.strip()) for it in rows()[-10:] if it],
+            [
+                ["STATION", "FOR", "INSTRUMENTS", "BY"],
+                ["board", "holding", "N s", "scope", "ann@bench-3 4711 sh"],
+                ["session 2"],
+                ["guest-2", "holding", "N s", "supply load-1", "dee"],
+                ["board", "in line", "N s", "scope", "cem@bench-4 815 python"],
+                ["session 3, number 1 in line"],
+                [taken],
+                ["board", "in line", "N s", "supply", "eve"],
+                ["session 5, number 2 in line"],
+                [f"{taken}; {behind}"],
+            ],
+        )
+        # (the next one of the station takes over, and that is told)
+        told = keeping.for_whom(keeping.by_number[5])[2]
+        self.assertEqual(keeping.for_whom(keeping.by_number[5])[2], told)
+        await keeping.let_go(board, self.owner)
+        await second
+        self.assertNotEqual(keeping.for_whom(keeping.by_number[5])[2], told)
+        fourth.cancel()
+
+    async def test_for_which_session_it_is_kept(self) -> None:
+        """Of a station that waits in several, for whoever waits as it and for others."""
+        keeping = await self.keeping("overtakes = 0\n" + BAY)
+        await self.holds(keeping, "scope", station="radio")
+        its = [await self.asks(keeping, "scope", "supply", station="board", by="ann"), await self.asks(keeping, "supply", station="board", by="cem")]
+        its.append(await self.asks(keeping, "supply"))
+        texts = [keeping.for_whom(keeping.by_number[number])[1] for number in (3, 4)]
+        kept = r"supply is kept for session 2 of board \(ann\) until it holds, since it asked first and it waits for scope, held by radio for \d+\.\d s"
+        self.assertRegex(texts[0], rf"^{kept}; session 2 of board \(ann\) waits before this one: a station is in one session at a time$")
+        self.assertRegex(texts[1], rf"^{kept}$")
+        for task in its:
+            task.cancel()
 
     async def test_any_of(self) -> None:
         keeping = await self.keeping()

@@ -18,7 +18,7 @@ from importlib.util import find_spec
 
 import labrun_broker
 from tests.asking import Asking
-from tests.brokers import BAY, COMMAND, LIMIT, TOP, UNHEARD, Broker, OnBroker, broker, free_port, heard, station, stopped, until
+from tests.brokers import BAY, COMMAND, LIMIT, TOP, UNHEARD, Broker, OnBroker, Turns, broker, free_port, heard, station, stopped, until
 from tests.proxies import OfSockets, Ways
 from tests.test_people import ANA, BOB, PEOPLE, WITHOUT_BOB
 from tests.test_warned import LONG, SOONER, THEN
@@ -213,6 +213,22 @@ class Held(OnBroker):
         one.lets_go(ticket)
         self.assertEqual((waits.wait(LIMIT), waits.stderr.read()), (0, ""))
         waits.stderr.close()
+
+    def test_it_says_the_next_session_of_a_station(self) -> None:
+        """Also if it waits to be that station itself."""
+        broker, _ = self.at()
+        turns = Turns(self, broker)
+        its = [self.enterContext(self.waits(broker, "scope", "load-1", "--", "true"))]
+        says = lambda one: heard(one.stderr)
+        self.assertRegex(says(its[0]), r"^labrun-hold: waits: scope has been held by board for .* \(ann\), load-1 has been held by guest-1 for .* \(cem\)$")
+        turns.bob_waits()
+        its.append(self.enterContext(self.waits(broker, "supply", "--station", "board", "--", "true")))
+        self.assertRegex(says(its[1]), r"^labrun-hold: waits: board has been in session 2 for .* \(ann\), and a station is in one at a time; session 4 of board \(bob\) waits before this one$")
+        turns.ann_goes()
+        self.assertRegex(says(its[0]), r"scope has been held by board for .* \(bob\), load-1 has been held by guest-1 for")
+        self.assertRegex(says(its[1]), r"board has been in session 4 for .* \(bob\), and a station is in one at a time$")
+        for one in its:
+            one.kill()
 
     def test_it_is_told_that_whom_it_waits_for_is_gone(self) -> None:
         broker, _ = self.at()

@@ -27,11 +27,13 @@ from labrun_broker.client import methods_of
 from labrun_broker.command import main
 from labrun_broker.door import Door
 from labrun_broker.entrance import Entrance, NotLetIn
-from labrun_broker.errors import CantChange, NoInstrument, NotAllowed, Unreachable
+from labrun_broker.errors import CantChange, NoInstrument, NotAllowed, OutOfOrder, Unreachable
 from labrun_broker.front import Fronts
 from labrun_broker.keeping import Keeping
+from labrun_broker.outage import disable
 from labrun_broker.people import digest_of
 from labrun_broker.service import Service
+from labrun_broker.telling import lines_of
 from labrun_broker.users import Users
 from labrun_broker.wishes import Wish, resolved
 from tests.asking import Asking
@@ -162,6 +164,36 @@ class Rights(OnFolder):
         with self.assertRaisesRegex(labrun_broker.TimeoutError, "load-1 has been held by guest-1 for .* \\(bob: bob@bench-3 4711 sh\\)"):
             await keeping.hold(Wish(("load-*",), person="cat", timeout=0.05), owner)
         self.assertEqual((how(keeping, "guest-2")["by"], (await keeping.hold(Wish(("load-2",), person="ana"), owner)).by), ("cat", "ana"))
+
+    async def test_who_is_told_how_to_enable(self) -> None:
+        """The command is for whoever may give it; everybody else is told whom to ask, also who waits as it goes out of order."""
+        command, ask = "once it is mended: labrun-broker enable load-1", "once it is mended, ask an operator to enable it: ana"
+        nobody = "nobody may enable it: the bay's file names no operators"
+        two = 'operators = ["ana", "dan"]'
+        for bay, its in (
+            (PEOPLE, {"ana": command, "bob": ask}),
+            (PEOPLE.replace('operators = ["ana"]', two), {"ana": command, "bob": f"{ask}, dan"}),
+            (PEOPLE.replace('operators = ["ana"]', ""), {"ana": nobody, "bob": nobody}),
+            (BAY, {"": command}),
+        ):
+            keeping = Keeping(bay_of(bay))
+            await keeping.open()
+            self.addAsyncCleanup(keeping.close)
+            await keeping.hold(Wish(("load-1",), person=next(iter(its))), Owner())
+            waits = {who: asyncio.create_task(keeping.hold(Wish(("load-1",), person=who), Owner())) for who in its}
+            await asyncio.sleep(0.02)
+            await disable(keeping, "load-1", "no fuse", "eve")
+            for who, told in its.items():
+                text = rf"load-1 has been out of order for \d+\.?\d* s: no fuse \(says eve; {re.escape(told)}\)$"
+                with self.subTest(bay=bay, who=who):
+                    with self.assertRaisesRegex(OutOfOrder, text):
+                        await waits[who]
+                    with self.assertRaisesRegex(OutOfOrder, text):
+                        await keeping.hold(Wish(("load-1",), person=who), Owner())
+                    its_status = {it["name"]: it["to_enable"] for it in keeping.status(who)["instruments"]}
+                    self.assertEqual(its_status, {"scope": "", "supply": "", "load-1": told, "load-2": ""})
+                    said = "\n".join(lines_of(keeping.status(who)))
+                    self.assertRegex(said, rf"\nload-1 has been out of order for \d+ s: no fuse \(says eve; {re.escape(told)}\)\n")
 
     async def test_another_s_session(self) -> None:
         """Only who it is of comes with its ticket, and ends it; or an operator. So it is over a restart."""
@@ -323,7 +355,11 @@ class Brokers(OnPeople):
             self.assertEqual((ran.returncode, ran.stderr), (77, f"labrun-broker: cat may not {does}; operators: ana\n"))
         token = ("--token-file", f"{broker.folder}/ana")
         self.assertEqual(broker.ran("disable", "scope", "no trigger", *token).returncode, 0)
-        self.assertRegex(broker.ran("status").stdout, r"scope has been out of order for \d+ s: no trigger \(says ana: .*@")
+        out = r"scope has been out of order for \d+ s: no trigger \(says ana: .*@.*; "
+        # (of a shell's user, of an operator, and of whoever only looks)
+        for words, told in (((), "once it is mended, ask an operator to enable it: ana"), (token, "once it is mended: labrun-broker enable scope")):
+            self.assertRegex(broker.ran("status", *words).stdout, rf"\n{out}{told}\)\n")
+        self.assertRegex(broker.ran("hold", "scope", "--", "true").stderr, rf"{out}once it is mended, ask an operator to enable it: ana\)\n$")
         ran = broker.ran("hold", "supply", "--by", "night", *token, "--", *broker_status(broker))
         self.assertIn("ana: night", ran.stdout)
         with quick.Quick(f"{broker.folder}/bay.sock", quick.Wish(("load-1",), (), "", "", None), None, self.fail, lambda: None, ANA) as held:
@@ -460,6 +496,9 @@ class ByHttp(OnPeople):
         ticket = his.holds("load-1", by="me")
         self.assertEqual(nobody.status("guest-1")["by"], "bob: me")
         self.assertEqual(his.asks("scope"), (403, {"kind": "MayNotUse", "text": "bob may not have scope; operators: ana"}))
+        self.by(broker, "ana").disable("supply")
+        said = [next(it["to_enable"] for it in one.ask("GET", "/v1/status")[1]["instruments"] if it["name"] == "supply") for one in (nobody, his, hers)]
+        self.assertEqual(said, [*["once it is mended, ask an operator to enable it: ana"] * 2, "once it is mended: labrun-broker enable supply"])
         status, told = hers.of(ticket, "/ping", "POST")
         self.assertEqual((status, told["kind"]), (403, "NotAllowed"))
         self.assertEqual(hers.asks("load-2", ticket=ticket)[0], 403)

@@ -26,7 +26,7 @@ from labrun_broker.bay import BadAddress
 from labrun_broker.door import Door, Seldom, is_loopback
 from labrun_broker.service import Pace
 from labrun_broker.stream import Lost, Stream
-from tests.brokers import BAY, LIMIT, SOON, Broker, OnBroker, certificate, free_port, station, until
+from tests.brokers import BAY, LIMIT, SOON, Broker, OnBroker, Turns, certificate, free_port, station, until
 
 HOLDS = """
 import sys, labrun_broker
@@ -191,6 +191,32 @@ class Clients(OnBroker):
             lab.hold("scope", timeout=0.1).acquire()
         lab.release("guest-1")
         thread.join(LIMIT)
+
+    def test_the_next_session_of_the_same_station(self) -> None:
+        """Whoever waits for what the station holds, or to be the station itself, is told again: what it was told is of a session that is over."""
+        broker, told, as_board = self.broker(), list[str](), list[str]()
+        turns, lab = Turns(self, broker), self.lab(broker)
+
+        def waits(*names: str, told: list[str], **more: Any) -> None:
+            threading.Thread(target=lambda: lab.hold(*names, timeout=3 * LIMIT, waits=told.append, **more).acquire(), daemon=True).start()
+            until(lambda: told, "it waits")
+
+        waits("scope", "load-1", told=told)
+        turns.bob_waits()
+        waits("supply", station="board", told=as_board)
+        turns.ann_goes()
+        until(lambda: "by board" in told[-1] and "(bob)" in told[-1], "it is told again")
+        until(lambda: as_board[-1].startswith("board has been in session 4"), "it is told again")
+        span = r"for \d+(\.\d)? s"
+        self.assertRegex(told[0], rf"^scope has been held by board {span} \(ann\), load-1 has been held by guest-1 {span} \(cem\)$")
+        self.assertRegex(told[-1], rf"^scope has been held by board {span} \(bob\), load-1 has been held by guest-1 {span} \(cem\)$")
+        its, last = station(turns.lab, "guest-2")["waits_for"][0], station(turns.lab, "board")
+        self.assertEqual((its["session"], its["since"]), (last["session"], last["since"]))
+        self.assertRegex(as_board[0], rf"^board has been in session 2 {span} \(ann\), and a station is in one at a time; session 4 of board \(bob\) waits before this one$")
+        self.assertRegex(as_board[-1], rf"^board has been in session 4 {span} \(bob\), and a station is in one at a time$")
+        for name, its in (("board", ["supply"]), ("guest-1", ["scope", "load-1"])):
+            lab.release(name)
+            until(lambda: any(it["state"] == "holding" and it["instruments"] == its for it in lab.status()["stations"]), "the next one holds")
 
     def test_who_waits_while_brokers_come_and_go(self) -> None:
         """It tries for a while to reach each of them, however long ago it lost the first."""

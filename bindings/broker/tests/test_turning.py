@@ -13,7 +13,7 @@ from unittest import mock
 import labrun.store
 from labrun import JournalError
 from labrun.store import FileStore
-from labrun_broker import shell, turning
+from labrun_broker import records, shell, turning
 from labrun_broker.bay import bay_of
 from labrun_broker.keeping import Keeping
 from labrun_broker.sessions import read_records
@@ -263,6 +263,78 @@ class Fails(OnSmall):
             may.set()
             await lets_go
         self.assertEqual(journal_of(folder).count(b" let_go "), 2)
+
+
+class Ends(OnSmall):
+    """A broker that ends just as the journal is about to begin anew: whoever opens the folder next meets no write of it."""
+
+    async def grown(self) -> str:
+        """A folder whose journal has more than some hundred bytes."""
+        folder = self.folder()
+        keeping = await self.small(folder, 1 << 20)
+        await self.works(keeping, "load-1", times=3)
+        await keeping.close()
+        return folder
+
+    async def test_nothing_is_written_once_it_has_ended(self) -> None:
+        folder, made, real = await self.grown(), list[str](), FileStore.anew
+
+        def anew(store: FileStore, text: bytes) -> None:
+            made.append("begun")
+            threading.Event().wait(0.3)
+            real(store, text)
+            made.append("ended")
+
+        with mock.patch.object(FileStore, "anew", anew):
+            # (the end's own sync finds the bay quiet)
+            await (await self.small(folder, 100)).close()
+            self.assertEqual(made, ["begun", "ended"])
+        self.assertEqual(sorted(os.listdir(folder)), ["bay.journal", "bay.json", "records.jsonl"])
+        again = await self.small(folder, 1 << 20)
+        self.assertEqual(again._next, 4)
+
+    async def test_a_disk_that_hangs(self) -> None:
+        """Nobody waits for ever for its end; and nobody else has the folder before the disk has answered."""
+        folder, real = await self.grown(), FileStore.anew
+        begun, may, ended = (threading.Event() for _ in range(3))
+        self.addCleanup(may.set)
+
+        def anew(store: FileStore, text: bytes) -> None:
+            begun.set()
+            may.wait(LIMIT)
+            real(store, text)
+            ended.set()
+
+        with mock.patch.object(FileStore, "anew", anew), mock.patch.object(shell, "CLOSING", 0.5):
+            keeping = await self.small(folder, 100)
+            async with asyncio.timeout(LIMIT / 2):
+                await keeping.close()
+            self.assertTrue(begun.is_set())
+            with self.assertRaisesRegex(JournalError, "another process has it open"):
+                FileStore(f"{folder}/bay.journal")
+            may.set()
+            await eventually(ended.is_set)
+        assert keeping._opened.state is not None
+        keeping._opened.state.close()
+        self.assertEqual((await self.small(folder, 1 << 20))._next, 4)
+
+    async def test_records_that_could_not_be_written(self) -> None:
+        """By then the number of their file may be another's."""
+        folder = self.folder()
+        kept, real = records.Records(f"{folder}/records.jsonl"), os.write
+
+        def write(file: int, text: bytes) -> int:
+            if file == kept.file:
+                raise OSError(28, "No space left on device")
+            return real(file, text)
+
+        kept.add({"what": "note"})
+        with mock.patch("os.write", write):
+            kept.close()
+        with open(f"{folder}/other", "xb", buffering=0) as other:
+            self.assertEqual(other.fileno(), kept.file)
+            await asyncio.sleep(2 * records.AGAIN)
+        self.assertEqual(os.path.getsize(f"{folder}/other"), 0)
 
 
 class Files(unittest.TestCase):

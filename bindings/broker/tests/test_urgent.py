@@ -11,11 +11,11 @@ from unittest import mock
 
 from labrun_broker import people
 from labrun_broker.bay import bay_of
-from labrun_broker.command import lines_of
 from labrun_broker.errors import BadWish, NotAllowed
 from labrun_broker.http_words import wish_of_body
 from labrun_broker.labs import OF_THE_LAB
 from labrun_broker.standing import Session
+from labrun_broker.telling import lines_of
 from labrun_broker.wishes import Wish, check
 from tests.brokers import BAY, OnBroker, station, until
 from tests.test_keeping import OnFolder, OnKeeping, how

@@ -17,10 +17,10 @@ from unittest import mock
 import labrun
 import labrun_broker
 from labrun_broker import records, shell
-from labrun_broker.command import lines_of
 from labrun_broker.keeping import Keeping
 from labrun_broker.past import read_past
 from labrun_broker.standing import Session, Standings
+from labrun_broker.telling import lines_of
 from labrun_broker.wishes import Wish
 from tests.brokers import BAY, COMMAND, LIMIT, SOON, Broker, OnBroker
 from tests.test_keeping import TICKET, OnFolder, Owner, eventually, how, whats

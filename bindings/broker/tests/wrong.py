@@ -332,6 +332,23 @@ WRONG = {
     "one that waits isn't told that the disk doesn't keep it any more": Wrong(
         "test_written.FullDisk.test_who_waits_for_the_disk", "standing.py", ((", why.count(ONCE))", ")"),)
     ),
+    "one that waits isn't told of the station's next session": Wrong(
+        "test_service.Clients.test_the_next_session_of_the_same_station", "standing.py", (("it[\"session\"], it[\"holds\"]", "it[\"station\"], it[\"holds\"]"),)
+    ),
+    "one that waits as a station isn't told of its next session": Wrong(
+        "test_service.Clients.test_the_next_session_of_the_same_station", "standing.py", (("tuple(it.number for it, _, _ in self.holders if it.kind == session.kind) if session.kind else ", ""),)
+    ),
+    "one that gives a folder away while it writes there": Wrong(
+        "test_turning.Ends.test_nothing_is_written_once_it_has_ended", "keeping.py", (("(state.lets_wait or await self._shell.has_ended())", "True"),)
+    ),
+    "one that gives a folder away while the disk hangs": Wrong(
+        "test_turning.Ends.test_a_disk_that_hangs", "shell.py", (("self._last is not None and not (await asyncio.wait({self._last}, timeout=CLOSING))[1]", "True"),)
+    ),
+    "people: everybody is told the command": Wrong(
+        "test_people.Rights.test_who_is_told_how_to_enable", "rights.py", (("if not people or person in people.operators:\n        return f\"once", "if True:\n        return f\"once"),)
+    ),
+    "one that forgets who took something out": Wrong("test_applying.TakenOut.test_by_whom_and_when", "places.py", (("**out, **gone, **former}", "**out, **gone}"),)),
+    "one that guesses another number": Wrong("test_applying.TakenOut.test_no_other_number_is_meant", "wishes.py", (("if not number or _digits_of", "if True or _digits_of"),)),
 }
 
 

@@ -10,7 +10,7 @@ from . import seen
 from .desk import SocketDesk
 from .labs import BrokerLab, Lab, LabFault, OwnLab
 from .needs import Bay
-from .past import Past
+from .past import ALONE, Past
 from .plugin import Runner, broker_of, timeout_of
 from .server import Server
 
@@ -100,7 +100,7 @@ class Alone(Runner):
         self.server = _server(config, self.past)
         _started(self.server)
         assert isinstance(self.server.lab, BrokerLab)
-        super().__init__(SocketDesk(self.server.path, "alone"), self.server.lab.bay if bay is None else bay, timeout)
+        super().__init__(SocketDesk(self.server.path, ALONE), self.server.lab.bay if bay is None else bay, timeout)
 
     @pytest.hookimpl(trylast=True)
     def pytest_sessionfinish(self) -> None:

@@ -7,7 +7,7 @@ import os
 import socket
 from typing import Any, Optional, Protocol, Sequence
 
-from .past import Held, Past
+from .past import ALONE, Held, Past
 
 Way = tuple[str, ...]
 
@@ -40,7 +40,7 @@ class AloneDesk:
         pass
 
     def hold(self, test: str, ways: Sequence[Way], timeout: Optional[float]) -> tuple[Way, float]:
-        self._held = self.past.asks(test, "alone", ways[0])
+        self._held = self.past.asks(test, ALONE, ways[0])
         self._held.held = self._held.asked
         return ways[0], 0.0
 

@@ -6,6 +6,14 @@ import time
 from dataclasses import dataclass, field
 from typing import Mapping, Optional
 
+# in place of a worker's name
+ALONE = "alone"
+
+
+def told(test: str, worker: str) -> str:
+    """Whose session it is, for people."""
+    return f"{test} ({'pytest without workers' if worker == ALONE else worker})"
+
 
 @dataclass
 class Held:

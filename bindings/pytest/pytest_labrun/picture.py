@@ -6,7 +6,7 @@ import math
 from html import escape
 from typing import Sequence
 
-from .past import Held
+from .past import Held, told
 
 _LEFT, _RIGHT, _ROW, _HEAD, _WIDE = 150, 20, 26, 30, 1200
 _COLOURS = ("#9ecae1", "#a1d99b", "#fdd0a2", "#bcbddc", "#c7e9c0", "#fee391", "#d9d9d9", "#80cdc1")
@@ -110,6 +110,6 @@ class _Picture:
 
     def _told(self, it: Held) -> str:
         ends = {"done": "", "late": ", and gave up", "gone": ", and its worker crashed", "taken": ", and it was taken away"}
-        lines = [f"{it.test} ({it.worker}): {' '.join(it.instruments)}", f"waited {it.waited:.2f} s, held {it.took:.2f} s{ends.get(it.end, '')}"]
+        lines = [f"{told(it.test, it.worker)}: {' '.join(it.instruments)}", f"waited {it.waited:.2f} s, held {it.took:.2f} s{ends.get(it.end, '')}"]
         lines += [f"for {name}, at which was {by}" for name, by in it.kept.items()]
         return "\n".join([*lines, *it.notes])

@@ -16,7 +16,7 @@ from dataclasses import dataclass
 from typing import Any, Callable, Optional, Sequence
 
 from .labs import Lab, LabFault, Way
-from .past import Held, Past
+from .past import Held, Past, told
 
 _LONGEST_LINE = 1 << 28
 
@@ -255,7 +255,7 @@ class _Worker:
 
     async def _holds(self, held: Held, ways: tuple[Way, ...], timeout: Optional[float]) -> None:
         server, past = self.server, self.server.past
-        async with server.lab.hold(f"{held.test} ({self.name})", ways, timeout, lambda fault: self.is_taken(held, fault)) as session:
+        async with server.lab.hold(told(held.test, self.name), ways, timeout, lambda fault: self.is_taken(held, fault)) as session:
             held.held, self.at = past.now(), session
             taken = next(at for at, way in enumerate(ways) if set(way) == set(session.instruments))
             held.instruments = ways[taken]

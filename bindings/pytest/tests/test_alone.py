@@ -60,7 +60,7 @@ def test_nothing_waits_and_no_table_is_printed(pytester: pytest.Pytester, run: R
     assert lines[0] == "test,worker,instruments,asked,waited,held,end,kept_by,notes" and len(lines) == 2
     assert lines[1].startswith("test_nothing_waits_and_no_table_is_printed.py::test_it,alone,scope supply,") and lines[1].endswith(",done,,two")
     assert '<property name="lab_waited" value="0.0"' in (pytester.path / "it.xml").read_text()
-    assert "test_it (alone): scope supply" in (pytester.path / "it.svg").read_text()
+    assert "test_it (pytest without workers): scope supply" in (pytester.path / "it.svg").read_text()
 
 
 @pytest.mark.parametrize(

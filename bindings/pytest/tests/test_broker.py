@@ -200,3 +200,23 @@ def test_by(pytester: pytest.Pytester, run: Run, broker: str, monkeypatch: pytes
         """
     )
     run("--lab-broker", broker).assert_outcomes(passed=1)
+
+
+@pytest.mark.parametrize(("words", "worker"), [((), "pytest without workers"), (("-n", "1"), "gw0")], ids=["alone", "workers"])
+def test_which_test_it_is(pytester: pytest.Pytester, run: Run, broker: str, monkeypatch: pytest.MonkeyPatch, words: tuple[str, ...], worker: str) -> None:
+    """Others see the test that holds, and in which process of the run, in words for those who don't know pytest."""
+    monkeypatch.setenv("BROKER", broker)
+    monkeypatch.setenv("WORKER", worker)
+    pytester.makepyfile(
+        """
+        import os
+        import labrun_broker, pytest
+
+        @pytest.mark.instruments("scope")
+        def test_it(instruments):
+            with labrun_broker.connect(os.environ["BROKER"]) as lab:
+                [note] = [it["note"] for it in lab.status()["stations"] if it["instruments"] == ["scope"]]
+            assert note.endswith("::test_it (" + os.environ["WORKER"] + ")"), note
+        """
+    )
+    run("--lab-broker", broker, *words).assert_outcomes(passed=1)
