@@ -8,14 +8,13 @@ from typing import TYPE_CHECKING, Any, Coroutine, Optional
 
 from .errors import AnswerLost, Unreachable, is_for_good, plainly, raised
 from .stream import AGAIN, LATE, NOBODY, Lost, Silent, Stream
-from .texts import SILENT, none_answers
+from .texts import MAY_HOLD, SILENT, none_answers
 from .wire import FIRST
 from .work import clock
 
 if TYPE_CHECKING:
     from .held import Held
 
-MAY_HOLD = "the session may hold all the same: if `labrun-broker status` shows it as gone, end it by `labrun-broker release`"
 # for how long a client tries to reach a broker again that it waits for
 GRACE = 60.0
 PAUSE = 0.1  # between such tries

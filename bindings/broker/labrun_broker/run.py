@@ -17,7 +17,7 @@ from .credentials import DEFAULT, user
 from .family import TELLING, Family, adopting, ends
 from .leaving import leaves
 from .quick import Quick, Wish
-from .texts import addresses_of, last, plain, seconds, span, station_name, unreached
+from .texts import MAY_GO_ON, addresses_of, last, plain, seconds, span, station_name, unreached
 from .waking import waking
 from .wire import FIRST, Absent, NoBroker, Odd, Silent
 from .within import Within, around
@@ -30,7 +30,6 @@ if TYPE_CHECKING:
 Waits = Optional[Callable[[str], None]]
 Result = TypeVar("Result")
 STARTING = 5.0  # seconds that a broker may take to begin
-MAY_HOLD = "the session may go on holding, as `labrun-broker status` says"
 # after so many without a first word it is said that none came; and who waits hears from a broker each minute
 SILENCE, MINUTE = 6.0, 80.0
 
@@ -108,13 +107,13 @@ def lets_go(held: Union[Quick, Held], status: int, signals: Signals, ends: conte
         ends.pop_all()
         if not isinstance(fault, GivenUp):
             raise as_told(status, fault) from None
-        say(f"the broker wasn't told, as far as is known here: {MAY_HOLD}")
+        say(f"the broker wasn't told, as far as is known here: {MAY_GO_ON}")
 
 
 def as_told(status: int, fault: BaseException, until: str = "") -> BaseException:
     """Why the session wasn't ended properly, once it is said that the command ran."""
     say(f"the command ran, and ended with status {status}, but:")
-    return type(fault)(f"{fault}\n{MAY_HOLD}{until}") if isinstance(fault, ConnectionError) else fault
+    return type(fault)(f"{fault}\n{MAY_GO_ON}{until}") if isinstance(fault, ConnectionError) else fault
 
 
 class Silence:
