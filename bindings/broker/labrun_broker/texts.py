@@ -132,6 +132,15 @@ MAY_HOLD = "the session may hold all the same: if `labrun-broker status` shows i
 MAY_GO_ON = "the session may go on holding, as `labrun-broker status` says"
 
 
+def no_word(address: str, tries: str) -> str:
+    return f"there is no word from the broker at {address}; {tries}"
+
+
+def answers_again(address: str, is_kept: bool) -> str:
+    """To whoever waits for it."""
+    return f"the broker at {address} answers again{', and the place in line is kept' if is_kept else '; the place in line is lost, and this waits at its end'}"
+
+
 def none_answers(addresses: str, left: float) -> str:
     return f"none of the brokers {addresses} answers; trying again for {span(left)}"
 
