@@ -187,7 +187,7 @@ async def hears(its: dict[str, Guard], lab: Lab, args: argparse.Namespace) -> No
         if (told := seldom.text(kind or text, text)) is not None:
             say(plain(told))
 
-    pulse = Pulse(lambda span: says(f"this guard itself stood still for {span}: it was stopped, or its machine slept", "still"))
+    pulse = Pulse(lambda span: says(f"this guard itself stood still for {span}, as one that is stopped, or whose machine sleeps", "still"))
     goes_on = asyncio.create_task(pulse.goes_on())
     try:
         await _hears(its, lab, args, says, pulse)

@@ -2,22 +2,23 @@
 
 from __future__ import annotations
 
-import select
+import queue
 import signal
 import subprocess
 import sys
+import threading
 import time
 import unittest
 from concurrent.futures import ThreadPoolExecutor
 from unittest import mock
 
-import labrun_broker
+import labrun
 from labrun_broker import client, silence
 from labrun_broker.silence import ASKS, SAYS, TICK, Silence, first_while
 from tests.brokers import BAY, LIMIT, SOON, Broker, OnBroker, free_port, is_stopped, station, stopped, until
 
 # the connection lasts however long the broker is stopped
-OF_GRPC = [(name, value if "ms" not in name else int(LIMIT * 10000)) for name, value in client.OPTIONS]
+OF_GRPC = [(name, value if "keepalive" not in name else int(LIMIT * 10000)) for name, value in client.OPTIONS]
 LASTS = "import sys; from labrun_broker import client, command, silence, wire; client.OPTIONS, wire.SILENT, silence.TICK = OPTIONS, 1e6, TICK; sys.exit(command.main())"
 
 
@@ -32,26 +33,51 @@ def again(at: str, how: str) -> str:
 KEPT, LOST = ", and the place in line is kept", "; the place in line is lost, and this waits at its end"
 
 
+class Waits:
+    """A hold, and the lines that it says."""
+
+    def __init__(self, words: "list[str]") -> None:
+        self.process = subprocess.Popen(words, stdout=subprocess.PIPE, stderr=subprocess.PIPE, text=True)
+        self._said = queue.SimpleQueue[str]()
+        threading.Thread(target=self._reads, daemon=True).start()
+
+    def _reads(self) -> None:
+        assert self.process.stderr is not None
+        for line in self.process.stderr:
+            self._said.put(line)
+        self._said.put("")
+
+    def line(self, span: float = LIMIT) -> str:
+        """The next one; nothing, once it has ended."""
+        try:
+            return self._said.get(timeout=span)
+        except queue.Empty:
+            raise AssertionError(f"it says nothing within {span} s") from None
+
+    def close(self) -> None:
+        assert self.process.stdout is not None and self.process.stderr is not None
+        self.process.kill()
+        self.process.wait(LIMIT)
+        self.process.stdout.close()
+        while self._said.get():
+            pass
+        self.process.stderr.close()
+
+
 class Commands(OnBroker):
-    def waits(self, broker: Broker, at: str, program: str = "", tick: float = TICK) -> "subprocess.Popen[str]":
-        """A hold that waits behind `guest-1`."""
+    def waits(self, broker: Broker, at: str, program: str = "", tick: float = TICK) -> Waits:
+        """One that waits behind `guest-1`."""
         how = ["-c", LASTS.replace("OPTIONS, 1e6, TICK;", f"{OF_GRPC}, 1e6, {tick};")] if program == "lasts" else ["-m", "labrun_broker"]
         words = [sys.executable, *how, "hold", "scope", "--broker", at, "--", "echo", "ran"]
-        one = subprocess.Popen(words, stdout=subprocess.PIPE, stderr=subprocess.PIPE, text=True)
-        self.addCleanup(one.communicate)
-        self.addCleanup(one.kill)
-        self.assertRegex(self.line(one), "^labrun-broker: waits: scope has been held by guest-1")
+        one = Waits(words)
+        self.addCleanup(one.close)
+        self.assertRegex(one.line(), "^labrun-broker: waits: scope has been held by guest-1")
         return one
 
-    def line(self, one: "subprocess.Popen[str]", span: float = LIMIT) -> str:
-        assert one.stderr is not None
-        self.assertTrue(select.select([one.stderr], [], [], span)[0], f"it says something within {span} s")
-        return one.stderr.readline()
-
-    def ends(self, one: "subprocess.Popen[str]") -> str:
-        out, said = one.communicate(timeout=LIMIT)
-        self.assertEqual((out, one.returncode), ("ran\n", 0), said)
-        return said
+    def ends(self, one: Waits) -> None:
+        """It has run its command, and says nothing more."""
+        self.assertEqual(one.line(), "")
+        self.assertEqual(one.process.wait(LIMIT), 0)
 
     def at(self) -> "tuple[Broker, tuple[str, str]]":
         port = free_port()
@@ -68,12 +94,12 @@ class Commands(OnBroker):
                 one = self.waits(broker, at, "lasts")
                 behind = self.waits(broker, broker.address, "lasts")
                 with stopped(broker):
-                    self.assertEqual(self.line(one, SOON), f"labrun-broker: {no_word(at)}hold keeps trying for a while, and Ctrl-C ends that\n")
-                self.assertEqual(self.line(one), f"labrun-broker: {again(at, KEPT)}\n")
+                    self.assertEqual(one.line(SOON), f"labrun-broker: {no_word(at)}hold keeps trying for a while, and Ctrl-C ends that\n")
+                self.assertEqual(one.line(), f"labrun-broker: {again(at, KEPT)}\n")
                 self.assertEqual([station(lab, it).get("place") for it in ("guest-2", "guest-3")], [1, 2])
                 held.release()
-                self.assertEqual(self.ends(one), "")
-                self.ends(behind)
+                self.ends(one)
+                behind.process.wait(LIMIT)
 
     def test_a_broker_that_is_killed(self) -> None:
         """Its line is gone with it: who waited is told that, too."""
@@ -84,12 +110,12 @@ class Commands(OnBroker):
                 held.acquire()
                 one = self.waits(broker, at)
                 broker.kill()
-                self.assertEqual(self.line(one, SOON), f"labrun-broker: {no_word(at)}hold keeps trying for a while, and Ctrl-C ends that\n")
+                self.assertEqual(one.line(SOON), f"labrun-broker: {no_word(at)}hold keeps trying for a while, and Ctrl-C ends that\n")
                 broker.begin()
-                self.assertEqual(self.line(one), f"labrun-broker: {again(at, LOST)}\n")
-                self.assertRegex(self.line(one), "^labrun-broker: waits: scope has been held by guest-1")
+                self.assertEqual(one.line(), f"labrun-broker: {again(at, LOST)}\n")
+                self.assertRegex(one.line(), "^labrun-broker: waits: scope has been held by guest-1")
                 held.release()
-                self.assertEqual(self.ends(one), "")
+                self.ends(one)
 
     def test_a_hold_that_was_stopped_itself(self) -> None:
         """It says nothing of the broker, which answered all the while."""
@@ -99,14 +125,14 @@ class Commands(OnBroker):
                 held = lab.hold("scope")
                 held.acquire()
                 one = self.waits(broker, at, "lasts", 0.5)
-                one.send_signal(signal.SIGSTOP)
-                until(lambda: is_stopped(one.pid), "that it is stopped")
+                one.process.send_signal(signal.SIGSTOP)
+                until(lambda: is_stopped(one.process.pid), "that it is stopped")
                 # (by the clock it has heard nothing for twice as long as it takes to say so)
                 time.sleep(2 * 0.5 * SAYS)
-                one.send_signal(signal.SIGCONT)
+                one.process.send_signal(signal.SIGCONT)
                 time.sleep(1)
                 held.release()
-                self.assertEqual(self.ends(one), "")
+                self.ends(one)
 
 
 class Programs(OnBroker):
@@ -162,7 +188,7 @@ class Programs(OnBroker):
         self.enterContext(mock.patch.object(silence, "TICK", 0.01))
         with first.hold("scope"), ThreadPoolExecutor() as threads, mock.patch("labrun_broker.stream.Stream.pings") as pings:
             asked = threads.submit(lab.hold("scope", timeout=1).acquire)
-            with self.assertRaises(labrun_broker.TimeoutError if hasattr(labrun_broker, "TimeoutError") else Exception):
+            with self.assertRaises(labrun.TimeoutError):
                 asked.result(LIMIT)
             pings.assert_not_called()
 
