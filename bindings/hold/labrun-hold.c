@@ -35,6 +35,10 @@ enum { USAGE = 2, NO_FILE = 66, UNREACHABLE = 69, NOT_WRITTEN = 74, TIMED_OUT = 
    a new client */
 static const double STARTING = 5, AWAY = 60, PAUSE = 0.3, LATE = 10, LATE_END = 2, UNTOLD = 1.5, TELLING = 1, LOOK = 0.02;
 static const double FIRST = 30, FIRST_WORD = 0.3, AGAIN = 60, LONG = 30, SILENCE = 8;
+/* what is said of a session whose client waited, and gave up without the broker's word; and of one whose client held, and couldn't tell that it
+   lets go */
+static const char MAY_HOLD[] = "the session may hold all the same: if `labrun-broker status` shows it as gone, end it by `labrun-broker release`";
+static const char MAY_GO_ON[] = "the session may go on holding, as `labrun-broker status` says";
 static const char DEFAULT[] = "unix:/run/labrun/bay.sock";
 static const char HELP[] =
     "usage: labrun-hold INSTRUMENT .. [options] -- COMMAND [ARGUMENT ..]\n\n"
@@ -669,8 +673,8 @@ static enum outcome asks(struct talk *it, bool is_new, double wait, double left,
 }
 
 /* The broker is told until it answers, or another signal comes, and no longer than so many seconds. A wish that is still on its way is to be
-   answered before: else the broker, which has much to do, might read it later, and hold for nobody. */
-static void gives_up(struct talk *wish_sent, double span) {
+   answered before: else the broker, which has much to do, might read it later, and hold for nobody. Whether it was told. */
+static bool gives_up(struct talk *wish_sent, double span) {
     struct talk it = {.socket = -1};
     struct text rest = {0};
     int first = came;
@@ -695,10 +699,11 @@ static void gives_up(struct talk *wish_sent, double span) {
         }
     }
     if (!is_told && span >= LATE)
-        say("the broker wasn't told, as far as is known here: the session may come to hold all the same, as `labrun-broker status` says");
+        say("the broker wasn't told, as far as is known here; %s", MAY_HOLD);
     came = first;
     hang_up(&it);
     free(rest.at);
+    return is_told;
 }
 
 /* For whom it waits is said once, again if that changes, and now and then if it doesn't. */
@@ -763,9 +768,9 @@ static bool is_held(const struct talk *it) {
 }
 
 /* How it goes on to wait: whether its wish is to be sent, or it asks on by its ticket; whether some of it was sent; whether the broker was there,
-   and has said something; since when it is away; whether it would wait for itself. */
+   and has said something; since when it is away; whether it would wait for itself; whether it was said that no word comes, and none has come. */
 struct line {
-    bool is_new, has_asked, was_there, has_heard, is_told, is_itself;
+    bool is_new, has_asked, was_there, has_heard, is_told, is_itself, is_missed;
     double end, lost, wait, said_at, silent_at; /* and when it is said that no word comes */
     double first; /* until when the first word may take */
     struct text said;
@@ -781,6 +786,13 @@ static void is_silent(struct line *its) {
         say("there is no word from the broker at unix:%s; labrun-hold keeps trying for %g s in all, and Ctrl-C ends that", path,
             isnan(wish.timeout) ? FIRST : fmin(FIRST, wish.timeout));
     its->silent_at = INFINITY;
+    its->is_missed = true;
+}
+
+/* It waits, and was told that no word came. */
+static void is_back(const struct line *its) {
+    if (its->is_missed && its->has_heard)
+        say("the broker at unix:%s answers again%s", path, its->is_new ? "; the place in line is lost, and this waits at its end" : ", and the place in line is kept");
 }
 
 /* -1: it waits on; else as `holds`. */
@@ -789,6 +801,7 @@ static int hears(struct line *its, const struct talk *it) {
     if (answer == 200)
         found = is_held(it) ? 0 : -1;
     else if (answer == 202) {
+        is_back(its);
         its->is_itself = lacks(body_of(it)) != 0;
         found = its->is_itself ? USAGE : -1;
         if (!its->is_itself && !wish.quiet)
@@ -796,6 +809,7 @@ static int hears(struct line *its, const struct talk *it) {
     } else if (answer != 404 || its->is_new)
         found = refused(it);
     its->is_new = answer == 404;
+    its->is_missed = its->is_missed && its->is_new;
     its->was_there = its->has_heard = true;
     its->silent_at = wish.quiet ? (double)INFINITY : now() + SILENCE;
     its->lost = NAN;
@@ -826,9 +840,8 @@ static int hears_nothing(struct line *its, const struct talk *it, enum outcome h
         its->is_told = true;
     }
     if (is_silent || time > its->lost + (its->was_there ? AWAY : STARTING) || time > its->end + LATE_END || (is_first && time >= its->end)) {
-        say("the broker at unix:%s %s", path, how == ABSENT ? "can't be reached: nobody listens there" : "doesn't answer");
-        if (its->has_asked)
-            gives_up(&none, 0.5);
+        bool is_told = !its->has_asked || gives_up(&none, 0.5);
+        say("the broker at unix:%s %s%s%s", path, how == ABSENT ? "can't be reached: nobody listens there" : "doesn't answer", is_told ? "" : "; ", is_told ? "" : MAY_HOLD);
         return UNREACHABLE;
     }
     wait_until(NULL, time + (is_first ? 0.1 : PAUSE));
@@ -1004,7 +1017,7 @@ static void works(void) {
 /* The status to end with, where the broker lets this client in no more and keeps what it holds. */
 static int kept(int ended) {
     say("the command ran, and ended with status %d, but:", ended);
-    say("the session may go on holding, as `labrun-broker status` says, until %s",
+    say("%s, until %s", MAY_GO_ON,
         isnan(held.lease) ? "an operator releases it" : "the broker releases it (gone = \"release\")");
     return UNREACHABLE;
 }
@@ -1037,14 +1050,14 @@ static int lets_go(int ended) {
                 is_untold = true;
             }
             if (found < 0 && is_untold && came) {
-                say("the broker wasn't told, as far as is known here: the session may go on holding, as `labrun-broker status` says");
+                say("the broker wasn't told, as far as is known here: %s", MAY_GO_ON);
                 found = ended;
             }
         }
         if (found < 0 && now() > began + AWAY) {
             say("the command ran, and ended with status %d, but:", ended);
             say("the broker at unix:%s can't be reached", path);
-            say("the session may go on holding, as `labrun-broker status` says");
+            say("%s", MAY_GO_ON);
             found = UNREACHABLE;
         }
     }

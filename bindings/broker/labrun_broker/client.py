@@ -118,7 +118,8 @@ class Lab:
         urgent: bool = False,
     ) -> Held:
         """A session of these instruments, or of one of the sets `any_of`: `with lab.hold("scope", "supply"):`, or `async with`. After `timeout`
-        seconds TimeoutError says who keeps it waiting, and it is given up. `waits` is called with a line whenever it is known for whom it waits. With a
+        seconds TimeoutError says who keeps it waiting, and it is given up. `waits` is called with a line whenever it is known for whom it waits,
+        and when no word comes of the broker for some seconds, and one comes again. With a
         `limit` it may be taken away once it has held for so many seconds and somebody waits for what it has; `warns` is called with a line before
         the limit is over, be it this one or the bay's, on another thread. While an `urgent` one waits, nobody who asks later goes before it, nor before
         anybody who waits with it."""

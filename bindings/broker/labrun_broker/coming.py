@@ -7,15 +7,15 @@ import math
 from typing import TYPE_CHECKING, Any, Coroutine, Optional
 
 from .errors import AnswerLost, Unreachable, is_for_good, plainly, raised
+from .silence import TICK, Silence
 from .stream import AGAIN, LATE, NOBODY, Lost, Silent, Stream
-from .texts import SILENT, none_answers
+from .texts import MAY_HOLD, SILENT, none_answers
 from .wire import FIRST
 from .work import clock
 
 if TYPE_CHECKING:
     from .held import Held
 
-MAY_HOLD = "the session may hold all the same: if `labrun-broker status` shows it as gone, end it by `labrun-broker release`"
 # for how long a client tries to reach a broker again that it waits for
 GRACE = 60.0
 PAUSE = 0.1  # between such tries
@@ -25,9 +25,10 @@ BEATS = 6
 
 
 class Coming:
-    """A session that asks until it holds. `may_hold`: another client has asked for it, and was told nothing."""
+    """A session that asks until it holds. `may_hold`: another client has asked for it, and was told nothing. By `silence` whoever waits is told of
+    a broker that says nothing."""
 
-    def __init__(self, held: Held, may_hold: bool = False) -> None:
+    def __init__(self, held: Held, may_hold: bool = False, silence: Optional[Silence] = None) -> None:
         self._held, self._lab, self._loop = held, held.lab, asyncio.get_running_loop()
         self._until = None if held.timeout is None else self._loop.time() + held.timeout
         # until when a new client tries one that is there, and says nothing
@@ -36,15 +37,22 @@ class Coming:
         self._lost_at: Optional[float] = None
         # whether a wish was lost that a broker may have written down: then whoever keeps its journal now has the session
         self._may_hold = may_hold
+        self._silence = silence
+        # on which it waits; and what went wrong as that was told
+        self._stream: Optional[Stream] = None
+        self._fault: Optional[Exception] = None
 
     async def holds(self) -> tuple[Stream, Any, float]:
         """The stream on which it holds, what the broker said, and when that was asked."""
         task = asyncio.current_task()
         assert task is not None
         self._lab._waiting.add(task)
+        ticks = None if self._silence is None else asyncio.create_task(self._ticks(self._silence))
         try:
             while (found := await self._tries()) is None:
                 self._lost_at = self._lost_at or self._loop.time()
+                if self._fault is not None:
+                    raise self._fault
             return found
         except Unreachable as fault:
             if not self._may_hold:
@@ -56,6 +64,26 @@ class Coming:
             raise
         finally:
             self._lab._waiting.discard(task)
+            if ticks is not None:
+                ticks.cancel()
+
+    async def _ticks(self, silence: Silence) -> None:
+        ping: Optional[asyncio.Task[None]] = None
+        while self._fault is None:
+            await asyncio.sleep(TICK)
+            try:
+                asks = silence.ticks()
+            except Exception as fault:
+                asks, self._fault = False, fault
+                if self._stream is not None:
+                    self._stream.ends(fault)
+            if asks and self._stream is not None and (ping is None or ping.done()):
+                ping = asyncio.create_task(self._stream.pings())
+
+    def _hears(self) -> None:
+        """A word, before it is in the line."""
+        if self._silence is not None:
+            self._silence.hears(is_in_line=False)
 
     async def _tries(self) -> Optional[tuple[Stream, Any, float]]:
         """None: the stream ended, and it is worth another try."""
@@ -68,13 +96,15 @@ class Coming:
             if is_new:
                 await self._in_time(stream.opens(), lab._was_there or lab._brokers.is_list)
                 lab._was_there, self._lost_at = True, None
+                self._hears()
             elif self._until is not None:
                 # (one that is stopped isn't asked: should this program end meanwhile, the wish would be read, and not that it is withdrawn)
                 await self._in_time(stream.is_answered())
+                self._hears()
             if self._until is not None:
                 # (0 says that it never wanted to wait)
                 wish.timeout = max(MOMENT if self._held.timeout else 0.0, self._until - self._loop.time())
-            sent = clock()
+            sent, self._stream = clock(), stream
             kind, told = await stream.asks_until(self._until, wish=wish)
             if kind == "held" and told.HasField("lease") and clock() > sent + told.lease / BEATS:
                 # (the wish is old: what was told may be, too)
@@ -82,6 +112,8 @@ class Coming:
         except Lost as lost:
             self._held._raises_taken()
             self._may_hold = self._may_hold or stream.has_asked and lost.code in AGAIN
+            if self._silence is not None:
+                self._silence.is_cut()
             # (one that was idle may be of a broker that is gone)
             if is_new:
                 await self._pauses(lost)
@@ -96,6 +128,8 @@ class Coming:
         except BaseException:
             stream.cancel()
             raise
+        finally:
+            self._stream = None
         if kind == "fault":
             stream.is_idle()
             raise raised(told)
@@ -129,5 +163,7 @@ class Coming:
             raise why from None
         if self._lost_at is None and lab._brokers.is_list:
             left = patience if self._until is None else min(patience, self._until - now)
+            if self._silence is not None:
+                self._silence.is_told()
             self._held._waits_for(none_answers(lab.address, left))
         await asyncio.sleep(PAUSE)

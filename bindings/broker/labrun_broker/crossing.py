@@ -71,8 +71,14 @@ class Crossing(Session):
 
     def gives_up(self, fault: BaseException) -> None:
         """Nobody was told that it holds. It lets go of what it has, the last one first."""
-        if self.state != "waiting":
-            return
+        if self.state == "waiting":
+            self._withdraws(fault)
+
+    def withdraws(self, owner: Owner, fault: BaseException) -> None:
+        if self.owner is owner and self.holds:
+            self._withdraws(fault)
+
+    def _withdraws(self, fault: BaseException) -> None:
         self.fault = fault
         self._is_over()
         self._is_forgotten()

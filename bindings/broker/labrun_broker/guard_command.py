@@ -15,6 +15,7 @@ from __future__ import annotations
 import argparse
 import asyncio
 import functools
+import math
 import signal
 import socket
 import ssl
@@ -26,15 +27,18 @@ from labrun.picks import near
 
 from .bay import BadAddress, is_here
 from .sockets import family_of, listens, parsed, tls_of, written
-from .texts import plain, seconds
+from .texts import plain, seconds, span
 from .waking import kept
 from .words import add_client, lab_of, reading, say
+from .work import clock
 
 if TYPE_CHECKING:
     from .client import Lab
     from .guard import Guard
 
 AGAIN, SELDOM, ENDING = 0.2, 60.0, 3.0
+# seconds between two looks whether this process goes on; how late one of them is if it didn't; and how soon after that it learns what came of it
+BEAT, LATE, JUST = 0.5, 2.0, 5.0
 KEYS: dict[str, Any] = {"listen": str, "instrument": str, "by_host": bool, "settle": (int, float), "clear": str}
 
 
@@ -175,19 +179,34 @@ async def guards(table: dict[str, dict[str, Any]], args: argparse.Namespace, lab
 async def hears(its: dict[str, Guard], lab: Lab, args: argparse.Namespace) -> None:
     """Goes on to hear who holds. While the broker is away who is let through stays so, and no other session is. One that is back may have
     another certificate."""
+    from .door import Seldom
+
+    seldom = Seldom(SELDOM)
+
+    def says(text: str, kind: str = "") -> None:
+        if (told := seldom.text(kind or text, text)) is not None:
+            say(plain(told))
+
+    pulse = Pulse(lambda span: says(f"this guard itself stood still for {span}, as one that is stopped, or whose machine sleeps", "still"))
+    goes_on = asyncio.create_task(pulse.goes_on())
+    try:
+        await _hears(its, lab, args, says, pulse)
+    finally:
+        goes_on.cancel()
+
+
+async def _hears(its: dict[str, Guard], lab: Lab, args: argparse.Namespace, says: Callable[[str], None], pulse: Pulse) -> None:
     import grpc
 
     from . import broker_pb2 as pb
-    from .door import Seldom
     from .guard import Holder
     from .errors import why_lost
 
-    seldom = Seldom(SELDOM)
     while True:
         try:
             wrong = await lab._reads_again(args.certificate, args.token_file)
-            if wrong is not None and (text := seldom.text(wrong, f"{wrong}; what was read before counts")) is not None:
-                say(plain(text))
+            if wrong is not None:
+                says(f"{wrong}; what was read before counts")
             # (of several the one that leads now)
             await lab._brokers.looks()
             async for told in lab._methods["Guard"](pb.GuardWish(instruments=list(its)), metadata=lab._metadata):
@@ -196,12 +215,32 @@ async def hears(its: dict[str, Guard], lab: Lab, args: argparse.Namespace) -> No
                     guard.is_told = True
                     guard.told(Holder(it.token, it.ticket_hash, who, it.host if it.HasField("host") else None) if it.token else None)
         except grpc.aio.AioRpcError as fault:
-            why = str(why_lost(lab.address, fault.code(), str(fault.details()), certificate=lab._certificate))
-            if (text := seldom.text(why, why)) is not None:
-                say(plain(text))
+            # (who stood still has answered nothing, and read nothing: that the connection is over then isn't the broker's fault)
+            if not pulse.stood_still():
+                says(str(why_lost(lab.address, fault.code(), str(fault.details()), certificate=lab._certificate)))
         for guard in its.values():
             guard.is_told = False
         await asyncio.sleep(AGAIN)
+
+
+class Pulse:
+    """By this process's own clock: whether it stood still, as one that is stopped does, or one whose machine sleeps. `says` is told for how long."""
+
+    def __init__(self, says: Callable[[str], None]) -> None:
+        self._says, self._at, self._still_until = says, clock(), -math.inf
+
+    async def goes_on(self) -> None:
+        while True:
+            await asyncio.sleep(BEAT)
+            self.stood_still()
+
+    def stood_still(self) -> bool:
+        """Whether it did until just now."""
+        before, self._at = self._at, clock()
+        if self._at - before > BEAT + LATE:
+            self._still_until = self._at
+            self._says(span(self._at - before))
+        return self._at < self._still_until + JUST
 
 
 class Where:

@@ -16,6 +16,7 @@ from . import broker_pb2 as pb
 from .coming import BEATS, GRACE, PAUSE, Coming
 from .errors import BadWish, NotHeld, TakenAway, Unreachable, raised
 from .forward import Ways
+from .silence import A_WHILE, Silence, first_while
 from .stream import AGAIN, Lost, Stream
 from .work import clock
 
@@ -39,6 +40,8 @@ class Held:
         self.instruments: tuple[str, ...] = tuple(wish.instruments)
         self.station, self.number, self.token, self.state = "", 0, 0, "new"
         self._wish, self._waits = wish, waits
+        # by which whoever waits is told that no word comes
+        self._silence: Optional[Silence] = None
         # by which another client has asked for it; mostly nothing
         self._ticket = ""
         self._stream: Optional[Stream] = None
@@ -163,7 +166,10 @@ class Held:
         self.lab._may_go_on()
         if self.state != "new":
             raise Entered(f"{self._called} is {self.state}: it is entered once")
-        coming = Coming(self, bool(self._ticket))
+        if self._silence is None and self._waits is not None:
+            first = A_WHILE if self.lab._was_there else first_while(self.lab.address, self.timeout)
+            self._silence = Silence(self.lab.address, self._waits, first)
+        coming = Coming(self, bool(self._ticket), self._silence)
         self._wish.ticket, self._ticket = self._ticket or secrets.token_urlsafe(), ""
         self.state = "waiting"
         try:
@@ -205,6 +211,11 @@ class Held:
             self.on_lacking(lacks)
         if self._waits is not None:
             self._waits(text)
+
+    def _hears(self) -> None:
+        """A word came of the broker in whose line it waits."""
+        if self.state == "waiting" and self._silence is not None:
+            self._silence.hears()
 
     def _is_sure(self, sent: float) -> None:
         """The broker answered what was sent then, and it holds."""

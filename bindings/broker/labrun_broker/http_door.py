@@ -20,7 +20,7 @@ from .door import Door
 from .entrance import DEAR, UNKNOWN, Caller, Entrance, NotLetIn
 from .errors import BadWish
 from .serving import HEADERS, IS_TCP, LOG, SLOW, Served, is_asked_here, served, web
-from .sockets import parsed
+from .sockets import is_left, parsed
 from .users import user_of
 from .visits import OVER, WAITING, Visit, Visits
 from .wishes import Ended
@@ -136,8 +136,10 @@ class HttpDoor:
     # ---- sessions
 
     async def _asks(self, request: web.Request) -> web.Response:
-        caller = request[CALLER]
-        visit = await self.visits.asks(replace(http_words.wish_of_body(await self._body(request)), person=caller.person), caller)
+        caller, wish = request[CALLER], http_words.wish_of_body(await self._body(request))
+        # (of a client that is gone already, as one that was killed while the broker was stopped, nothing is asked)
+        check_there(request)
+        visit = await self.visits.asks(replace(wish, person=caller.person), caller)
         visit.host = request.remote or "here"
         return await self._outlasts(visit, request)
 
@@ -147,19 +149,19 @@ class HttpDoor:
     async def _outlasts(self, visit: Visit, request: web.Request) -> web.Response:
         with visit.asking(lambda: is_there(request)):
             await visit.outlasts(request[QUERY].get("while", WAITING), request[QUERY].get("wait", 0.0), lambda: is_there(request))
-        return shown(visit)
+        return shown(visit, request)
 
     async def _pings(self, request: web.Request) -> web.Response:
         visit = await self._visit(request)
         with visit.asking():
-            return shown(visit)
+            return shown(visit, request)
 
     async def _notes(self, request: web.Request) -> web.Response:
         text = http_words.read(await self._body(request), http_words.NOTE, "text")["text"]
         visit = await self._visit(request)
         with visit.asking():
             await visit.notes(text)
-            return shown(visit)
+            return shown(visit, request)
 
     async def _lets_go(self, request: web.Request) -> web.Response:
         """(Who asks for it twice, because no answer came, is told that it is done.)"""
@@ -218,12 +220,22 @@ def taking(handler: Handler, *words: str) -> Handler:
 
 
 def is_there(request: web.Request) -> bool:
-    """Whether who asks still waits for the answer."""
-    return request.transport is not None and not request.transport.is_closing()
+    """Whether who asks still waits for the answer. (A broker that was stopped learns it from the system, before it has read all that came.)"""
+    if request.transport is None or request.transport.is_closing():
+        return False
+    one = request.transport.get_extra_info("socket")
+    return one is None or one.fileno() < 0 or not is_left(one.fileno())
 
 
-def shown(visit: Visit) -> web.Response:
+def check_there(request: web.Request) -> None:
+    """Nobody reads what is answered to one that isn't; so it isn't told that it holds."""
+    if not is_there(request):
+        raise Ended("NotHeld", "who asked isn't there any more")
+
+
+def shown(visit: Visit, request: web.Request) -> web.Response:
     visit.raises()
+    check_there(request)
     return answer(visit.shown(), 202 if visit.state == WAITING else 200)
 
 

@@ -6,6 +6,7 @@ from __future__ import annotations
 
 from typing import Callable
 
+from .texts import MAY_HOLD
 from .words import say
 
 # seconds, for which the broker is told; and after which that is said
@@ -21,4 +22,4 @@ def leaves(has_left: Callable[[float], bool]) -> None:
             is_told = has_left(GIVING_UP - UNTOLD)
     finally:
         if not is_told:
-            say("the broker wasn't told, as far as is known here: the session may come to hold all the same, as `labrun-broker status` says")
+            say(f"the broker wasn't told, as far as is known here; {MAY_HOLD}")

@@ -20,10 +20,11 @@ from .wire import Fields, Odd, Silent, Wire, field, fields_of, text_field, text_
 if TYPE_CHECKING:
     from .client import Lab
     from .held import Held
+    from .silence import Silence
 
 # the fields of Ask and of Told
-WISH, LET_GO = 1, 3
-HELD, WAITS, GONE, FAULT, TAKEN, WARNING = 1, 2, 4, 5, 6, 8
+WISH, LET_GO, PING = 1, 3, 4
+HELD, WAITS, GONE, FAULT, TAKEN, PONG, WARNING = 1, 2, 4, 5, 6, 7, 8
 LEASE, TOKEN, GUARDS, LIMIT = 6, 7, 8, 9  # fields of Held
 WAITS_FOR = 2  # of Waits
 
@@ -50,6 +51,8 @@ class Quick:
         self.on_taken: Optional[Callable[[Any], None]] = None
         self.on_warning: Optional[Callable[[str], None]] = None
         self.on_lacking: Optional[Callable[[list[str]], None]] = None
+        # by which it is told, while it waits, that no word comes
+        self.silence: Optional[Silence] = None
         self.is_released_if_gone = False
         self.limit: Optional[float] = None
         self.wire = Wire()
@@ -90,9 +93,15 @@ class Quick:
     def _holds(self) -> None:
         try:
             self.wire.is_answered()
+            if self.silence is not None:
+                self.silence.hears(is_in_line=False)
             self.has_asked = True
             self.wire.asks(WISH, _wish(self._wish, self.ticket, self._waits is not None))
-            while (told := self.wire.told())[0] == WAITS:
+            while (told := self.wire.told())[0] in (WAITS, PONG):
+                if self.silence is not None:
+                    self.silence.hears()
+                if told[0] == PONG:
+                    continue
                 if self.on_lacking is not None:
                     self.on_lacking([text_of(fields_of(it), 1) for it in told[1].get(WAITS_FOR, [])])
                 if self._waits is not None:
@@ -124,8 +133,16 @@ class Quick:
         else:
             threading.Thread(target=self._watches, daemon=True).start()
 
+    def pings(self) -> None:
+        """Asks the broker whether it is there, while this waits; on another thread. (Whoever reads sees if that can't be sent.)"""
+        if self.has_asked:
+            with contextlib.suppress(Odd):
+                self.wire.asks(PING, b"")
+
     def _gives_up(self) -> None:
         """It leaves the line; if it came to hold just now, it lets go. Whoever has asked nothing yet has nothing to tell."""
+        if self.silence is not None:
+            self.silence.ends()
         if not self.has_asked:
             return
         self.wire.is_unlimited()

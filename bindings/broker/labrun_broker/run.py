@@ -17,9 +17,10 @@ from .credentials import DEFAULT, user
 from .family import TELLING, Family, adopting, ends
 from .leaving import leaves
 from .quick import Quick, Wish
-from .texts import addresses_of, last, plain, seconds, span, station_name, unreached
+from .silence import Silence, first_while
+from .texts import MAY_GO_ON, addresses_of, last, plain, seconds, span, station_name, unreached
 from .waking import waking
-from .wire import FIRST, Absent, NoBroker, Odd, Silent
+from .wire import Absent, NoBroker, Odd, Silent
 from .within import Within, around
 from .words import CANT_RUN, ENVIRONMENT, NOT_FOUND, PROGRAM, TAKEN, USAGE, add_client, files_of, lab_of, say
 
@@ -30,9 +31,6 @@ if TYPE_CHECKING:
 Waits = Optional[Callable[[str], None]]
 Result = TypeVar("Result")
 STARTING = 5.0  # seconds that a broker may take to begin
-MAY_HOLD = "the session may go on holding, as `labrun-broker status` says"
-# after so many without a first word it is said that none came; and who waits hears from a broker each minute
-SILENCE, MINUTE = 6.0, 80.0
 
 
 def add_hold(parser: argparse.ArgumentParser) -> None:
@@ -65,18 +63,13 @@ def run_hold(args: argparse.Namespace) -> int:
     station = args.station or ""
     within.checks(station, any_of or (its,))
     wish = Wish(() if any_of else its, any_of, station, args.by or f"{user()} {os.getpid()} {what}"[:64], args.timeout, args.limit, args.urgent)
-    silence = Silence(address_of(args), args.timeout)
 
     def waits(text: str) -> None:
         if not args.quiet:
-            silence.is_broken()
             say(f"waits: {plain(text)}")
 
     with passing_on() as signals, adopting(), contextlib.ExitStack() as ends:
-        with contextlib.ExitStack() as until_held:
-            if not args.quiet:
-                until_held.enter_context(silence)
-            held = holds(args, wish, None if args.quiet and not within.stations else waits, signals, ends, within)
+        held = holds(args, wish, None if args.quiet and not within.stations else waits, signals, ends, within)
         if args.limit is not None and held.limit is not None and held.limit < args.limit:
             say(f"the bay's limit counts, which is shorter: {span(held.limit, 1)}, and not {span(args.limit, 1)}")
         variables, passes = ends.enter_context(leads(held, args))
@@ -108,42 +101,13 @@ def lets_go(held: Union[Quick, Held], status: int, signals: Signals, ends: conte
         ends.pop_all()
         if not isinstance(fault, GivenUp):
             raise as_told(status, fault) from None
-        say(f"the broker wasn't told, as far as is known here: {MAY_HOLD}")
+        say(f"the broker wasn't told, as far as is known here: {MAY_GO_ON}")
 
 
 def as_told(status: int, fault: BaseException, until: str = "") -> BaseException:
     """Why the session wasn't ended properly, once it is said that the command ran."""
     say(f"the command ran, and ended with status {status}, but:")
-    return type(fault)(f"{fault}\n{MAY_HOLD}{until}") if isinstance(fault, ConnectionError) else fault
-
-
-class Silence:
-    """Who waits is told if no word of the broker comes: it may be stopped, and then even its machine takes the connection. `with` it."""
-
-    def __init__(self, address: str, timeout: Optional[float] = None) -> None:
-        self._address = address
-        # (of a list the one that answers is looked for)
-        first = FIRST if timeout is None else min(FIRST, timeout)
-        self._for = f"for {first:g} s in all" if len(addresses_of(address)) == 1 else "for a while"
-        self._timer: Optional[threading.Timer] = None
-
-    def __enter__(self) -> None:
-        self._lasts(SILENCE)
-
-    def __exit__(self, *_: object) -> None:
-        if self._timer is not None:
-            self._timer.cancel()
-
-    def is_broken(self) -> None:
-        """There was a word."""
-        self.__exit__()
-        self._for = "for a while"
-        self._lasts(MINUTE)
-
-    def _lasts(self, seconds: float) -> None:
-        self._timer = threading.Timer(seconds, say, [f"there is no word from the broker at {self._address}; hold keeps trying {self._for}, and Ctrl-C ends that"])
-        self._timer.daemon = True
-        self._timer.start()
+    return type(fault)(f"{fault}\n{MAY_GO_ON}{until}") if isinstance(fault, ConnectionError) else fault
 
 
 class Start:
@@ -187,6 +151,7 @@ def holds(args: argparse.Namespace, wish: Wish, waits: Waits, signals: Signals, 
 
     began, was_there, ticket, start, token = time.monotonic(), False, "", Start(args), files_of(args)[0]
     address = address_of(args)
+    silence = Silence(address, lambda text: None if args.quiet else say(text), first_while(address, args.timeout), "hold", ", and Ctrl-C ends that")
 
     def left() -> Optional[float]:
         # (0 says that it never wanted to wait)
@@ -197,11 +162,12 @@ def holds(args: argparse.Namespace, wish: Wish, waits: Waits, signals: Signals, 
 
         def quickly() -> Quick:
             tried[:] = [Quick(address.removeprefix("unix:"), wish._replace(timeout=left()), waits, connects, signals.begins, token)]
-            tried[0].on_lacking = within.lacks
+            tried[0].on_lacking, tried[0].silence = within.lacks, silence
             return ends.enter_context(tried[0])
 
         try:
-            return start.tries(quickly)
+            with silence.ticking(lambda: tried[0].pings() if tried else None):
+                return start.tries(quickly)
         except Silent:
             from .errors import Unreachable
 
@@ -211,17 +177,19 @@ def holds(args: argparse.Namespace, wish: Wish, waits: Waits, signals: Signals, 
             raise type(fault)(unreached(address, str(fault))) from None
         except Odd:
             was_there, ticket = tried[0].wire.was_there, tried[0].ticket if tried[0].has_asked else ""
+            silence.is_cut()
     lab = ends.enter_context(connects(was_there))
 
     def wholly() -> Held:
         held = lab.hold(*wish.instruments, any_of=wish.any_of, timeout=left(), waits=waits, limit=wish.limit, urgent=wish.urgent)
         # (it may hold by now, and the broker's word be lost)
-        held.on_lacking, held._ticket = within.lacks, ticket
+        held.on_lacking, held._ticket, held._silence = within.lacks, ticket, silence
         return ends.enter_context(held)
 
     try:
         return start.tries(wholly)
     except (KeyboardInterrupt, SystemExit):
+        silence.ends()
         leaves(lab._is_left)
         raise
 

@@ -6,6 +6,7 @@ import asyncio
 import contextlib
 import grp
 import os
+import select
 import shutil
 import socket
 import ssl
@@ -61,6 +62,13 @@ def tls_of(certificate: str, key: str) -> ssl.SSLContext:
 
 def family_of(host: str) -> socket.AddressFamily:
     return socket.AF_INET6 if ":" in host else socket.AF_INET
+
+
+def is_left(number: int) -> bool:
+    """Whether the other end of a connection has closed it, read or not."""
+    looks = select.poll()
+    looks.register(number, select.POLLRDHUP)
+    return bool(looks.poll(0))
 
 
 def clear(path: str, told: Optional[str] = None) -> None:

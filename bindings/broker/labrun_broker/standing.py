@@ -129,6 +129,11 @@ class Session:
         """In milliseconds, if the machine doesn't know it."""
         return str(math.ceil(self.limit * 1000)) if self.is_followed and self.limit is not None else None
 
+    def withdraws(self, owner: Owner, fault: BaseException) -> None:
+        """It came to hold, its client was never told so, and isn't there."""
+        if self.owner is owner and self.home is not None:
+            self.home._leaves(self, fault)
+
     def stops_looking(self) -> None:
         """Whether its client is silent doesn't matter any more."""
         if self.timer is not None:

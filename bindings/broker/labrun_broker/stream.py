@@ -4,7 +4,7 @@ from __future__ import annotations
 
 import asyncio
 import contextlib
-from typing import TYPE_CHECKING, Any, Optional, Union
+from typing import TYPE_CHECKING, Any, Iterator, Optional, Union
 
 import grpc
 
@@ -175,17 +175,27 @@ class Stream:
         if kind == "taken" and self.session is not None:
             self.session._is_taken(self, raised(told))
         elif kind == "waits" and self.session is not None:
-            try:
+            with self._telling():
+                self.session._hears()
                 self.session._waits_for(told.text, [it.instrument for it in told.waits_for])
-            except Exception as fault:
-                self.ends(fault)
         elif kind == "warning":
             self._is_warned(told.text)
         elif kind == "pong" and told.at != self._asked_at:
             if self.session is not None and told.holds:
                 self.session._is_sure(told.at)
+            elif self.session is not None:
+                with self._telling():
+                    self.session._hears()
         else:
             self._answers.put_nowait((kind, told))
+
+    @contextlib.contextmanager
+    def _telling(self) -> Iterator[None]:
+        """Whoever waits is told something: if that goes wrong, so does the wait."""
+        try:
+            yield
+        except Exception as fault:
+            self.ends(fault)
 
     def _is_warned(self, text: str) -> None:
         tells = None if self.session is None else self.session.on_warning

@@ -126,6 +126,21 @@ def unreached(address: str, why: str) -> str:
     return f"the broker at {address} can't be reached: {why}{more}"
 
 
+# of a session whose client waited, and gave up without the broker's word: it may have come to hold just before, or do so later
+MAY_HOLD = "the session may hold all the same: if `labrun-broker status` shows it as gone, end it by `labrun-broker release`"
+# of one whose client held, and couldn't tell the broker that it lets go
+MAY_GO_ON = "the session may go on holding, as `labrun-broker status` says"
+
+
+def no_word(address: str, tries: str) -> str:
+    return f"there is no word from the broker at {address}; {tries}"
+
+
+def answers_again(address: str, is_kept: bool) -> str:
+    """To whoever waits for it."""
+    return f"the broker at {address} answers again{', and the place in line is kept' if is_kept else '; the place in line is lost, and this waits at its end'}"
+
+
 def none_answers(addresses: str, left: float) -> str:
     return f"none of the brokers {addresses} answers; trying again for {span(left)}"
 

@@ -1,8 +1,8 @@
 """Clients that come by single requests, each by its ticket: they have no connection whose end would tell that they are gone.
 
 - A client is there as long as a request of its is open, and for QUIET after the last one, or CUT if it didn't wait for the answer. One that
-  isn't leaves the line if it waits, as one whose stream has ended. One that holds is gone, and its session is kept; by any request it
-  comes back.
+  isn't leaves the line if it waits, as one whose stream has ended; so does one that came to hold and was never answered so. One that holds
+  is gone, and its session is kept; by any request it comes back.
 - Where `gone = "release"` it is a client that says again and again that it is there (leases.py): each request is such a word, when it comes
   and when it is answered."""
 
@@ -45,6 +45,8 @@ class Visit:
         # once it is in the line; and why it is over
         self.session: Optional[Session] = None
         self.fault: Optional[LabrunError] = None
+        # whether it came to hold for this client first of all, and no answer has said so yet
+        self._is_untold = False
         # where its last request came from; `here`: from this machine
         self.host = "here"
         # whether its limit is over soon, and an answer has said so
@@ -65,7 +67,7 @@ class Visit:
             self._ends_if_it_waits(Ended("NotHeld", "the client waits no longer"))
 
     def _is_in_line(self, session: Session) -> None:
-        self.session = session
+        self.session, self._is_untold = session, True
         self._is(WAITING)
 
     def _is(self, state: str) -> None:
@@ -126,6 +128,11 @@ class Visit:
         if self.state == WAITING:
             self._holding.cancel()
             self._ends(Ended("NotHeld", "its client wasn't heard while it waited, and so it left the line"))
+        elif self._is_untold and self.session is not None:
+            # (so nobody is at its instruments)
+            why = Ended("NotHeld", "its client wasn't heard before it was told that it holds, and so it left")
+            self.session.withdraws(self, why)
+            self._ends(why)
         elif self.session is None or self._keeping.lease_of(self.session) is None:
             self._is_gone(Ended("NotHeld", "its client is gone"))
 
@@ -216,7 +223,7 @@ class Visit:
         """As it is told: always with the same keys."""
         it, waits, lease = self.session, self.state == WAITING, None
         if self.state == HOLDING and it is not None:
-            lease = self._keeping.lease_of(it)
+            lease, self._is_untold = self._keeping.lease_of(it), False
         keepers, why, _ = self._keeping.for_whom(it) if waits and it is not None else ([], "", ())
         about: dict[str, Any] = {"state": self.state, "ticket": self.wish.ticket, "station": it and it.name, "session": it and it.number}
         about |= {"token": it.token if it is not None and self.state == HOLDING else None, "warning": self._warning()}

@@ -15,7 +15,7 @@ import unittest
 from typing import Any, Callable
 
 import labrun
-from tests.brokers import LIMIT, free_port, station, until
+from tests.brokers import LIMIT, free_port, is_stopped, station, until
 from tests.guards import REFUSED, BeforeInstruments, program, talk
 
 
@@ -148,6 +148,31 @@ class Commands(BeforeInstruments):
             talk(held.address("scope")).__exit__()
         self.at.broker.end()
         self.assertEqual(self.at.process.stderr.readline(), f"labrun-broker: the broker at {self.at.broker.address} can't be reached: it has ended\n")
+
+
+    def test_a_guard_that_was_stopped(self) -> None:
+        """It says that of itself when it goes on, and nothing of the broker, which has closed the connection meanwhile; and then it lets through again."""
+        process, path = self.at.process, self.at.broker.address.removeprefix("unix:")
+        assert process is not None and process.stderr is not None
+        until(lambda: connections(path), "that it is connected")
+        process.send_signal(signal.SIGSTOP)
+        try:
+            until(lambda: is_stopped(process.pid), "that it is stopped")
+            # (the broker asks whoever says nothing whether it is there, and doesn't wait for an answer for long)
+            until(lambda: not connections(path), "that the broker has closed the connection")
+        finally:
+            process.send_signal(signal.SIGCONT)
+        self.assertRegex(process.stderr.readline(), "^labrun-broker: this guard itself stood still for [0-9]+ s, as one that is stopped, or whose machine sleeps\n$")
+        with self.lab().hold("scope") as held:
+            self.assertEqual(talk(held.address("scope")).ask("ADD 1"), "OK")
+        process.kill()
+        self.assertEqual(process.stderr.read(), "")
+
+
+def connections(path: str) -> int:
+    """How many a server has at its Unix socket."""
+    with open("/proc/net/unix", encoding="ascii", errors="replace") as file:
+        return sum(it[7:] == [path] and it[5] == "03" for it in map(str.split, file))
 
 
 class Ends(BeforeInstruments):

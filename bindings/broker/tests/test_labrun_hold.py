@@ -434,6 +434,69 @@ class Held(OnBroker):
             self.assertRegex(said, r"^labrun-\w+: there is no word from the broker at \S+; [\w-]+ keeps trying for 30 s in all, and Ctrl-C ends that\n")
             self.assertIn("doesn't answer", said)
 
+    def test_it_is_killed_while_the_broker_is_stopped(self) -> None:
+        """As it asks, and as it waits in line and whoever holds lets go meanwhile: nobody knows of its session, and none is left behind."""
+        for bay, waits in ((BAY, False), (BAY, True), (RELEASES, False), (RELEASES, True)):
+            with self.subTest(bay, waits=waits):
+                broker, one = self.at(bay, "--state", "FOLDER/state", "--grace", "900")
+                words = [self.program, "scope", "--quiet", "--", "true"]
+                if waits:
+                    ticket = one.holds("scope", station="radio")
+                    hold = self.enterContext(subprocess.Popen(words, env=self.environment(broker)))
+                    until(lambda: one.status("guest-1")["state"] == "waiting", "it waits")
+                with stopped(broker):
+                    if waits:
+                        lets_go = self.enterContext(socket.socket(socket.AF_UNIX))
+                        lets_go.connect(f"{broker.folder}/bay.sock.http")
+                        lets_go.sendall(f"DELETE /v1/sessions/{ticket} HTTP/1.1\r\nHost: localhost\r\n\r\n".encode())
+                    else:
+                        words.remove("--quiet")
+                        hold = self.enterContext(subprocess.Popen(words, env=self.environment(broker), stderr=subprocess.PIPE, text=True))
+                        assert hold.stderr is not None
+                        # (it has asked, and waited for an answer)
+                        self.assertIn("there is no word from the broker", hold.stderr.readline())
+                    hold.kill()
+                    hold.wait(LIMIT)
+                until(lambda: one.status("radio")["state"] == "idle", "that who held has let go")
+                self.assertEqual(one.asks("scope", wait=20)[0], 200)
+                with open(f"{broker.folder}/state/records.jsonl", encoding="utf-8") as file:
+                    its = [record["what"] for record in map(json.loads, file) if record["station"] == "guest-1" and record["by"] and "ann" in record["by"]]
+                self.assertNotIn("gone", its)
+                if not waits:
+                    self.assertEqual(its, [])
+
+    def test_a_broker_that_does_not_come_back(self) -> None:
+        """Whoever waited may hold, as the journal of a broker that was killed may say: it is told so, and who has asked nothing isn't."""
+        broker, one = self.at(BAY, "--state", "FOLDER/state")
+        one.holds("scope", station="radio")
+        hold = self.waits(broker, "scope", "--quiet", "--timeout", "4", "--", "true")
+        until(lambda: one.status("guest-1")["state"] == "waiting", "it waits")
+        broker.kill()
+        may = "the session may hold all the same: if `labrun-broker status` shows it as gone, end it by `labrun-broker release`"
+        self.assertRegex(self.ends(hold, 69), f"^labrun-hold: the broker at unix:.* (can't be reached: nobody listens there|doesn't answer); {may}\n$")
+        ran = self.ran(broker, "scope", "-n", "--", "true")
+        self.assertEqual((ran.returncode, "may hold" in ran.stderr), (69, False), ran.stderr)
+        broker.begin()
+
+    def test_a_broker_that_answers_again(self) -> None:
+        """One that was stopped has kept the place in line; with one that was killed it is lost."""
+        broker, one = self.at(BAY, "--state", "FOLDER/state")
+        ticket = one.holds("scope", station="radio")
+        with self.waits(broker, "scope", "--", "true") as waits:
+            assert waits.stderr is not None
+            self.assertIn("waits: scope has been held", heard(waits.stderr))
+            at = f"{broker.address}.http"
+            silent = f"labrun-hold: there is no word from the broker at {at}; labrun-hold keeps trying for a while, and Ctrl-C ends that\n"
+            with stopped(broker):
+                self.assertEqual(waits.stderr.readline(), silent)
+            self.assertEqual(waits.stderr.readline(), f"labrun-hold: the broker at {at} answers again, and the place in line is kept\n")
+            broker.kill()
+            self.assertEqual(waits.stderr.readline(), silent)
+            broker.begin()
+            self.assertEqual(waits.stderr.readline(), f"labrun-hold: the broker at {at} answers again; the place in line is lost, and this waits at its end\n")
+            one.lets_go(ticket)
+            self.assertEqual(waits.wait(LIMIT), 0)
+
     def test_a_signal_while_its_wish_is_on_its_way(self) -> None:
         """To a broker that has much to do. It is told that this waits no longer once it has read the wish, and again if it didn't answer."""
         path = f"{self.room}/busy.sock"

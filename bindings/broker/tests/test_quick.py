@@ -63,7 +63,7 @@ class Quick(OnBroker):
         assert broker.process is not None
         os.kill(broker.process.pid, signal.SIGSTOP)
         self.addCleanup(os.kill, broker.process.pid, signal.SIGCONT)
-        program = "import sys; from labrun_broker import command, run; run.SILENCE = 0.5; sys.exit(command.main())"
+        program = "import sys; from labrun_broker import command, silence; silence.TICK = 0.1; sys.exit(command.main())"
         words = [sys.executable, "-c", program, "hold", "scope", "--", "echo", "ran"]
         with subprocess.Popen(words, env={**os.environ, "LABRUN_BROKER": broker.address}, stderr=subprocess.PIPE, stdout=subprocess.PIPE, text=True) as runs:
             assert runs.stderr is not None
@@ -235,7 +235,7 @@ class Quick(OnBroker):
                     self.assertEqual((done.returncode, "waits for the broker" in done.stderr), (69, limit != ["-n"]), done.stderr)
                     self.assertIn("can't be reached", done.stderr)
                 # (on a busy machine it may take longer to begin than a broker has)
-                program = "import sys; from labrun_broker import command, run; run.STARTING = run.SILENCE = 60.0; sys.exit(command.main())"
+                program = "import sys; from labrun_broker import command, run, silence; run.STARTING = silence.SAYS = 60.0; sys.exit(command.main())"
                 words = [sys.executable, "-c", program, "hold", *instrument, "--", "echo", "ran"]
                 runs = subprocess.Popen(words, env={**os.environ, "LABRUN_BROKER": broker.address}, stdout=subprocess.PIPE, stderr=subprocess.PIPE, text=True)
                 assert runs.stderr is not None
@@ -247,7 +247,7 @@ class Quick(OnBroker):
 
     def test_a_broker_that_is_stopped(self) -> None:
         """A time limit is kept all the same, and nothing is held once the broker goes on. (Without one it would wait for a word.)"""
-        program = f"import sys; from labrun_broker import command, run, wire; wire.SILENT = run.SILENCE = {10 * LIMIT}; sys.exit(command.main())"
+        program = f"import sys; from labrun_broker import command, silence, wire; wire.SILENT = silence.SAYS = {10 * LIMIT}; sys.exit(command.main())"
         for bay, *state in ((BAY,), (BAY, "--state", "FOLDER/state"), (RELEASES, "--state", "FOLDER/state")):
             for limit, seconds in ((["-n"], 0.0), (["--timeout", "2"], 2.0)):
                 with self.subTest(bay, state=state, limit=limit):

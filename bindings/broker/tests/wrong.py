@@ -275,6 +275,22 @@ WRONG = {
     "a hold that ends by a signal, and doesn't say that its session may come to hold": Wrong(
         "test_leaving.Leaves.test_another_signal_ends_it", "leaving.py", (("        if not is_told:\n", "        if False:\n"),)
     ),
+    "a wait that asks nobody whether the broker is there": Wrong("test_silence.Programs.test_what_waits_is_called_with", "coming.py", (("            if asks and self._stream", "            if False and self._stream"),)),
+    "a hold that misses its broker by the clock": Wrong(
+        "test_silence.Counts.test_words_in_time", "silence.py", (("        self._count = 0\n        if not", "        if not"),)
+    ),
+    "a hold that says that its place is kept, and asked anew": Wrong(
+        "test_silence.Counts.test_a_cut_is_no_silence", "silence.py", (("        self._is_lost = self._has_place\n", "        pass\n"),)
+    ),
+    "a guard that blames the broker for its own sleep": Wrong(
+        "test_guard.Commands.test_a_guard_that_was_stopped", "guard_command.py", (("            if not pulse.stood_still():\n", "            if True:\n"),)
+    ),
+    "one that holds on for a client by HTTP that was never told": Wrong(
+        "test_labrun_hold.Held.test_it_is_killed_while_the_broker_is_stopped", "visits.py", (("        elif self._is_untold and self.session", "        elif False and self.session"),)
+    ),
+    "one that asks for a client by HTTP that is gone": Wrong(
+        "test_labrun_hold.Held.test_it_is_killed_while_the_broker_is_stopped", "http_door.py", (("        check_there(request)\n        visit = await", "        visit = await"),)
+    ),
     "a lab that is closed while its broker is away, and goes on to look for it": Wrong(
         "test_stopped.Killed.test_a_lab_is_closed_meanwhile", "client.py", (("held in its for task in (held._returns, held._beats)", "held in its for task in (held._beats,)"),)
     ),
