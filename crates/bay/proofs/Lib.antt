@@ -1,11 +1,11 @@
 pub mod Members
 pub mod InLine
 pub mod Sets
-pub mod Taken
 pub mod Tied
 pub mod Letting
 pub mod Steps
 pub mod Due
+pub mod Nobody
 pub mod Askers
 pub mod Alike
 pub mod Stops

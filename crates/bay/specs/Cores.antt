@@ -1,5 +1,5 @@
 -- For readers: the line and the book together, what is true of both, and how one is let in or ends.
-use Rattle.std.specs.Prelude.{◌≡◌, ◌≢◌, ◌↔◌, ℕ, ◌<◌, ◌≤◌, Bool, true, false, List, length, slice_index_or}
+use Rattle.std.specs.Prelude.{◌≡◌, ◌≢◌, ◌↔◌, ℕ, ◌<◌, ◌≤◌, Bool, true, false, List, length}
 use Rattle.std.specs.List.{count_by}
 use Rattle.std.specs.Int.{bit_at}
 use Rattle.bay_line.specs.declared.wish.Wish.{Wish}
@@ -58,10 +58,6 @@ pub record IsTied (classes : List Class) (x : Core) : Type 0 where
 -- a place of the class is free
 abbrev pub IsFreeClass : List Class → List Ask → ℕ → Type 0
 IsFreeClass classes asks k = count_by (holds_class k) asks < (class_at classes k).places
-
--- how many of each class hold
-abbrev pub AreTaken : List Ask → List ℕ → Type 0
-AreTaken asks taken = (k : ℕ) → k < 32 → slice_index_or taken k 0 ≡ count_by (holds_class k) asks
 
 -- the set has just the classes of which a place is free
 abbrev pub AreFree : List Class → List Ask → ℕ → Type 0

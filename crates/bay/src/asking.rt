@@ -27,6 +27,9 @@ fn is_of(book: &Book, place: usize, owner: u128) -> bool
 fn has_owner(book: &Book, owner: u128) -> bool
     ensures { result ≡ has_owner owner book.now.asks }
 {
+    if owner == 0 {
+        return false;
+    }
     for place in 0..book.len() {
         if is_of(book, place, owner) {
             return true;

@@ -1,7 +1,7 @@
 //! Who ends.
-ghost use Rattle.std.specs.Prelude.{◌≡◌, ◌≤◌, ◌<◌, false, length};
+ghost use Rattle.std.specs.Prelude.{◌≡◌, ◌≤◌, ◌<◌, true, false, None, length};
 ghost use Rattle.bay_book.specs.Asks.{ask_at, is_over};
-ghost use Rattle.bay.specs.Cores.{core, ended};
+ghost use Rattle.bay.specs.Cores.{core, ended, IsTied};
 ghost use Rattle.bay.specs.Following.{IsFull, AreFull, IsFirstOverLimit, IsFirstDue};
 
 use crate::classes::Class;
@@ -24,6 +24,9 @@ fn first_over_limit(classes: &[Class], line: &Line, book: &Book, now: u64) -> Op
     requires { length classes.now ≤ 32 }
     ensures { IsFirstOverLimit classes.now now (core line.now book.now) result }
 {
+    if line.len() == 0 {
+        return None;
+    }
     book.first_over_limit(now, line.wanted(), full_classes(classes, line, book))
 }
 
@@ -45,6 +48,37 @@ pub(crate) fn first_due(
             None => book.first_late(now, terms.disk),
         },
     }
+}
+
+/// Whether no hold ends by these terms alone.
+fn end_nobody(terms: Terms) -> bool
+    ensures { result ≡ true → (terms.grace ≡ None) × (terms.disk ≡ None) }
+{
+    match (terms.grace, terms.disk) {
+        (None, None) => true,
+        (None, Some(_)) => false,
+        (Some(_), _) => false,
+    }
+}
+
+/// The first whose time is over, and how it ends. Where nobody waits, and no hold ends by the terms alone, nobody is looked at.
+pub(crate) fn next_due(
+    classes: &[Class],
+    terms: Terms,
+    line: &Line,
+    book: &Book,
+    now: u64,
+) -> Option<(usize, End)>
+    requires few { length classes.now ≤ 32 }
+    requires tied { IsTied classes.now (core line.now book.now) }
+    ensures { IsFirstDue classes.now terms now (core line.now book.now) result }
+{
+    if line.len() == 0 {
+        if end_nobody(terms) {
+            return None;
+        }
+    }
+    first_due(classes, terms, line, book, now)
 }
 
 /// The ask at this place is over from this moment on, and isn't in line any more.

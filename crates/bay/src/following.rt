@@ -5,7 +5,7 @@ ghost use Rattle.bay.specs.Cores.{core, ended, IsTied};
 ghost use Rattle.bay.specs.Following.{Follows};
 
 use crate::classes::Class;
-use crate::ending::{end_at, first_due};
+use crate::ending::{end_at, next_due};
 use crate::letting_in::let_in_all;
 use crate::terms::Terms;
 use bay_book::{Book, End};
@@ -21,7 +21,7 @@ pub(crate) fn follow(classes: &[Class], terms: Terms, line: &mut Line, book: &mu
     loop {
         let_in_all(classes, terms.keeps, line, book, now);
         book.is_sound();
-        let Some((place, how)) = first_due(classes, terms, line, book, now) else {
+        let Some((place, how)) = next_due(classes, terms, line, book, now) else {
             return;
         };
         end_at(line, book, place, how, now);

@@ -1,7 +1,7 @@
 //! The classes of which a place is free.
 ghost use Rattle.std.specs.Prelude.{◌≡◌, ◌↔◌, ◌<◌, ◌≤◌, length, IsTrue};
 ghost use Rattle.bay_book.specs.Asks.{is_holding};
-ghost use Rattle.bay.specs.Cores.{IsFreeClass, AreTaken, AreFree};
+ghost use Rattle.bay.specs.Cores.{IsFreeClass, AreFree};
 
 use crate::classes::{Class, class_bit};
 use bay_book::{Book, Stage};
@@ -22,26 +22,12 @@ pub(crate) fn is_holding(stage: Stage) -> bool
     matches!(stage, Stage::Holds)
 }
 
-/// How many of each class hold.
-fn taken_of_each(book: &Book) -> [usize; 32]
-    ensures { AreTaken book.now.asks result }
-{
-    let mut taken = [0; 32];
-    for place in 0..book.len() {
-        let ask = book.ask_at(place);
-        if is_holding(ask.stage) && ask.class < 32 {
-            taken[ask.class as usize] += 1;
-        }
-    }
-    taken
-}
-
 /// The classes of which a place is free.
 pub(crate) fn free_classes(classes: &[Class], book: &Book) -> u32
     requires { length classes.now ≤ 32 }
     ensures { AreFree classes.now book.now.asks result }
 {
-    let taken = taken_of_each(book);
+    let taken = book.taken_of_each();
     let mut free = 0u32;
     for class in 0..classes.len() {
         if taken[class] < classes[class].places as usize {

@@ -28,6 +28,9 @@ pub(crate) fn let_in_all(classes: &[Class], keeps: bool, line: &mut Line, book: 
     ensures nobody { NobodyWaits classes.now (core line.new book.new) }
 {
     loop {
+        if line.len() == 0 {
+            return;
+        }
         let free = free_classes(classes, book);
         let used = book.in_use();
         let Some((place, seated)) = line.next(used, free) else {

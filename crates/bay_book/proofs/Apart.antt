@@ -17,11 +17,11 @@ use Rattle.bay_book.proofs.Least.{some_is, le_or}
 
 -- ---- apart
 
-common_turned : (a b : ℕ) → common a b ≡ false → common b a ≡ false
+pub common_turned : (a b : ℕ) → common a b ≡ false → common b a ≡ false
 common_turned a b h = ap (λ n. not (nat_eq n 0)) (and_comm b a) ∙ h
 
 -- one is changed, and is apart from all others
-apart_set : (asks : List Ask) (j : ℕ) (a : Ask) → j < length asks
+pub apart_set : (asks : List Ask) (j : ℕ) (a : Ask) → j < length asks
     → ((i : ℕ) → i ≢ j → i < length asks → is_holding a.stage ≡ true → is_holding (ask_at asks i).stage ≡ true → common a.needs (ask_at asks i).needs ≡ false)
     → AreApart asks → AreApart (set asks j a)
 apart_set asks j a inside new h i k d less within =
@@ -49,7 +49,7 @@ apart_set asks j a inside new h i k d less within =
     ]
 
 -- apart, whichever stands first
-apart_either : (asks : List Ask) (i j : ℕ) → i ≢ j → i < length asks → j < length asks → AreApart asks → is_holding (ask_at asks j).stage ≡ true
+pub apart_either : (asks : List Ask) (i j : ℕ) → i ≢ j → i < length asks → j < length asks → AreApart asks → is_holding (ask_at asks j).stage ≡ true
     → is_holding (ask_at asks i).stage ≡ true → common (ask_at asks j).needs (ask_at asks i).needs ≡ false
 apart_either asks i j other in_i in_j h hold_j hold_i = elim (less_or_more i j other) [
   | inl less ↦ common_turned (ask_at asks i).needs (ask_at asks j).needs (h i j no_ask less in_j hold_i hold_j)
@@ -59,14 +59,14 @@ apart_either asks i j other in_i in_j h hold_j hold_i = elim (less_or_more i j o
     less_or_more : (a b : ℕ) → a ≢ b → (a < b) ⊎ (b < a)
     less_or_more a b e = grind (arith, e)
 
-apart_give : (asks : List Ask) (at : ℕ) → AreApart asks → AreApart (map (given at) asks)
+pub apart_give : (asks : List Ask) (at : ℕ) → AreApart asks → AreApart (map (given at) asks)
 apart_give asks at h i k d less within =
     let in_k : k < length asks = omega (arith, within, length-map asks (given at)) in
     let in_i : i < length asks = omega (arith, in_k, less) in
     subst (λ (p : Ask). IsApart p (get_or (map (given at) asks) k d)) (sym (get_or-map (given at) asks i d d in_i))
     (subst (λ (p : Ask). IsApart (given at (get_or asks i d)) p) (sym (get_or-map (given at) asks k d d in_k)) (λ x y. h i k d less in_k x y))
 
-apart_turn : (asks : List Ask) (at : ℕ) → AreApart asks → AreApart (map (turned at) asks)
+pub apart_turn : (asks : List Ask) (at : ℕ) → AreApart asks → AreApart (map (turned at) asks)
 apart_turn asks at h i k d less within =
     let in_k : k < length asks = omega (arith, within, length-map asks (turned at)) in
     let in_i : i < length asks = omega (arith, in_k, less) in

@@ -15,6 +15,9 @@ none_common a b h = ap not (eq-eqb (bit_and a b) 0 h)
 some_common : (a b : ℕ) → bit_and a b ≢ 0 → common a b ≡ true
 some_common a b h = ap not (ne_eqb (bit_and a b) 0 h)
 
+pub none_is : (a b : ℕ) → common a b ≡ false → bit_and a b ≡ 0
+none_is a b h = elim (cases_eq (bit_and a b) 0) [ inl is ↦ is | inr some ↦ absurd (false≢true (sym h ∙ some_common a b some)) ]
+
 with_false : (b : Bool) → (b || false) ≡ b
 with_false true = refl
 with_false false = refl
@@ -46,15 +49,15 @@ common_both x a b = elim (cases_eq (bit_and x b) 0) [
 pub or_false_is : (a k b : Bool) → k ≡ false → a ≡ (a || k && b)
 or_false_is a k b h = sym (ap (λ c. a || c && b) h ∙ with_false a)
 
-or_false_first : (a b : Bool) → (a || b) ≡ false → a ≡ false
+pub or_false_first : (a b : Bool) → (a || b) ≡ false → a ≡ false
 or_false_first false b h = refl
 or_false_first true b h = h
 
-or_false_second : (a b : Bool) → (a || b) ≡ false → b ≡ false
+pub or_false_second : (a b : Bool) → (a || b) ≡ false → b ≡ false
 or_false_second false b h = h
 or_false_second true b h = absurd (false≢true (sym h))
 
-or_true_cases : (a b : Bool) → (a || b) ≡ true → (a ≡ true) ⊎ (b ≡ true)
+pub or_true_cases : (a b : Bool) → (a || b) ≡ true → (a ≡ true) ⊎ (b ≡ true)
 or_true_cases true b h = inl refl
 or_true_cases false b h = inr h
 

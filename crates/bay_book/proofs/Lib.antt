@@ -6,3 +6,5 @@ pub mod Sound
 pub mod Going
 pub mod Told
 pub mod Apart
+pub mod Settled
+pub mod Counted

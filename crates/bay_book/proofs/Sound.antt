@@ -1,5 +1,5 @@
 -- Each call leaves a book as sound as it was.
-use Rattle.std.proofs.Common.{◌≡◌, ◌≢◌, ℕ, ◌+◌, ◌<◌, ◌≤◌, max, Bool, true, false, ◌||◌, not, nat_le, nat_eq, List, length, set, get_or, Option, None, Some, refl, sym, ap, ◌∙◌, subst, inl, inr, arith, length-set}
+use Rattle.std.proofs.Common.{◌≡◌, ◌≢◌, ℕ, ◌+◌, ◌<◌, ◌≤◌, max, Bool, true, false, ◌||◌, not, nat_le, nat_eq, List, [], length, set, get_or, Option, None, Some, refl, sym, ap, ◌∙◌, subst, inl, inr, arith, length-set}
 use Rattle.std.specs.Prelude.{All, AllPairs}
 use Rattle.std.proofs.lemmas.Bool.{cases_eq, eq-eqb, false≢true, leb-false, leb-true, le-leb}
 use Rattle.std.proofs.lemmas.List.{get_or-set_same, get_or-set_other, get_or_default, get_or-map, length-map}
@@ -145,6 +145,16 @@ pub sound_hearing : (durable : ℕ) (a : Ask) (what : Outcome) → to_tell durab
 sound_hearing durable a what t h = sound_hearing_at durable a what a.stage a.heard t h
 
 -- ---- the book
+
+pub sound_none : (next granted : ℕ) → granted ≤ next → IsSound (record { asks = []; next = next; granted = granted; durable = 0 })
+sound_none next granted few = record {
+  rises = λ i k d less within. absurd (omega (arith, within));
+  below = λ k d inside. absurd (omega (arith, inside));
+  each = λ k d inside. absurd (omega (arith, inside));
+  tokens = λ i k d less within. absurd (omega (arith, within));
+  within = λ k d inside. absurd (omega (arith, inside));
+  room = omega (arith, few);
+}
 
 -- a changed ask has this number of it as before
 same_at : (f : Ask → ℕ) (asks : List Ask) (j i : ℕ) (a d : Ask) → j < length asks → f a ≡ f (ask_at asks j) → i < length asks

@@ -6,3 +6,5 @@ pub mod Books
 pub mod Restoring
 pub mod Runs
 pub mod Holding
+pub mod Settled
+pub mod Counted

@@ -6,38 +6,48 @@ ghost use Rattle.bay_book.specs.Moments.{is_gone_too_long, is_over_limit, due_at
 ghost use Rattle.bay_book.specs.Finding.{IsPlaceOf, IsFirst, IsFirstLate, IsLeast, IsInUse};
 ghost use Rattle.bay_book.specs.Telling.{to_tell, IsNextToTell};
 ghost use Rattle.bay_book.specs.Books.{IsSound, nobody, behind, add, restore, hold, end, set_gone, is_back, give, give_one, turn, reach, heard, purge};
+ghost use Rattle.bay_book.specs.Counted.{AreTaken};
 ghost use Rattle.bay_book.specs.Restoring.{MayBeRestored, IsWhyNotRestored};
 
 use crate::ask::{Ask, End, Outcome, Stage};
+use crate::counting::{count_down, count_up, with_needs, without_own};
 use crate::finding::{
     due, first_gone, first_late, first_over_limit, in_use, limit_due, place_of, taken,
 };
-use crate::making::{
-    asker, back_again, give_all, given, gone_since, hearing, holding, is_done, over, restored,
-    turn_all,
-};
+use crate::making::{asker, back_again, given, gone_since, hearing, holding, over, restored};
 use crate::restoring::{NotRestored, may_be_restored};
+use crate::row::Row;
+use crate::settling::{purge, with_place};
 use crate::telling::next_to_tell;
 use std::alloc::{AllocError, Global};
 use std::marker::Model;
 
-/// The asks, the least number that the next may have, the largest token so far, and how far the journal outlives a crash.
+/// The asks, the least number that the next may have, the largest token so far, and how far the journal outlives a crash; from where to where those
+/// stand that aren't settled; and what is counted: how many of each of the first 32 classes hold, what is in use, and whether that is sure.
 #[derive(Drop)]
 pub struct Book {
-    asks: Vec<Ask, Global>,
+    asks: Row,
     next: u64,
     granted: u64,
     durable: u64,
+    from: usize,
+    to: usize,
+    taken: [usize; 32],
+    used: u64,
+    sure: bool,
 }
 
 impl Model for Book {
     ghost use Rattle.bay_book.specs.Books.{BookView, IsSound};
+    ghost use Rattle.bay_book.specs.Settled.{AreWithin};
+    ghost use Rattle.bay_book.specs.Counted.{AreCounted};
 
     ghost Value = { BookView };
 
-    ghost view = { λ x. record { asks = x.asks.items; next = x.next; granted = x.granted; durable = x.durable } };
+    ghost view = { λ x. record { asks = x.asks; next = x.next; granted = x.granted; durable = x.durable } };
 
-    ghost invariant = { λ x. IsSound (record { asks = x.asks.items; next = x.next; granted = x.granted; durable = x.durable }) };
+    ghost invariant = { λ x. IsSound (record { asks = x.asks; next = x.next; granted = x.granted; durable = x.durable })
+        × AreWithin x.asks x.from x.to × AreCounted x.asks x.taken x.used x.sure };
 }
 
 impl Book {
@@ -46,10 +56,15 @@ impl Book {
         ensures { result ≡ nobody }
     {
         Book {
-            asks: Vec::new(alloc),
+            asks: Row::nobody(alloc),
             next: 0,
             granted: 0,
             durable: 0,
+            from: 0,
+            to: 0,
+            taken: [0; 32],
+            used: 0,
+            sure: true,
         }
     }
 
@@ -58,10 +73,15 @@ impl Book {
         ensures { result ≡ behind next granted }
     {
         Book {
-            asks: Vec::new(alloc),
+            asks: Row::nobody(alloc),
             next: next.max(granted),
             granted,
             durable: 0,
+            from: 0,
+            to: 0,
+            taken: [0; 32],
+            used: 0,
+            sure: true,
         }
     }
 
@@ -105,14 +125,14 @@ impl Book {
         requires { place < length self.now.asks }
         ensures { result ≡ ask_at self.now.asks place }
     {
-        self.asks[place]
+        self.asks.at(place)
     }
 
     /// The place of the ask with this number, if it is in the book. No other has its number.
     pub fn place_of(&self, number: u64) -> Option<usize>
         ensures { IsPlaceOf self.now.asks number result }
     {
-        place_of(&self.asks, number)
+        place_of(self.asks.all(), number)
     }
 
     /// Somebody asks, at this moment, and waits. It takes memory.
@@ -155,7 +175,7 @@ impl Book {
         ensures refused { OnErr result (self.new ≡ self.old) }
         ensures why { IfErr result (λ why. IsWhyNotRestored self.old.asks number token why) }
     {
-        if !may_be_restored(&self.asks, number, token) {
+        if !may_be_restored(self.asks.all(), number, token) {
             return Err(NotRestored::MayNot);
         }
         let ask = restored(
@@ -170,9 +190,13 @@ impl Book {
             token,
             self.durable,
         );
+        let (used, sure) = with_needs(self.used, self.sure, needs);
         let Ok(()) = self.asks.push(ask) else {
             return Err(NotRestored::NoMemory);
         };
+        count_up(&mut self.taken, ask, self.asks.len());
+        self.used = used;
+        self.sure = sure;
         self.next = self.next.max(number + 1).max(token);
         self.granted = self.granted.max(token);
         Ok(())
@@ -185,8 +209,16 @@ impl Book {
         requires waits { (ask_at self.old.asks place).stage ≡ Stage.Waits }
         ensures { self.new ≡ hold self.old place needs now keeps }
     {
+        let (from, to) = with_place(self.from, self.to, place, self.asks.len());
+        let (used, sure) = with_needs(self.used, self.sure, needs);
         self.granted += 1;
-        self.asks[place] = holding(self.asks[place], needs, now, keeps, self.granted);
+        let ask = holding(self.asks.at(place), needs, now, keeps, self.granted);
+        count_up(&mut self.taken, ask, self.asks.len());
+        self.asks.set(place, ask);
+        self.from = from;
+        self.to = to;
+        self.used = used;
+        self.sure = sure;
     }
 
     /// It is over from this moment on, and holds nothing. A line is owed if one was given that it holds.
@@ -195,7 +227,14 @@ impl Book {
         requires not_over { is_over (ask_at self.old.asks place).stage ≡ false }
         ensures { self.new ≡ end self.old place how now }
     {
-        self.asks[place] = over(self.asks[place], how, now);
+        let (from, to) = with_place(self.from, self.to, place, self.asks.len());
+        let ask = self.asks.at(place);
+        let used = without_own(self.used, self.sure, ask);
+        count_down(&mut self.taken, ask);
+        self.asks.set(place, over(ask, how, now));
+        self.from = from;
+        self.to = to;
+        self.used = used;
     }
 
     /// Its client isn't there since this moment.
@@ -203,7 +242,8 @@ impl Book {
         requires { place < length self.old.asks }
         ensures { self.new ≡ set_gone self.old place moment }
     {
-        self.asks[place] = gone_since(self.asks[place], moment);
+        let ask = gone_since(self.asks.at(place), moment);
+        self.asks.set(place, ask);
     }
 
     /// Its client is there again.
@@ -211,14 +251,15 @@ impl Book {
         requires { place < length self.old.asks }
         ensures { self.new ≡ is_back self.old place }
     {
-        self.asks[place] = back_again(self.asks[place]);
+        let ask = back_again(self.asks.at(place));
+        self.asks.set(place, ask);
     }
 
     /// All lines that are owed were given, and the journal is so long now.
     pub fn give(&mut self, at: u64)
         ensures { self.new ≡ give self.old at }
     {
-        give_all(&mut self.asks, at);
+        self.asks.give_all(at);
     }
 
     /// The lines that one owes were given, and the journal is so long now.
@@ -226,14 +267,15 @@ impl Book {
         requires { place < length self.old.asks }
         ensures { self.new ≡ give_one self.old place at }
     {
-        self.asks[place] = given(self.asks[place], at);
+        let ask = given(self.asks.at(place), at);
+        self.asks.set(place, ask);
     }
 
     /// The journal goes on in a new file, which says of each that holds that it does, and outlives a crash up to this position.
     pub fn turn(&mut self, at: u64)
         ensures { self.new ≡ turn self.old at }
     {
-        turn_all(&mut self.asks, at);
+        self.asks.turn_all(at);
         self.durable = self.durable.max(at);
     }
 
@@ -248,7 +290,7 @@ impl Book {
     pub fn next_to_tell(&self) -> Option<(usize, Outcome)>
         ensures { IsNextToTell self.now.asks self.now.durable result }
     {
-        next_to_tell(&self.asks, self.durable)
+        next_to_tell(self.asks.all(), self.from, self.to, self.durable)
     }
 
     /// It was told what it was to be told.
@@ -257,62 +299,75 @@ impl Book {
         requires due { to_tell self.old.durable (ask_at self.old.asks place) ≡ Some what }
         ensures { self.new ≡ heard self.old place what }
     {
-        self.asks[place] = hearing(self.asks[place], what);
+        let ask = hearing(self.asks.at(place), what);
+        self.asks.set(place, ask);
     }
 
     /// Those that are over, know it or needn't, and owe no line of their end aren't in the book any more.
     pub fn purge(&mut self)
         ensures { self.new ≡ purge self.old }
     {
-        self.asks.retain(|ask| !is_done(*ask));
+        let (from, to) = purge(&mut self.asks, self.from, self.to);
+        self.from = from;
+        self.to = to;
     }
 
     /// All instruments of those that hold.
     pub fn in_use(&self) -> u64
         ensures { IsInUse self.now.asks result }
     {
-        in_use(&self.asks)
+        if self.sure {
+            return self.used;
+        }
+        in_use(self.asks.all())
+    }
+
+    /// How many of each of the first 32 classes hold.
+    pub fn taken_of_each(&self) -> &[usize; 32]
+        ensures { AreTaken self.now.asks result.now }
+    {
+        &self.taken
     }
 
     /// How many of this class hold.
     pub fn taken(&self, class: u32) -> usize
         ensures { result ≡ count_by (holds_class class) self.now.asks }
     {
-        taken(&self.asks, class)
+        taken(self.asks.all(), class)
     }
 
     /// The next moment at which a deadline, the disk's time or a grace is over.
     pub fn due(&self, grace: Option<u64>, disk: Option<u64>) -> Option<u64>
         ensures { IsLeast (due_at grace self.now.durable disk) self.now.asks result }
     {
-        due(&self.asks, grace, self.durable, disk)
+        due(self.asks.all(), grace, self.durable, disk)
     }
 
     /// The next moment at which a limit is over, of those that have one of these instruments, or a place of one of these classes.
     pub fn limit_due(&self, wanted: u64, full: u32) -> Option<u64>
         ensures { IsLeast (limit_due_at wanted full) self.now.asks result }
     {
-        limit_due(&self.asks, wanted, full)
+        limit_due(self.asks.all(), wanted, full)
     }
 
     /// The first that has to lapse at this moment, and how.
     pub fn first_late(&self, now: u64, disk: Option<u64>) -> Option<(usize, End)>
         ensures { IsFirstLate now self.now.durable disk self.now.asks result }
     {
-        first_late(&self.asks, now, self.durable, disk)
+        first_late(self.asks.all(), now, self.durable, disk)
     }
 
     /// The first that holds, and whose client is gone for too long.
     pub fn first_gone(&self, now: u64, grace: Option<u64>) -> Option<usize>
         ensures { IsFirst (is_gone_too_long now grace) self.now.asks result }
     {
-        first_gone(&self.asks, now, grace)
+        first_gone(self.asks.all(), now, grace)
     }
 
     /// The first that holds, and whose limit is over, of those that have one of these instruments, or a place of one of these classes.
     pub fn first_over_limit(&self, now: u64, wanted: u64, full: u32) -> Option<usize>
         ensures { IsFirst (is_over_limit now wanted full) self.now.asks result }
     {
-        first_over_limit(&self.asks, now, wanted, full)
+        first_over_limit(self.asks.all(), now, wanted, full)
     }
 }

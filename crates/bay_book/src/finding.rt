@@ -16,7 +16,14 @@ pub(crate) fn place_of(asks: &[Ask], number: u64) -> Option<usize>
     requires { AllPairs (λ a b. a.number < b.number) asks.now }
     ensures { IsPlaceOf asks.now number result }
 {
-    for place in 0..asks.len() {
+    // (whoever has just asked is the last)
+    let len = asks.len();
+    if 0 < len {
+        if asks[len - 1].number == number {
+            return Some(len - 1);
+        }
+    }
+    for place in 0..len {
         if asks[place].number == number {
             return Some(place);
         }

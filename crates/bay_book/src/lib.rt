@@ -5,11 +5,14 @@
 
 mod ask;
 mod book;
+mod counting;
 mod finding;
 pub mod laws;
 mod making;
 mod moments;
 mod restoring;
+mod row;
+mod settling;
 mod telling;
 
 pub use ask::{Ask, End, Heard, Mark, Outcome, Stage};

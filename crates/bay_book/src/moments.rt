@@ -118,7 +118,7 @@ fn limit_end(ask: Ask) -> Option<u64>
 }
 
 /// Whether something is in both sets.
-fn common(a: u64, b: u64) -> bool
+pub(crate) fn common(a: u64, b: u64) -> bool
     ensures { result ≡ common a b }
 {
     a & b != 0

@@ -1,6 +1,7 @@
 //! What is to be told, and to whom first.
 ghost use Rattle.std.specs.Prelude.{◌≡◌};
 ghost use Rattle.bay_book.specs.Asks.{is_written};
+ghost use Rattle.bay_book.specs.Settled.{AreWithin};
 ghost use Rattle.bay_book.specs.Telling.{may_say, if_may, to_tell, says_over, IsFirstOf, IsNextToTell};
 
 use crate::ask::{Ask, End, Heard, Mark, Outcome, Stage};
@@ -68,10 +69,17 @@ fn says_over(what: Outcome) -> bool
 }
 
 /// The first that is to be told something of this kind, and what: that it is over, or that it holds.
-fn first_of(asks: &[Ask], durable: u64, over: bool) -> Option<(usize, Outcome)>
+fn first_of(
+    asks: &[Ask],
+    from: usize,
+    to: usize,
+    durable: u64,
+    over: bool,
+) -> Option<(usize, Outcome)>
+    requires { AreWithin asks.now from to }
     ensures { IsFirstOf over asks.now durable result }
 {
-    for place in 0..asks.len() {
+    for place in from..to {
         if let Some(what) = to_tell(asks[place], durable) {
             if says_over(what) == over {
                 return Some((place, what));
@@ -81,12 +89,18 @@ fn first_of(asks: &[Ask], durable: u64, over: bool) -> Option<(usize, Outcome)>
     None
 }
 
-/// The first that is to be told something, and what. Those that are over come before those that hold by that.
-pub(crate) fn next_to_tell(asks: &[Ask], durable: u64) -> Option<(usize, Outcome)>
+/// The first that is to be told something, and what. Those that are over come before those that hold by that. Only those are looked at that aren't settled.
+pub(crate) fn next_to_tell(
+    asks: &[Ask],
+    from: usize,
+    to: usize,
+    durable: u64,
+) -> Option<(usize, Outcome)>
+    requires { AreWithin asks.now from to }
     ensures { IsNextToTell asks.now durable result }
 {
-    match first_of(asks, durable, true) {
+    match first_of(asks, from, to, durable, true) {
         Some(found) => Some(found),
-        None => first_of(asks, durable, false),
+        None => first_of(asks, from, to, durable, false),
     }
 }

@@ -8,4 +8,4 @@ use Rattle.bay_book.proofs.book.Book.due.Goals as goal
 pub returns : goal.returns
 returns c =
     subst (λ (v : BookView). IsLeast (due_at c.args.grace v.durable c.args.disk) v.asks c.due.result) c.self.view_is
-    (subst (λ (z : List Ask). IsLeast (due_at c.args.grace c.self.inside.durable c.args.disk) z c.due.result) c.deref.ensures.value c.due.ensures)
+    (subst (λ (z : List Ask). IsLeast (due_at c.args.grace c.self.inside.durable c.args.disk) z c.due.result) c.all.ensures c.due.ensures)

@@ -8,4 +8,4 @@ use Rattle.bay_book.proofs.book.Book.limit_due.Goals as goal
 pub returns : goal.returns
 returns c =
     subst (λ (v : BookView). IsLeast (limit_due_at c.args.wanted c.args.full) v.asks c.limit_due.result) c.self.view_is
-    (subst (λ (z : List Ask). IsLeast (limit_due_at c.args.wanted c.args.full) z c.limit_due.result) c.deref.ensures.value c.limit_due.ensures)
+    (subst (λ (z : List Ask). IsLeast (limit_due_at c.args.wanted c.args.full) z c.limit_due.result) c.all.ensures c.limit_due.ensures)

@@ -8,4 +8,4 @@ pub returns : goal.returns
 returns c =
     let x = c.self.inside in
     subst (λ (v : BookView). IsNextToTell v.asks v.durable c.next_to_tell.result) c.self.view_is
-    (subst (λ (z : List Ask). IsNextToTell z x.durable c.next_to_tell.result) c.deref.ensures.value c.next_to_tell.ensures)
+    (subst (λ (z : List Ask). IsNextToTell z x.durable c.next_to_tell.result) c.all.ensures c.next_to_tell.ensures)
