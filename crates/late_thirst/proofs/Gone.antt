@@ -12,7 +12,7 @@ use Rattle.lab_plan.proofs.Bits.{holds_none}
 use Rattle.late_thirst.specs.declared.asker.Asker.{Asker}
 use Rattle.late_thirst.specs.declared.asker.Reason.{Reason}
 use Rattle.late_thirst.specs.declared.asker.Reason.TheVariants.{Passed, Free}
-use Rattle.late_thirst.specs.Outside.{place, IsOutside, needs_of, IsDue, IsDueAt, NobodyIsDue, NobodyIsThere, passed_at}
+use Rattle.late_thirst.specs.Outside.{place, IsOutside, needs_of, IsDue, IsDueAt, NobodyIsDue, passed_at}
 use Rattle.late_thirst.specs.LettingIn.{GoesIn, GoInPassed, AreGone, LetsIn}
 use Rattle.late_thirst.proofs.Passing.{IsLike, none_stays, one_stays}
 
@@ -162,7 +162,7 @@ one_like most ready k old new g j a at = elim (cases_eq j k) [
       (was.0, was.1, same_needs was.0 a (passed_at most ready (needs_of (place old k)) j (Some was.0)) (sym moved ∙ at) (one_stays most ready (needs_of (place old k)) j was.0))
 ]
 
-chain_before : (most ready n : ℕ) (old new : List (Option Asker)) → GoInPassed most ready n old new → (j : ℕ) → place old j ≡ None → place new j ≡ None
+pub chain_before : (most ready n : ℕ) (old new : List (Option Asker)) → GoInPassed most ready n old new → (j : ℕ) → place old j ≡ None → place new j ≡ None
 chain_before most ready zero old new is j none = ap (λ (l : List (Option Asker)). place l j) is ∙ none
 chain_before most ready (suc n) old new (mid, k, chain, inside, due, g) j none =
     outside_before most ready k mid new g j (chain_before most ready n old mid chain j none)
@@ -251,9 +251,3 @@ pub like_before : (most ready used : ℕ) (old : List (Option Asker)) (set : ℕ
 like_before most ready used old set new (inl (not_none, p)) j a at = chain_like most ready p.many old new p.one_by_one j a at
 like_before most ready used old set new (inr (inl (none, k, first, g, gone))) j a at = one_like most ready k old new g j a at
 like_before most ready used old set new (inr (inr (none, free, is, same))) j a at = (a, ap (λ (l : List (Option Asker)). place l j) (sym same) ∙ at, refl)
-
--- where nobody is, nobody is let in
-pub none_let_in : (most ready used : ℕ) (places : List (Option Asker)) → NobodyIsThere places → LetsIn most ready used places 0 places
-none_let_in most ready used places none = inr (inr (never (Passed most), never (Free used), refl, refl)) where
-  never : (reason : Reason) → NobodyIsDue reason ready places
-  never reason j inside due = let out = due_is_outside reason (place places j) due.1 in not_both (place places j) out.0 out.1 (none j inside)

@@ -1,5 +1,5 @@
 -- For readers: who waits outside, and who is due to be let in.
-use Rattle.std.specs.Prelude.{◌≡◌, ◌⊎◌, ℕ, ◌+◌, ◌<◌, ◌≤◌, true, Bool, ◌||◌, ◌==◌, nat_le, if◌then◌else◌}
+use Rattle.std.specs.Prelude.{◌≡◌, ◌⊎◌, ◌↔◌, ℕ, ◌+◌, ◌<◌, ◌≤◌, true, Bool, ◌||◌, ◌==◌, nat_le, if◌then◌else◌}
 use Rattle.std.specs.Prelude.{List, length, replicate, Option, Some, None, slice_index_or}
 use Rattle.std.specs.Int.Bits.{bit_and}
 use Rattle.lab_plan.specs.InstrumentSets.{holds}
@@ -24,9 +24,9 @@ nobody jobs = record { places = replicate jobs None; calls = 0; most = 0 }
 abbrev pub IsOutside : List (Option Asker) → ℕ → Type 0
 IsOutside places j = (a : Asker) × (place places j ≡ Some a)
 
--- none of them is
-abbrev pub NobodyIsThere : List (Option Asker) → Type 0
-NobodyIsThere places = (j : ℕ) → j < length places → place places j ≡ None
+-- the set has just these jobs
+abbrev pub AreOutside : List (Option Asker) → ℕ → Type 0
+AreOutside places set = (j : ℕ) → (holds set j ≡ true) ↔ IsOutside places j
 
 abbrev pub since_of : Option Asker → ℕ
 since_of (Some a) = a.since

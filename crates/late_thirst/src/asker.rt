@@ -1,7 +1,8 @@
 //! One that waits outside.
 ghost use Rattle.std.specs.Prelude.{◌≡◌, ◌<◌, ◌↔◌, IsTrue};
-ghost use Rattle.lab_plan.specs.InstrumentSets.{holds};
 ghost use Rattle.late_thirst.specs.Outside.{IsDue, passed_by, passed_at, since_of, needs_of};
+
+use crate::sets::has;
 
 /// A job that has asked for its next session, and isn't let in yet.
 #[derive(Clone, Copy, PartialEq, Eq, Debug)]
@@ -21,15 +22,6 @@ pub enum Reason {
     Passed(u32),
     /// It needs none of these instruments.
     Free(u64),
-}
-
-/// Whether the set has the job.
-#[tactic(auto, using(lab_plan::proofs::Bits::holds_is))]
-pub fn has(set: u32, job: usize) -> bool
-    requires { job < 32 }
-    ensures { result ≡ holds set job }
-{
-    set >> job & 1 == 1
 }
 
 /// Whether one may be let in for this reason.

@@ -4,6 +4,7 @@ ghost use Rattle.late_thirst.specs.LettingIn.{GoesIn, PassedGoIn, LetsIn};
 
 use crate::asker::{Asker, Reason, needs_of, passed_at};
 use crate::first_due::first_due;
+use crate::sets::next_of;
 
 /// The job goes in. Those of `ready` that stay and need one of its instruments are passed by once more.
 fn go_in(places: &mut [Option<Asker>], most: u32, ready: u32, job: usize)
@@ -13,8 +14,11 @@ fn go_in(places: &mut [Option<Asker>], most: u32, ready: u32, job: usize)
 {
     let needs = needs_of(places[job]);
     places[job] = None;
-    for other in 0..places.len() {
+    let end = places.len();
+    let mut other = next_of(ready, 0, end);
+    while other < end {
         places[other] = passed_at(places[other], most, ready, needs, other);
+        other = next_of(ready, other + 1, end);
     }
 }
 

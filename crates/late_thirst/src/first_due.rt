@@ -2,7 +2,8 @@
 ghost use Rattle.std.specs.Prelude.{◌≡◌, ◌<◌, ◌≤◌, ◌+◌, ◌↔◌, IsTrue, length};
 ghost use Rattle.late_thirst.specs.Outside.{IsDueAt, IsFirst};
 
-use crate::asker::{Asker, Reason, has, is_due, since_of};
+use crate::asker::{Asker, Reason, is_due, since_of};
+use crate::sets::{has, next_of};
 
 /// Whether the job may be let in now, for this reason.
 fn is_due_at(places: &[Option<Asker>], ready: u32, reason: Reason, job: usize) -> bool
@@ -46,9 +47,12 @@ pub(crate) fn first_due(places: &[Option<Asker>], ready: u32, reason: Reason) ->
     requires { length places.now ≤ 32 }
     ensures { IsFirst reason ready places.now (length places.now) result }
 {
+    let end = places.len();
     let mut first = None;
-    for job in 0..places.len() {
+    let mut job = next_of(ready, 0, end);
+    while job < end {
         first = pick(places, ready, reason, job, first);
+        job = next_of(ready, job + 1, end);
     }
     first
 }

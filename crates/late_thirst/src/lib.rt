@@ -9,6 +9,8 @@ mod entries;
 mod first_due;
 pub mod laws;
 mod line;
+mod sets;
 
-pub use asker::{Asker, Reason, has};
+pub use asker::{Asker, Reason};
 pub use line::Line;
+pub use sets::{has, next_of};

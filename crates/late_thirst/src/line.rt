@@ -1,6 +1,6 @@
 //! The line outside.
-ghost use Rattle.std.specs.Prelude.{◌≡◌, ◌<◌, ◌≤◌, ◌+◌, min, length, IfOk, IsTrue};
-ghost use Rattle.late_thirst.specs.Outside.{nobody, place, NobodyIsThere};
+ghost use Rattle.std.specs.Prelude.{◌≡◌, ◌<◌, ◌≤◌, ◌+◌, min, length, IfOk};
+ghost use Rattle.late_thirst.specs.Outside.{nobody, place, AreOutside};
 ghost use Rattle.late_thirst.specs.Lines.{with_most, counted, with_place, asking, LineLetsIn};
 
 use crate::asker::Asker;
@@ -8,35 +8,25 @@ use crate::entries::let_in;
 use std::alloc::{AllocError, Global};
 use std::marker::Model;
 
-/// Whether nobody is outside.
-fn is_empty(places: &[Option<Asker>]) -> bool
-    ensures { IsTrue result → NobodyIsThere places.now }
-{
-    for place in places {
-        if place.is_some() {
-            return false;
-        }
-    }
-    true
-}
-
 /// Who waits outside.
 #[derive(Drop)]
 pub struct Line {
     places: Vec<Option<Asker>, Global>,
     calls: u64,
     most: u32,
+    /// The jobs that have a place.
+    outside: u32,
 }
 
 impl Model for Line {
     ghost use Rattle.std.specs.Prelude.{◌≤◌, length};
-    ghost use Rattle.late_thirst.specs.Outside.{LineView};
+    ghost use Rattle.late_thirst.specs.Outside.{LineView, AreOutside};
 
     ghost Value = { LineView };
 
     ghost view = { λ x. record { places = x.places.items; calls = x.calls; most = x.most } };
 
-    ghost invariant = { λ x. length x.places.items ≤ 32 };
+    ghost invariant = { λ x. (length x.places.items ≤ 32) × AreOutside x.places.items x.outside };
 }
 
 impl Line {
@@ -49,6 +39,7 @@ impl Line {
             places: Vec::from_elem(alloc, None, jobs)?,
             calls: 0,
             most: 0,
+            outside: 0,
         })
     }
 
@@ -80,6 +71,7 @@ impl Line {
         ensures { self.new ≡ with_place self.old job None }
     {
         self.places[job] = None;
+        self.outside &= !(1 << job);
     }
 
     /// The job asks, for a session with these needs.
@@ -92,6 +84,14 @@ impl Line {
             needs,
             passed: 0,
         });
+        self.outside |= 1 << job;
+    }
+
+    /// The jobs that are outside.
+    pub fn outside(&self) -> u32
+        ensures { AreOutside self.now.places result }
+    {
+        self.outside
     }
 
     /// Lets in those of `ready` that were passed by often enough; or, if there is none, one that needs no instrument in use. Answers who. Call it
@@ -99,9 +99,12 @@ impl Line {
     pub fn let_in(&mut self, ready: u32, used: u64) -> u32
         ensures { LineLetsIn ready used self.old result self.new }
     {
-        if is_empty(&self.places) {
+        let those = ready & self.outside;
+        if those == 0 {
             return 0;
         }
-        let_in(&mut self.places, self.most, ready, used)
+        let set = let_in(&mut self.places, self.most, those, used);
+        self.outside ^= set;
+        set
     }
 }

@@ -4,7 +4,7 @@ use Rattle.std.proofs.lemmas.Bool.{cases_eq}
 use Rattle.interleaving.specs.World.{WorldView}
 use Rattle.late_thirst.specs.declared.asker.Asker.{Asker}
 use Rattle.late_thirst.specs.Outside.{LineView, place}
-use Rattle.live_lab.specs.Admitting.{IsPlaceThen, Attends}
+use Rattle.live_lab.specs.Admitting.{IsPlaceThen, Attends, Asks}
 
 -- those of the first n jobs are done
 pub record AskedTo (waiting : ℕ) (w : WorldView) (old : LineView) (n : ℕ) (new : LineView) : Type 0 where
@@ -28,3 +28,6 @@ one_more waiting w old n mid new a x = record {
   ];
   left = λ j above. a.others j (λ is. omega (arith, above, is)) ∙ x.left j (omega (arith, above));
 }
+
+pub all_asked : (waiting : ℕ) (w : WorldView) (old new : LineView) → AskedTo waiting w old (length w.plan.jobs) new → Asks waiting w old new
+all_asked waiting w old new x = record { as_many = x.as_many; calls = x.calls; most = x.most; each = x.done }

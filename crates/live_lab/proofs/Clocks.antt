@@ -40,17 +40,6 @@ one_counted w waiting thirsty old n mid x inside is c = record {
   left = λ j above. get_or-set_other mid n j x no_clock (λ is. omega (arith, above, is)) ∙ c.left j (omega (arith, above));
 }
 
-pub one_left : (w : WorldView) (waiting thirsty : ℕ) (old : List Clock) (n : ℕ) (mid : List Clock) → at old n ≡ clock_then w waiting thirsty old n
-    → IsCountedTo w waiting thirsty old n mid → IsCountedTo w waiting thirsty old (n + 1) mid
-one_left w waiting thirsty old n mid is c = record {
-  as_many = c.as_many;
-  done = λ j below. elim (cases_eq j n) [
-    | inl same ↦ subst (λ k. at mid k ≡ clock_then w waiting thirsty old k) (sym same) (c.left n (omega arith) ∙ is)
-    | inr other ↦ c.done j (omega (arith, below, other))
-  ];
-  left = λ j above. c.left j (omega (arith, above));
-}
-
 either : (a b : Bool) → (a ≡ true) ⊎ (b ≡ true) → (a || b) ≡ true
 either true b h = refl
 either false b (inl h) = absurd (false≢true h)

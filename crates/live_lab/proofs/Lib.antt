@@ -21,3 +21,5 @@ mod Counted
 mod Lacking
 pub mod LongerLabs
 mod Owing
+mod BitsOf
+mod Passed

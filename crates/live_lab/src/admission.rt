@@ -50,7 +50,13 @@ fn next_in<A: Allocator>(world: &World<A>, line: &mut Line, clocks: &[Clock], wa
     requires { length clocks.now ≡ length world.now.plan.jobs }
     ensures { LetsInNext waiting world.now line.old result line.new }
 {
+    // A plan has 56 instruments at most.
+    let _ = world.plan().jobs();
     let ready = jobs_of(world, clocks, waiting, Kind::Begins);
+    let those = ready & line.outside();
+    if those == 0 {
+        return 0;
+    }
     line.let_in(ready, in_use(world))
 }
 

@@ -8,7 +8,7 @@ ghost use Rattle.live_lab.specs.Admitting.{IsNext, IsPlaceFor, MayAsk, Attends, 
 use crate::kinds::has;
 use interleaving::World;
 use lab_plan::JobNo;
-use late_thirst::{Asker, Line};
+use late_thirst::{Asker, Line, next_of};
 use legal_steps::{Drinking, Event};
 use std::alloc::Allocator;
 
@@ -73,7 +73,12 @@ pub(crate) fn ask<A: Allocator>(line: &mut Line, world: &World<A>, waiting: u32)
     ensures { Asks waiting world.now line.old line.new }
 {
     line.count_call();
-    for job in 0..world.plan().jobs() {
+    let jobs = world.plan().jobs();
+    // Whoever is in neither set has no place, and gets none.
+    let set = waiting | line.outside();
+    let mut job = next_of(set, 0, jobs);
+    while job < jobs {
         attend(line, world, waiting, JobNo(job as u8));
+        job = next_of(set, job + 1, jobs);
     }
 }

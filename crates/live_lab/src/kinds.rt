@@ -1,6 +1,7 @@
 //! Sets of jobs, a bit for each.
-ghost use Rattle.std.specs.Prelude.{◌≡◌, ◌<◌, ◌↔◌, IsTrue, length};
+ghost use Rattle.std.specs.Prelude.{◌≡◌, ◌<◌, ◌↔◌, ℕ, IsTrue, length};
 ghost use Rattle.lab_plan.specs.InstrumentSets.{holds};
+ghost use Rattle.legal_steps.specs.State.{Has};
 ghost use Rattle.legal_steps.specs.Legal.{IsJob};
 ghost use Rattle.live_lab.specs.Sets.{AreJobs};
 ghost use Rattle.live_lab.specs.Settles.{IsThrough};
@@ -9,6 +10,7 @@ ghost use Rattle.live_lab.specs.Kinds.{IsOf};
 use crate::clock::{Clock, is_waiting, waited_in};
 use interleaving::World;
 use lab_plan::JobNo;
+use late_thirst::next_of;
 use legal_steps::Event;
 use std::alloc::Allocator;
 
@@ -73,13 +75,26 @@ fn is_of<A: Allocator>(
     }
 }
 
-/// The jobs of which it is so: bit k for job k.
-pub(crate) fn jobs_of<A: Allocator>(
-    world: &World<A>,
-    clocks: &[Clock],
-    waiting: u32,
-    kind: Kind,
-) -> u32
+/// The same of a kind of which only jobs are that are waited for: no other is asked.
+fn waited_for_of<A: Allocator>(world: &World<A>, clocks: &[Clock], waiting: u32, kind: Kind) -> u32
+    requires clocks { length clocks.now ≡ length world.now.plan.jobs }
+    requires only { (j : ℕ) → IsOf kind waiting clocks.now world.now j → Has waiting j }
+    ensures { AreJobs world.now.plan result (IsOf kind waiting clocks.now world.now) }
+{
+    let jobs = world.plan().jobs();
+    let mut set = 0u32;
+    let mut job = next_of(waiting, 0, jobs);
+    while job < jobs {
+        if is_of(world, clocks, waiting, kind, JobNo(job as u8)) {
+            set |= 1 << job;
+        }
+        job = next_of(waiting, job + 1, jobs);
+    }
+    set
+}
+
+/// The same of any kind: each job is asked.
+fn all_of<A: Allocator>(world: &World<A>, clocks: &[Clock], waiting: u32, kind: Kind) -> u32
     requires { length clocks.now ≡ length world.now.plan.jobs }
     ensures { AreJobs world.now.plan result (IsOf kind waiting clocks.now world.now) }
 {
@@ -90,4 +105,21 @@ pub(crate) fn jobs_of<A: Allocator>(
         }
     }
     set
+}
+
+/// The jobs of which it is so: bit k for job k.
+pub(crate) fn jobs_of<A: Allocator>(
+    world: &World<A>,
+    clocks: &[Clock],
+    waiting: u32,
+    kind: Kind,
+) -> u32
+    requires { length clocks.now ≡ length world.now.plan.jobs }
+    ensures { AreJobs world.now.plan result (IsOf kind waiting clocks.now world.now) }
+{
+    match kind {
+        Kind::Begins => waited_for_of(world, clocks, waiting, Kind::Begins),
+        Kind::NoneLeft => waited_for_of(world, clocks, waiting, Kind::NoneLeft),
+        _ => all_of(world, clocks, waiting, kind),
+    }
 }

@@ -11,7 +11,7 @@ use crate::lab::Lab;
 use crate::rest::come_to_rest;
 use interleaving::World;
 use lab_plan::JobNo;
-use late_thirst::has;
+use late_thirst::{has, next_of};
 use std::alloc::Allocator;
 
 /// What came of a settle. Sets of jobs have bit k for job k.
@@ -32,12 +32,13 @@ fn count_turns<A: Allocator>(clocks: &mut [Clock], world: &World<A>, waiting: u3
     requires { length clocks.old ≡ length world.now.plan.jobs }
     ensures { AreTurnsCounted world.now waiting thirsty clocks.old clocks.new }
 {
-    for job in 0..world.plan().jobs() {
-        let number = JobNo(job as u8);
-        let was_thirsty = has(thirsty, job);
-        if has(waiting, job) || was_thirsty {
-            clocks[job] = after_turn(clocks[job], was_thirsty, world.job(number));
-        }
+    let jobs = world.plan().jobs();
+    let set = waiting | thirsty;
+    let mut job = next_of(set, 0, jobs);
+    while job < jobs {
+        let phase = world.job(JobNo(job as u8));
+        clocks[job] = after_turn(clocks[job], has(thirsty, job), phase);
+        job = next_of(set, job + 1, jobs);
     }
 }
 

@@ -16,3 +16,4 @@ pub mod Drunk
 pub mod Attended
 pub mod Rested
 pub mod MarkedOn
+mod Members

@@ -1,6 +1,6 @@
 -- Job after job, and round after round, until nobody has anything to do of itself.
 use Rattle.std.proofs.Common.{◌≡◌, ◌≢◌, ℕ, ◌+◌, ◌*◌, ◌<◌, ◌≤◌, true, false, List, [], ◌∷◌, ◌++◌, take, length, set, slice_index_or, get_or-set_same, get_or-set_other, length-set, refl, sym, ap, ◌∙◌, subst, inl, inr, arith}
-use Rattle.std.proofs.lemmas.Bool.{cases_eq}
+use Rattle.std.proofs.lemmas.Bool.{cases_eq, cases_lt}
 use Rattle.lab_plan.specs.LabPlan.{LabPlan, edges, edges_of, session_names}
 use Rattle.lab_plan.specs.IsPlan.{IsPlan}
 use Rattle.legal_steps.specs.declared.phase.Drinking.TheVariants.{Thirsty}
@@ -178,15 +178,22 @@ module _ (old mid : WorldView) (d0 d1 : DueView) (j n : ℕ) (job : IsJob old.pl
 
 -- ---- job after job
 
--- one that isn't due
-pub jobs_same : (old new : WorldView) (d0 d1 : DueView) (i n : ℕ) → Attends (λ k. k < i) old d0 n new d1 → is_due d1 i ≡ false → Attends (λ k. k < i + 1) old d0 n new d1
-jobs_same old new d0 d1 i n a out = record {
+-- nobody yet
+pub jobs_none : (w : WorldView) (due : DueView) → AreMarked w.plan w.state due → Attends (λ k. k < 0) w due 0 w due
+jobs_none w due marked = record {
+  alone = alone_none w;
+  marked = marked;
+  unmarked = λ none k below. absurd (omega (arith, below));
+  stays = λ none k out. out;
+}
+
+-- those that aren't due
+pub jobs_same : (old new : WorldView) (d0 d1 : DueView) (i m n : ℕ) → ((k : ℕ) → i ≤ k → k < m → is_due d1 k ≡ false) → Attends (λ k. k < i) old d0 n new d1
+    → Attends (λ k. k < m) old d0 n new d1
+jobs_same old new d0 d1 i m n out a = record {
   alone = a.alone;
   marked = a.marked;
-  unmarked = λ none k below. elim (cases_eq k i) [
-    | inl is ↦ subst (λ m. is_due d1 m ≡ false) (sym is) out
-    | inr other ↦ a.unmarked none k (omega (arith, below, other))
-  ];
+  unmarked = λ none k below. elim (cases_lt k i) [ inl low ↦ a.unmarked none k low | inr high ↦ out k high below ];
   stays = a.stays;
 }
 

@@ -4,3 +4,4 @@ pub mod Resting
 pub mod Attending
 pub mod Longer
 pub mod Visiting
+pub mod Members

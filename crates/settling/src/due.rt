@@ -1,13 +1,14 @@
 //! Which jobs may have something to do, and at which ends of edges nothing is to be done.
-ghost use Rattle.std.specs.Prelude.{◌≡◌, ◌<◌, ℕ, true, false, length, replicate, IfOk, IsTrue};
+ghost use Rattle.std.specs.Prelude.{◌≡◌, ◌<◌, ◌≤◌, ℕ, true, false, length, replicate, IfOk, IsTrue};
 ghost use Rattle.lab_plan.specs.LabPlan.{edges};
 ghost use Rattle.legal_steps.specs.State.{State, IsOwn, end_of};
 ghost use Rattle.legal_steps.specs.Legal.{IsJob};
 ghost use Rattle.settling.specs.Left.{DueView, IsDueOf, AreMarked, KeepsMarks, IsBy, IsBySelf};
 ghost use Rattle.settling.specs.Left.{is_due, is_noted as is_noted_of, only_at as only_at_of};
-ghost use Rattle.settling.specs.Attending.{not_due, with_note, woken_at, placed, place_of as place_for};
+ghost use Rattle.settling.specs.Attending.{not_due, with_due, with_note, woken_at, placed, place_of as place_for};
 
 use lab_plan::{EdgeNo, JobNo, Plan};
+use late_thirst::{has, next_of};
 use legal_steps::End;
 use std::alloc::{AllocError, Allocator, Global};
 use std::marker::Model;
@@ -16,7 +17,9 @@ use std::marker::Model;
 /// edge that whoever is there has nothing to do there.
 #[derive(Drop)]
 pub struct Due<A: Allocator = Global> {
-    pub(crate) jobs: Vec<bool, A>,
+    /// Bit k for job k, of this many jobs.
+    pub(crate) jobs: u32,
+    pub(crate) many: usize,
     pub(crate) only: Vec<u32, A>,
     pub(crate) lower: Vec<bool, A>,
     pub(crate) higher: Vec<bool, A>,
@@ -26,11 +29,15 @@ pub struct Due<A: Allocator = Global> {
 }
 
 impl<A: Allocator> Model for Due<A> {
+    ghost use Rattle.std.specs.Prelude.{◌≤◌};
     ghost use Rattle.settling.specs.Left.{DueView};
+    ghost use Rattle.settling.specs.Members.{members};
 
     ghost Value = { DueView };
 
-    ghost view = { λ x. record { jobs = x.jobs.items; only = x.only.items; lower = x.lower.items; higher = x.higher.items } };
+    ghost invariant = { λ x. x.many ≤ 32 };
+
+    ghost view = { λ x. record { jobs = members x.jobs x.many; only = x.only.items; lower = x.lower.items; higher = x.higher.items } };
 }
 
 impl<A: Allocator + Copy> Due<A> {
@@ -41,7 +48,8 @@ impl<A: Allocator + Copy> Due<A> {
     {
         let edges = plan.edges() as usize;
         Ok(Due {
-            jobs: Vec::from_elem(alloc, true, plan.jobs())?,
+            jobs: u32::MAX,
+            many: plan.jobs(),
             only: Vec::from_elem(alloc, 0u32, plan.jobs())?,
             lower: Vec::from_elem(alloc, false, edges)?,
             higher: Vec::from_elem(alloc, false, edges)?,
@@ -56,7 +64,28 @@ pub(crate) fn is_due<A: Allocator>(due: &Due<A>, job: JobNo) -> bool
     requires { job < length due.now.jobs }
     ensures { result ≡ is_due due.now job }
 {
-    due.jobs[job.0 as usize]
+    has(due.jobs, job.0 as usize)
+}
+
+/// The first job that is due from this one on, or the end if there is none in front of it.
+pub(crate) fn next_due<A: Allocator>(due: &Due<A>, from: usize, end: usize) -> usize
+    requires inside { from ≤ end }
+    requires jobs { end ≤ length due.now.jobs }
+    ensures low { from ≤ result }
+    ensures high { result ≤ end }
+    ensures passed { (k : ℕ) → from ≤ k → k < result → is_due due.now k ≡ false }
+    ensures found { result < end → is_due due.now result ≡ true }
+{
+    next_of(due.jobs, from, end)
+}
+
+/// The job is due.
+fn add<A: Allocator>(due: &mut Due<A>, job: JobNo)
+    requires { job < length due.old.jobs }
+    ensures { due.new ≡ with_due due.old job }
+{
+    let before = due.jobs;
+    due.jobs = before | 1 << job.0;
 }
 
 /// 0, or 1 more than the number of the edge at which alone the job may have something to do.
@@ -97,7 +126,8 @@ pub(crate) fn clear<A: Allocator>(due: &mut Due<A>, job: JobNo)
     requires { job < length due.old.jobs }
     ensures { due.new ≡ not_due due.old job }
 {
-    due.jobs[job.0 as usize] = false;
+    let before = due.jobs;
+    due.jobs = before & !(1 << job.0);
 }
 
 /// Whether it is noted of this end of the edge.
@@ -145,8 +175,8 @@ pub(crate) fn wake_at<A: Allocator>(plan: &Plan<A>, due: &mut Due<A>, edge: Edge
     let (lower, higher) = plan.ends(edge);
     place(due, lower, edge);
     place(due, higher, edge);
-    due.jobs[lower.0 as usize] = true;
-    due.jobs[higher.0 as usize] = true;
+    add(due, lower);
+    add(due, higher);
     forget(due, End::Lower, edge);
     forget(due, End::Higher, edge);
 }
@@ -158,7 +188,7 @@ pub fn wake_self<A: Allocator>(plan: &Plan<A>, due: &mut Due<A>, job: JobNo)
     ensures fits { IsDueOf plan.now due.new }
     ensures keeps { KeepsMarks plan.now (IsBySelf job) due.old due.new }
 {
-    due.jobs[job.0 as usize] = true;
+    add(due, job);
     due.only[job.0 as usize] = 0;
     for edge in plan.edges_of(job) {
         forget(due, End::of(plan, job, *edge), *edge);
@@ -172,7 +202,7 @@ pub fn wake_near<A: Allocator>(plan: &Plan<A>, due: &mut Due<A>, job: JobNo)
     ensures fits { IsDueOf plan.now due.new }
     ensures keeps { KeepsMarks plan.now (IsBy job) due.old due.new }
 {
-    due.jobs[job.0 as usize] = true;
+    add(due, job);
     due.only[job.0 as usize] = 0;
     for edge in plan.edges_of(job) {
         wake_at(plan, due, *edge);

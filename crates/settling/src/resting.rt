@@ -7,7 +7,7 @@ ghost use Rattle.settling.specs.Resting.{Rests};
 ghost use Rattle.settling.specs.Attending.{AttendsEdge, AttendsEdges, Attends};
 ghost use Rattle.settling.specs.Visiting.{are_unfelt as are_unfelt_ones};
 
-use crate::due::{Due, clear, is_due, is_noted, note, only_at, wake_at, wake_self};
+use crate::due::{Due, clear, is_noted, next_due, note, only_at, wake_at, wake_self};
 use crate::edge_visits::{moved_at, number_of};
 use crate::own_acts::{act_alone, drink_alone, is_own};
 use edge_word::EdgeMoves;
@@ -128,12 +128,12 @@ fn round<A: Allocator>(world: &mut World<A>, due: &mut Due<A>) -> u32
     ensures attends { Attends (IsJob world.old.plan) world.old due.old result world.new due.new }
     ensures few { result ≤ 79392 }
 {
+    let jobs = world.plan().jobs();
     let mut done = 0u32;
-    for job in 0..world.plan().jobs() {
-        let job = JobNo(job as u8);
-        if is_due(due, job) {
-            done += attend(world, due, job);
-        }
+    let mut job = next_due(due, 0, jobs);
+    while job < jobs {
+        done += attend(world, due, JobNo(job as u8));
+        job = next_due(due, job + 1, jobs);
     }
     done
 }

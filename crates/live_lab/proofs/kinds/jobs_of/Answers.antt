@@ -1,20 +1,21 @@
-use Rattle.std.proofs.Common.{◌+◌, ◌<◌, ◌≤◌, ℕ, length, ◌∙◌, sym, subst, arith}
-use Rattle.std.proofs.lemmas.Bool.{false≢true}
-use Rattle.lab_plan.proofs.Gathered.{Gathered, gathered_in, gathered_out}
-use Rattle.legal_steps.specs.State.{Has}
+use Rattle.std.proofs.Common.{sym, subst}
+use Rattle.live_lab.specs.declared.kinds.Kind.{Kind}
 use Rattle.live_lab.specs.Kinds.{IsOf}
+use Rattle.live_lab.specs.Sets.{AreJobs}
 use Rattle.live_lab.proofs.kinds.jobs_of.Goals as goal
-use Rattle.live_lab.proofs.kinds.jobs_of.Goals.{then-is_of, else-is_of}
 
-pub loop-job-preserved : goal.loop-job-preserved
-unfolding Has
-loop-job-preserved g c =
-    let n = c.loop-job.job in
-    let P : ℕ → Type 0 = λ k. IsOf c.args.kind c.args.waiting c.args.clocks.now c.args.world.now k in
-    let most : length c.plan.result.now.jobs ≤ 32 = c.jobs-job-end.ensures.plan.draft.few_jobs in
-    let few : n < 32 = omega (arith, most, c.jobs-job-end.ensures.jobs, c.loop-job-test.true) in
-    elim c.if-is_of.branch [
-      | then-is_of b ↦ subst (λ z. Gathered z (n + 1) P) (sym b.set-is) (gathered_in c.loop-job.set n P few c.loop-job.invariant (c.is_of.ensures.0 b.if-is_of.true))
-      | else-is_of b ↦ subst (λ z. Gathered z (n + 1) P) (sym b.set-is) (gathered_out c.loop-job.set n P c.loop-job.invariant
-          (λ p. false≢true (sym b.if-is_of.false ∙ c.is_of.ensures.1 p)))
-    ]
+pub waited_for_of-requires-clause-only : goal.waited_for_of-requires-clause-only
+waited_for_of-requires-clause-only g c = λ j q. q.0
+
+pub returns-in-Begins : goal.returns-in-Begins
+returns-in-Begins g c =
+    subst (λ (k : Kind). AreJobs c.args.world.now.plan c.waited_for_of.result (IsOf k c.args.waiting c.args.clocks.now c.args.world.now)) (sym c.in-Begins.is)
+    c.waited_for_of.ensures
+
+pub waited_for_of-requires-in-NoneLeft-clause-only : goal.waited_for_of-requires-in-NoneLeft-clause-only
+waited_for_of-requires-in-NoneLeft-clause-only g c = λ j q. q.0
+
+pub returns-in-NoneLeft : goal.returns-in-NoneLeft
+returns-in-NoneLeft g c =
+    subst (λ (k : Kind). AreJobs c.args.world.now.plan c.waited_for_of-in-NoneLeft.result (IsOf k c.args.waiting c.args.clocks.now c.args.world.now)) (sym c.in-NoneLeft.is)
+    c.waited_for_of-in-NoneLeft.ensures
