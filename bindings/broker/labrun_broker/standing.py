@@ -247,12 +247,12 @@ class Standings:
             return self._is_made_safe(self._name(bit), holder)
         if self._wrong and self._is_untold(holder):
             return f"{self._name(bit)} is {holder.name}'s {self._once_written()}"
-        return f"{self._name(bit)} has been held by {holder.name} for {self._for(since)}{self._about(holder)}"
+        return f"{self._name(bit)} has been held by {holder.name} for {self.span_since(since)}{self._about(holder)}"
 
     def _is_made_safe(self, name: str, of: Session) -> str:
         after = f"after session {of.number} of {of.name}" + (f" ({of.by})" if of.by else "")
         if name in of.unsafe:
-            return f"{name} is being made safe for {self._for(of.unsafe[name])} {after}"
+            return f"{name} is being made safe for {self.span_since(of.unsafe[name])} {after}"
         return f"{name} is free once {' and '.join(of.unsafe) or 'that is written'} is made safe {after}"
 
     def _once_written(self) -> str:
@@ -286,7 +286,7 @@ class Standings:
         if session.kind and of[0].state == ENDING:
             return f"{session.name} is in one session at a time, and {self._is_made_safe(of[0].instruments[0], of[0])}"
         if session.kind:
-            return f"{session.name} has been in session {of[0].number} for {self._for(of[0].since)}{self._about(of[0])}, and a station is in one at a time"
+            return f"{session.name} has been in session {of[0].number} for {self.span_since(of[0].since)}{self._about(of[0])}, and a station is in one at a time"
         # (who has to be seen to stands first)
         of.sort(key=lambda it: it.gone_at is None)
         its = [f"{it.name} by {it.by or 'somebody'}{self._about(it, is_named=True)}" for it in of[:SHOWN]]
@@ -301,7 +301,7 @@ class Standings:
             parts.append(waits)
         if holder.gone_at is not None:
             does = self._to_do(holder) if holder.is_kept else f"its session is released once that is {self._keeping.its_grace:g} s"
-            parts.append(f"{GONE} {self._for(holder.gone_at)}: {does}")
+            parts.append(f"{GONE} {self.span_since(holder.gone_at)}: {does}")
         return f" ({', '.join(parts)})" if parts else ""
 
     def _to_do(self, gone: Session) -> str:
@@ -312,11 +312,8 @@ class Standings:
         who = f"; {people.to_ask()}" if people else ""
         return f"see to {', '.join(its[:SHOWN])}{more}, and then run labrun-broker release {gone.name} --session {gone.number}{who}"
 
-    def _for(self, since: int) -> str:
-        return span((self._now - since) / 1000, 1)
-
     def span_since(self, moment: int) -> str:
-        return self._for(moment)
+        return span((self._now - moment) / 1000, 1)
 
     # the whole
 
