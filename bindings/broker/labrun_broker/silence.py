@@ -34,11 +34,11 @@ class Silence:
 
     def hears(self, is_in_line: bool = True) -> None:
         """There is a word; whether of a broker in whose line it waits."""
-        self._count = 0
+        self._count, self._for = 0, A_WHILE
         if not is_in_line:
             return
         was_missed, was_lost = self._is_missed and self._has_place, self._is_lost
-        self._for, self._has_place, self._is_missed, self._is_lost = A_WHILE, True, False, False
+        self._has_place, self._is_missed, self._is_lost = True, False, False
         if was_missed:
             self._tells(answers_again(self._address, not was_lost))
 

@@ -40,7 +40,8 @@ class Waits:
     def __init__(self, words: "list[str]") -> None:
         self.process = subprocess.Popen(words, stdout=subprocess.PIPE, stderr=subprocess.PIPE, text=True)
         self._said = queue.SimpleQueue[str]()
-        threading.Thread(target=self._reads, daemon=True).start()
+        self._reader = threading.Thread(target=self._reads, daemon=True)
+        self._reader.start()
 
     def _reads(self) -> None:
         assert self.process.stderr is not None
@@ -59,9 +60,8 @@ class Waits:
         assert self.process.stdout is not None and self.process.stderr is not None
         self.process.kill()
         self.process.wait(LIMIT)
+        self._reader.join(LIMIT)
         self.process.stdout.close()
-        while self._said.get():
-            pass
         self.process.stderr.close()
 
 

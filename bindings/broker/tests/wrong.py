@@ -277,7 +277,7 @@ WRONG = {
     ),
     "a wait that asks nobody whether the broker is there": Wrong("test_silence.Programs.test_what_waits_is_called_with", "coming.py", (("            if asks and self._stream", "            if False and self._stream"),)),
     "a hold that misses its broker by the clock": Wrong(
-        "test_silence.Counts.test_words_in_time", "silence.py", (("        self._count = 0\n        if not", "        if not"),)
+        "test_silence.Counts.test_words_in_time", "silence.py", (("        self._count, self._for = 0, A_WHILE\n", "        self._for = A_WHILE\n"),)
     ),
     "a hold that says that its place is kept, and asked anew": Wrong(
         "test_silence.Counts.test_a_cut_is_no_silence", "silence.py", (("        self._is_lost = self._has_place\n", "        pass\n"),)
