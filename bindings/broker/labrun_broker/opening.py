@@ -3,6 +3,7 @@
 from __future__ import annotations
 
 import math
+import re
 import time
 from dataclasses import replace
 from typing import Callable, Optional
@@ -15,7 +16,7 @@ from .bay import Bay
 from .errors import StillHeld
 from .folder import State
 from .journals import Left, sessions_of
-from .places import Places, longest, mark_of
+from .places import Former, Places, longest, mark_of
 from .records import Record
 from .texts import counted
 from .wishes import MOST_CHOICES, milliseconds
@@ -54,6 +55,9 @@ class Opened:
             grace = self._keeps_longer(grace, None if any(self._was_kept(it, before) for it in holds) else before.grace)
         self.grace = math.inf if grace is None else grace / 1000
         self.places = replace(before, grace=grace).with_bay(self.bay).with_words(self.bay.its_gone, bool(holds))
+        if before.former is None and self.places.former:
+            its = taken_out_by(self.recent)
+            self.places = replace(self.places, former={name: its.get(name, it) for name, it in self.places.former.items()})
         # (moments go on where the journal's end, wherever the clock on the wall is by now)
         self.first = max([int(time.time() * 1000), *(1 + it.since for it in self.left.values())])
         self.machine = self._machine(text, grace)
@@ -105,3 +109,12 @@ class Opened:
         guests = [it.station or "a guest" for it in self.left.values() if not it.how and not self.places.station(it.kind)]
         more = f" and {len(guests) - SHOWN} more" if len(guests) > SHOWN else ""
         return f"{', '.join(guests[:SHOWN])}{more} hold, and by the bay only {counted(self.bay.guests, 'guest')} may"
+
+
+def taken_out_by(records: list[Record]) -> dict[str, Former]:
+    """What was taken out, as the records of changes say it (applying.py): instruments are named first there."""
+    found = dict[str, Former]()
+    for record in records:
+        if record["what"] == "changed" and (it := re.match("by (.+?): (instrument .*)", record["text"], re.S)):
+            found |= {name: Former(it[1], float(record["t"])) for name in re.findall(r"(?:^|; )instrument (\S+): taken out", it[2])}
+    return found

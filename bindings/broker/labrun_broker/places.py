@@ -42,8 +42,8 @@ class Former:
 @dataclass(frozen=True)
 class Places:
     """`out` has what is out of order. `grace` is the longest that a client may have been told of a session that holds, in milliseconds; None: for
-    ever, of all. `gone` has the words by which it may have been told otherwise of some. `former` has
-    the instruments that were taken out; None: a broker kept it that didn't write them down."""
+    ever, of all. `gone` has the words by which it may have been told otherwise of some. `former` has the instruments that
+    were taken out; None: a broker kept it that didn't write them down."""
 
     instruments: tuple[str, ...] = ()
     stations: tuple[str, ...] = ()

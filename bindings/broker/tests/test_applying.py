@@ -113,6 +113,21 @@ class TakenOut(OnFolder):
             await (await self.keeping(folder)).close()
         less = await self.keeping(folder, LESS)
         self.assertEqual(await self.why(less, "scope"), "scope is no instrument of this bay any more: it was taken out. There are supply, load-1, load-2")
+        await less.close()
+
+    async def test_what_its_records_know(self) -> None:
+        folder, by = self.folder(), "ana: ana@bench-3 4711 labrun-broker"
+        keeping = await self.keeping(folder, MORE)
+        await apply(keeping, LESS.replace('"load-2"]', '"load-2", "lamp"]'), by, False)
+        await keeping.close()
+        with open(path := f"{folder}/bay.json", encoding="utf-8") as file:
+            its = json.load(file)
+        with open(path, "w", encoding="utf-8") as file:
+            json.dump({key: it for key, it in its.items() if key != "former"}, file)
+        again = await self.keeping(folder, LESS)
+        for name in ("scope", "laser"):
+            self.assertRegex(await self.why(again, name), rf"^{name} is .* it was taken out \d+ s ago by {by}\. There are ")
+        self.assertEqual(await self.why(again, "lamp"), "lamp is no instrument of this bay any more: it was taken out. There are supply, load-1, load-2")
 
     async def test_without_a_folder(self) -> None:
         keeping = Keeping(bay_of(BAY))
