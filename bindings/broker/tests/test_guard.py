@@ -151,15 +151,15 @@ class Commands(BeforeInstruments):
 
 
     def test_a_guard_that_was_stopped(self) -> None:
-        """It says that of itself when it goes on, and nothing of the broker, which has closed the connection meanwhile; and then it lets through again."""
+        """It says that of itself when it goes on, and nothing of the broker, though the connection may be over; and then it lets through again."""
         process, path = self.at.process, self.at.broker.address.removeprefix("unix:")
         assert process is not None and process.stderr is not None
         until(lambda: connections(path), "that it is connected")
         process.send_signal(signal.SIGSTOP)
         try:
             until(lambda: is_stopped(process.pid), "that it is stopped")
-            # (the broker asks whoever says nothing whether it is there, and doesn't wait for an answer for long)
-            until(lambda: not connections(path), "that the broker has closed the connection")
+            # (either side asks one that says nothing for ten seconds whether it is there, and waits five more for the answer)
+            time.sleep(25)
         finally:
             process.send_signal(signal.SIGCONT)
         self.assertRegex(process.stderr.readline(), "^labrun-broker: this guard itself stood still for [0-9]+ s, as one that is stopped, or whose machine sleeps\n$")
