@@ -76,8 +76,9 @@ class Commands(OnBroker):
         return one
 
     def ends(self, one: Waits) -> None:
-        """It has run its command, and says nothing more."""
-        self.assertEqual(one.line(), "")
+        """It has run its command, and says nothing more, but perhaps that the disk is slow."""
+        said = iter(one.line, "")
+        self.assertEqual([it for it in said if "it is this session's turn, and it holds once that is on the disk" not in it], [])
         self.assertEqual(one.process.wait(LIMIT), 0)
 
     def at(self) -> "tuple[Broker, tuple[str, str]]":
