@@ -210,7 +210,9 @@ class Clients(OnBroker):
         span = r"for \d+(\.\d)? s"
         self.assertRegex(told[0], rf"^scope has been held by board {span} \(ann\), load-1 has been held by guest-1 {span} \(cem\)$")
         self.assertRegex(told[-1], rf"^scope has been held by board {span} \(bob\), load-1 has been held by guest-1 {span} \(cem\)$")
-        its, last = station(turns.lab, "guest-2")["waits_for"][0], station(turns.lab, "board")
+        # (of one status: in each the moments of the bay are told by the clock on the wall as it is then)
+        now = {it["name"]: it for it in turns.lab.status()["stations"]}
+        its, last = now["guest-2"]["waits_for"][0], now["board"]
         self.assertEqual((its["session"], its["since"]), (last["session"], last["since"]))
         self.assertRegex(as_board[0], rf"^board has been in session 2 {span} \(ann\), and a station is in one at a time; session 4 of board \(bob\) waits before this one$")
         self.assertRegex(as_board[-1], rf"^board has been in session 4 {span} \(bob\), and a station is in one at a time$")
