@@ -11,7 +11,7 @@
      durable    it is said that the journal is durable up to where no write and sync of the same bytes reached
 
    and at the end one with how many calls there were. Writes and syncs are those of libc, of whatever file has these bytes. With WATCH_SYNC=0 a
-   write counts as a sync, as a lab with sync="none" takes it. */
+   write counts as a sync, as a lab with sync="none" takes it. With WATCH_SLOW each call takes a while longer, so that more of them meet. */
 #define _GNU_SOURCE
 #include "labrun_bay.h"
 #include <dlfcn.h>
@@ -98,6 +98,8 @@ static struct watched *enter(struct lab_bay *bay, const char *call) {
     atomic_fetch_add(&calls, 1);
     if (!it) return NULL;
     if (atomic_exchange(&it->busy, 1)) tell("at once: %s while another call runs", call);
+    /* (else a call is so short that two hardly ever meet) */
+    if (getenv("WATCH_SLOW")) usleep(200);
     /* (what is told is told again until its number is given back, so to ask for it here changes nothing) */
     struct lab_outcome outcome;
     if (it->last && !pthread_equal(it->last, pthread_self()) && ((tells *)real("lab_bay_tell"))(bay, it->done, &outcome) == LAB_DONE)
