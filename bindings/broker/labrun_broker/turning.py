@@ -22,6 +22,7 @@ if TYPE_CHECKING:
 MOST_BYTES = 4 << 20  # of a journal, before it begins anew
 HUSHES = 2  # times that size: then it is made quiet
 QUIET = 1.0  # seconds: for how long others wait at most, so that the bay becomes quiet
+SOON = 0.05  # seconds, after which it is looked again whether the records are written
 STANDS = 10.0  # seconds: for how long somebody waits until the new file stands
 
 Classes = Sequence[tuple[int, int]]
@@ -70,6 +71,7 @@ class Turns:
     async def stands(self) -> None:
         """Returns once what was given outlives the broker. (While a write fails that is so later, as everybody was told.) JournalError: the
         disk doesn't answer."""
+        await self._shell.outlives()
         if not self.is_under_way or self._shell.fault is not None:
             return
         try:
@@ -127,7 +129,9 @@ class Turns:
         if records is None or self._recorded == shell.written:
             return self._turns()
         records.write()
-        if records.is_written:
+        if records.is_under_way:
+            asyncio.get_running_loop().call_later(SOON, shell.pump)
+        elif records.is_written:
             at = shell.written
             shell.works(records.syncs, lambda fault: self._is_recorded(at, fault))
         else:
