@@ -5,6 +5,8 @@ from __future__ import annotations
 
 import asyncio
 import contextlib
+import functools
+import json
 import os
 import shutil
 import signal
@@ -14,16 +16,15 @@ import tempfile
 import threading
 import time
 import unittest
-from typing import Any, Callable, Iterator
+from typing import Any, AsyncIterator, Iterator
 from unittest import mock
 
-from labrun_broker import aside
-from labrun_broker.bay import Bay
-from labrun_broker.keeping import Keeping
-from labrun_broker.records import Records
-from labrun_broker.standing import Owner
+from labrun import JournalError
+from labrun_broker import aside, shell
 from labrun_broker.wishes import Wish
-from tests.brokers import BAY, LIMIT, SOON, Broker, OnBroker, heard, station, stopped, until
+from tests.brokers import BAY, LIMIT, SOON, Broker, OnBroker, station, until
+from tests import test_keeping
+from tests.test_keeping import Owner, eventually
 
 # its loop stands still from a signal on until there is a file
 STANDS_STILL = """
@@ -153,6 +154,143 @@ sys.exit(command.main())
                 self.assertEqual((done.returncode, done.stdout), (69, ""), done.stderr)
                 self.assertLess(took, SOON)
                 self.is_idle(broker, "guest-1")
+
+
+class Hangs(test_keeping.OnFolder):
+    """A disk on which each write hangs. The loop's thread may make none: here that is a fault."""
+
+    def setUp(self) -> None:
+        self.may, self.on_loop, real = threading.Event(), list[str](), {name: getattr(os, name) for name in ("pwrite", "write", "fdatasync", "fsync", "ftruncate")}
+        self.may.set()
+        self.addCleanup(self.may.set)
+        loops = threading.current_thread()
+
+        def hangs(name: str, *given: Any) -> Any:
+            if threading.current_thread() is loops and self.is_watched:
+                self.on_loop.append(name)
+            else:
+                self.may.wait(LIMIT)
+            return real[name](*given)
+
+        self.is_watched = False
+        for name in real:
+            self.enterContext(mock.patch.object(os, name, functools.partial(hangs, name)))
+
+    @contextlib.asynccontextmanager
+    async def hanging(self) -> AsyncIterator[None]:
+        """Meanwhile the loop isn't held up for long: by a moment for the journal and one for the records (and here by a busy machine)."""
+        stood, loop = [0.0], asyncio.get_running_loop()
+
+        async def ticks() -> None:
+            while True:
+                before = loop.time()
+                await asyncio.sleep(0.01)
+                stood.append(loop.time() - before)
+
+        self.may.clear()
+        self.is_watched, ticking = True, asyncio.create_task(ticks())
+        try:
+            yield
+        finally:
+            self.is_watched = False
+            ticking.cancel()
+            self.may.set()
+        self.assertEqual(self.on_loop, [])
+        self.assertLess(max(stood), SOON)
+
+    async def test_all_goes_on(self) -> None:
+        """Who lets go is answered, nobody comes to hold, and it is said; once the disk answers, all is written in its order."""
+        self.enterContext(mock.patch.multiple(shell, SLOW=0.5, DISK=1.0))
+        folder, said = self.folder(), list[str]()
+        keeping, owner = await self.keeping(folder), Owner()
+        keeping.says = said.append
+        first, second = [await keeping.hold(Wish((name,), station=of), owner) for name, of in (("scope", "radio"), ("load-1", ""))]
+        await eventually(lambda: keeping._shell.is_quiet, "that all is on the disk")
+        async with self.hanging():
+            for it in (first, second):
+                async with asyncio.timeout(SOON):
+                    await keeping.let_go(it, owner)
+            with self.assertRaises(JournalError):
+                async with asyncio.timeout(SOON):
+                    await keeping.hold(Wish(("load-2",), timeout=0.2), owner)
+            self.assertIn("doesn't answer", keeping.status()["disk"])
+            self.assertRegex(said[0], "doesn't answer: nobody is told that it holds until it does")
+            # (a line that couldn't be written is none that somebody reads)
+            with open(f"{folder}/bay.journal", "rb") as file:
+                self.assertNotIn(b" let_go ", file.read())
+        await eventually(lambda: not keeping.status()["disk"], "the disk answers")
+        self.assertRegex(said[-1], "all is written")
+        await keeping.hold(Wish(("scope",), station="radio"), owner)
+        with open(f"{folder}/bay.journal", "rb") as file:
+            self.assertEqual(file.read().count(b" let_go "), 2)
+        whats = ["opened", "asked", "held", "asked", "held", "let_go", "let_go", "asked", "failed", "asked", "held"]
+
+        def written() -> list[str]:
+            with open(f"{folder}/records.jsonl", encoding="utf-8") as file:
+                return [json.loads(line)["what"] for line in file]
+
+        await eventually(lambda: written() == whats, f"{whats}")
+
+    async def test_a_let_go_is_written_first(self) -> None:
+        """Where a write takes longer than a moment, whoever lets go is answered once it has ended."""
+        folder = self.folder()
+        keeping, owner = await self.keeping(folder), Owner()
+        session = await keeping.hold(Wish(("scope",), station="radio"), owner)
+        await eventually(lambda: keeping._shell.is_quiet, "that all is on the disk")
+        async with self.hanging():
+            let_go = asyncio.create_task(keeping.let_go(session, owner))
+            self.assertEqual((await asyncio.wait({let_go}, timeout=5 * aside.MOMENT))[0], set())
+        await let_go
+        with open(f"{folder}/bay.journal", "rb") as file:
+            self.assertIn(b" let_go ", file.read())
+
+
+class Frozen(OnBroker):
+    """A real one, by `fsfreeze`, which takes root and a loop device."""
+
+    def mounted(self) -> str:
+        folder = tempfile.mkdtemp()
+        self.addCleanup(shutil.rmtree, folder, ignore_errors=True)
+        if os.geteuid() or any(shutil.which(it) is None for it in ("fsfreeze", "mkfs.ext4", "mount")):
+            self.skipTest("it takes root, fsfreeze and mkfs.ext4")
+        os.mkdir(f"{folder}/disk")
+        with open(f"{folder}/image", "wb") as file:
+            file.truncate(24 << 20)
+        for words in (["mkfs.ext4", "-q", "-F", f"{folder}/image"], ["mount", "-o", "loop", f"{folder}/image", f"{folder}/disk"]):
+            if (done := subprocess.run(words, capture_output=True, text=True, timeout=LIMIT)).returncode:
+                self.skipTest(f"{words[0]}: {done.stderr.strip()}")
+        self.addCleanup(subprocess.run, ["umount", "-l", f"{folder}/disk"], timeout=LIMIT)
+        return f"{folder}/disk"
+
+    def test_a_frozen_disk(self) -> None:
+        disk = self.mounted()
+        broker = self.broker(BAY, "--state", f"{disk}/state")
+        lab = self.lab(broker)
+        held = lab.hold("scope")
+        held.acquire()
+        if (done := subprocess.run(["fsfreeze", "-f", disk], capture_output=True, text=True, timeout=LIMIT)).returncode:
+            self.skipTest(done.stderr.strip())
+        # (whatever becomes of this process)
+        thaws = subprocess.Popen(["sh", "-c", f"sleep {4 * LIMIT}; fsfreeze -u {disk}"], stderr=subprocess.DEVNULL)
+        self.addCleanup(thaws.kill)
+        try:
+            begun = time.monotonic()
+            held.release()
+            self.assertLess(time.monotonic() - begun, SOON, "a let-go is answered")
+            until(lambda: "doesn't answer" in lab.status()["disk"], "it is said")
+            begun = time.monotonic()
+            for words in (("-n",), ("--timeout", "3")):
+                runs = broker.started("hold", "load-2", *words, "--quiet", "--", "echo", "got")
+                self.addCleanup(runs.kill)
+                out, said = runs.communicate(timeout=LIMIT)
+                self.assertEqual((runs.returncode, out), (74, ""), said)
+            self.assertLess(time.monotonic() - begun, LIMIT)
+        finally:
+            subprocess.run(["fsfreeze", "-u", disk], check=True, timeout=LIMIT)
+        until(lambda: not lab.status()["disk"], "all is written")
+        self.assertEqual([it["name"] for it in lab.status()["stations"] if it["state"] != "idle"], [])
+        with lab.hold("scope", "load-2", timeout=LIMIT):
+            pass
 
 
 if __name__ == "__main__":
