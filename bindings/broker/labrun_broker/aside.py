@@ -51,7 +51,13 @@ class Aside:
 
     def does(self, does: Callable[[], None], then: Then) -> None:
         """`then` is called once it has ended: before this returns, if that is in a moment."""
-        call, loop = _Call(does, then), asyncio.get_running_loop()
+        call = _Call(does, then)
+        try:
+            loop = asyncio.get_running_loop()
+        except RuntimeError:
+            # (there is nothing that it would hold up)
+            call.runs()
+            return call.tells()
         if self._thread is None:
             self._thread = threading.Thread(target=self._runs, name=self._name, daemon=True)
             self._thread.start()

@@ -151,7 +151,7 @@ class Shell:
 
     async def outlives(self) -> None:
         """Returns once all that was given outlives the broker; or the disk doesn't answer, or fails."""
-        while self._is_writing and self.fault is None and not self._is_slow:
+        while self._is_writing and self.fault is None and not self._is_slow and not self._is_closed:
             await asyncio.sleep(LOOKS)
 
     def _syncs_in(self, seconds: float) -> None:
@@ -222,6 +222,10 @@ class Shell:
         """Whether all that was written is on the disk, and nothing is to be done there."""
         is_idle = not self._is_syncing and not self._is_writing and self._sync_timer is None and self.fault is None and not self._is_closed
         return is_idle and self._written == self._durable
+
+    @property
+    def is_closed(self) -> bool:
+        return self._is_closed
 
     @property
     def written(self) -> int:

@@ -51,6 +51,7 @@ class Turns:
         # how far the journal was when the records were synced last; what a file has that just began; and from which size on a bay is made quiet
         self._recorded, self._least, self._hushes_at = -1, 0, 0
         self._gate: Optional[asyncio.Event] = None
+        self._will_look = False
         # the new file, until it stands: its text, and how much was in those before
         self._text: Optional[bytes] = None
         self._base = 0
@@ -130,12 +131,22 @@ class Turns:
             return self._turns()
         records.write()
         if records.is_under_way:
-            asyncio.get_running_loop().call_later(SOON, shell.pump)
+            self._looks_soon()
         elif records.is_written:
             at = shell.written
             shell.works(records.syncs, lambda fault: self._is_recorded(at, fault))
         else:
             self._opens(f"{records.path} couldn't be written, and would lose what the journal has, until the broker begins again")
+
+    def _looks_soon(self) -> None:
+        if not self._will_look:
+            self._will_look = True
+            asyncio.get_running_loop().call_later(SOON, self._looks_again)
+
+    def _looks_again(self) -> None:
+        self._will_look = False
+        if not self._shell.is_closed:
+            self._shell.pump()
 
     def _is_recorded(self, at: int, fault: Optional[Exception]) -> None:
         if fault is None:
