@@ -115,7 +115,7 @@ class Keeping:
 
     def _says_of_the_disk(self, text: str) -> None:
         # (whoever reads that all is written may look at the records at once)
-        self._news.write()
+        self._news.settles()
         self.says(text)
 
     def recent(self) -> list[Record]:

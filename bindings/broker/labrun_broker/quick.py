@@ -11,7 +11,7 @@ import os
 import struct
 import threading
 import time
-from queue import SimpleQueue
+from queue import Empty, SimpleQueue
 from typing import TYPE_CHECKING, Any, Callable, NamedTuple, Optional
 
 from .leaving import leaves
@@ -27,6 +27,7 @@ WISH, LET_GO, PING = 1, 3, 4
 HELD, WAITS, GONE, FAULT, TAKEN, PONG, WARNING = 1, 2, 4, 5, 6, 7, 8
 LEASE, TOKEN, GUARDS, LIMIT = 6, 7, 8, 9  # fields of Held
 WAITS_FOR = 2  # of Waits
+TELLING = 60.0  # seconds, for which the broker is told that it lets go
 
 
 class Wish(NamedTuple):
@@ -153,9 +154,8 @@ class Quick:
 
     def _has_left(self, span: float) -> bool:
         """Whether the broker says so in time. (Of a session that is over it says that.)"""
-        until = time.monotonic() + span
-        while (left := until - time.monotonic()) > 0:
-            self.wire.socket.settimeout(left)
+        self.wire.until = until = time.monotonic() + span
+        while time.monotonic() < until:
             try:
                 if self.wire.told()[0] in (GONE, FAULT, TAKEN):
                     return True
@@ -169,7 +169,12 @@ class Quick:
         if self._whole is None:
             with contextlib.suppress(Odd):  # (whoever reads sees that, too)
                 self.wire.asks(LET_GO, b"" if failed is None else text_field(1, failed))
-            what, of = self._answers.get()
+            try:
+                what, of = self._answers.get(timeout=TELLING)
+            except Empty:
+                from .errors import Unreachable
+
+                raise Unreachable(f"the broker at unix:{self._path} doesn't answer any more") from None
             if what == FAULT:
                 raise _fault(of)
         if self._taken is not None:

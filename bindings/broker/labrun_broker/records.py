@@ -9,6 +9,8 @@ import json
 import os
 from typing import Any, AsyncIterator, Callable, Optional, Protocol
 
+from .aside import Aside
+
 Record = dict[str, Any]
 
 KEPT_IN_MEMORY = 1000
@@ -30,6 +32,13 @@ class Written(Protocol):
     def is_written(self) -> bool:
         """Whether `syncs` has to do with all that was added."""
 
+    @property
+    def is_under_way(self) -> bool:
+        """Whether a write of them takes its time."""
+
+    def waits(self) -> None:
+        """A moment at most, for such a write."""
+
     def sync(self) -> None: ...
 
     def syncs(self) -> None:
@@ -39,12 +48,15 @@ class Written(Protocol):
 
 
 class Records:
-    """A file to whose end lines are added. What is added is written soon, with all that others add meanwhile."""
+    """A file to whose end lines are added. What is added is written soon, with all that others add meanwhile. Nobody waits for longer than a
+    moment for a disk that hangs (aside.py)."""
 
     def __init__(self, path: str, syncs: bool = True) -> None:
         self.path, self._syncs = path, syncs
         self.file = os.open(path, os.O_RDWR | os.O_CREAT | os.O_APPEND | os.O_CLOEXEC, 0o640)
-        self._waiting = bytearray()
+        # what waits, and what is being written
+        self._waiting, self._writing = bytearray(), bytearray()
+        self._aside, self.is_under_way = Aside("records"), False
         self._is_synced, self._is_due, self._is_closed = True, False, False
         # nothing was lost: each record is in the file, or will be
         self.is_whole = True
@@ -55,7 +67,7 @@ class Records:
             self._waiting += b"\n"
 
     def add(self, record: Record) -> None:
-        if len(self._waiting) > MOST_WAITING:
+        if len(self._waiting) + len(self._writing) > MOST_WAITING:
             self.is_whole = False
             return
         if not self._is_due:
@@ -67,14 +79,29 @@ class Records:
         """What can't be written is kept, and tried again with the next, and soon if none comes."""
         self._is_due = False
         self._stops_trying()
-        if self._is_closed:
-            return  # (by now its number may be another file's)
-        try:
-            while self._waiting:
-                del self._waiting[: os.write(self.file, self._waiting)]
-                self._is_synced = False
-        except OSError:
+        # (once it is closed its number may be another file's)
+        if not self._is_closed and not self.is_under_way:
+            self._writing += self._waiting
+            self._waiting.clear()
+            if self._writing:
+                self.is_under_way = True
+                self._aside.does(self._puts, self._has_put)
+
+    def _puts(self) -> None:
+        while self._writing:
+            del self._writing[: os.write(self.file, self._writing)]
+            self._is_synced = False
+
+    def _has_put(self, fault: Optional[Exception]) -> None:
+        self.is_under_way = False
+        if fault is not None and not self._is_closed:
             self._again = asyncio.get_running_loop().call_later(AGAIN, self.write)
+        elif self._waiting:
+            self.write()
+
+    def waits(self) -> None:
+        if self.is_under_way:
+            self._aside.waits()
 
     def _stops_trying(self) -> None:
         if self._again is not None:
@@ -84,7 +111,7 @@ class Records:
     @property
     def is_written(self) -> bool:
         """Whether all that was added is in the file."""
-        return not self._waiting and self.is_whole
+        return not self._waiting and not self._writing and self.is_whole
 
     def sync(self) -> None:
         """What was written is on the disk, as far as that can be. Another thread may call it."""
@@ -103,10 +130,14 @@ class Records:
 
     def close(self) -> None:
         self.write()
+        self.waits()
         self._stops_trying()
-        self.sync()
         self._is_closed = True
-        os.close(self.file)
+        self._aside.ends()
+        # (what hangs has its file until the process ends)
+        if not self.is_under_way:
+            self.sync()
+            os.close(self.file)
 
 
 class News:
@@ -151,6 +182,12 @@ class News:
         if self.file is not None:
             self._hands_on(is_all)
             self.file.write()
+
+    def settles(self) -> None:
+        """They are written by now, unless that takes longer than a moment."""
+        self.write()
+        if self.file is not None:
+            self.file.waits()
 
     def sync(self) -> None:
         if self.file is not None:

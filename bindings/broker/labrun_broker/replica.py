@@ -213,7 +213,11 @@ class EtcdRecords:
         if self._file is not None:
             self._file.write()
 
-    is_written = True
+    is_written, is_under_way = True, False
+
+    def waits(self) -> None:
+        if self._file is not None:
+            self._file.waits()
 
     def sync(self) -> None:
         """As far as that can be."""

@@ -57,6 +57,7 @@ def run_serve(args: argparse.Namespace) -> int:
 async def serve(args: argparse.Namespace) -> int:
     # (what only the broker needs: a client begins sooner without)
     from . import door, service
+    from .aside import Lines
     from .bays import Bays
     from .entrance import Entrance
     from .folder import Folder
@@ -122,7 +123,8 @@ async def serve(args: argparse.Namespace) -> int:
         lacking = [line for one in (lab.bays.values() if lab else (bay,)) for line in commands(one)]
         for it in (*keeping.complaints, *its_door.complaints(), *entrance.complaints(), *lacking, *begins):
             say(plain(it))
-        keeping.says = lambda text: say(plain(text)[:MOST_TOLD]) if door.is_read() else None
+        lines = Lines(say)
+        keeping.says = lambda text: lines.add(plain(text)[:MOST_TOLD]) if door.is_read() else None
         tell_systemd("READY=1\nSTATUS=")
         asyncio.get_running_loop().add_signal_handler(signal.SIGHUP, lambda: hears(keeping, args.bay))
         await end.wait()

@@ -1,13 +1,15 @@
 """The shell of the bay's machine, on one loop: its clock, its timer, and when what it writes is on the disk. It has no rule of its own.
 
 After each call of the machine comes `pump`: what is told is handed on, the timer sleeps until the next moment, and new text is written.
-What is written outlives the broker; a thread syncs it, and whoever comes meanwhile shares the next sync."""
+What is written outlives the broker; a thread syncs it, and whoever comes meanwhile shares the next sync. The loop never waits for the disk
+for longer than a moment (aside.py)."""
 
 from __future__ import annotations
 
 import asyncio
 import builtins
 import contextlib
+import functools
 from concurrent.futures import ThreadPoolExecutor
 from typing import Any, Callable, Optional
 
@@ -15,6 +17,7 @@ from labrun import JournalError
 from labrun.machine import NEVER, Machine, Told
 from labrun.store import Store
 
+from .aside import Aside
 from .turning import Turns
 
 # what nobody waits for is on the disk after so many seconds (in a busy bay with a hold that comes before that); the records are, at least as
@@ -24,6 +27,8 @@ SOON, NOW_AND_THEN = 0.05, 1.0
 SLOW = 3.0
 # after a write that failed it is tried again, and ever later up to the second number; at the end, for so long
 AGAIN, LATEST, CLOSING = 0.05, 1.0, 3.0
+# so often it is looked whether a write that takes longer than a moment has ended
+LOOKS = 0.01
 # for how long whoever asks waits for the disk
 DISK = 10.0
 
@@ -42,7 +47,11 @@ class Shell:
         self._timer: Optional[asyncio.TimerHandle] = None
         # how far the journal is written, and on the disk, with all files before this one; and who waits for that
         self.base = machine.base
-        self._written = self._durable = machine.base + machine.used
+        self._written = self._durable = self._handed = machine.base + machine.used
+        # what the machine has handed out, up to there, while a write is under way: a file may take its time for each (a store that isn't one doesn't)
+        self._later, self._is_writing = bytearray(), False
+        self._aside = None if hasattr(store, "where") else Aside("writes")
+        self._writing_timer: Optional[asyncio.TimerHandle] = None
         self._waiting: list[tuple[int, bool, asyncio.Future[None]]] = []
         self._thread = ThreadPoolExecutor(1, "journal")
         self._sync_timer: Optional[asyncio.TimerHandle] = None
@@ -104,18 +113,49 @@ class Shell:
             return
         text, position = self.machine.journal()
         if text:
-            try:
-                self._store.write(text)
-            except OSError as fault:
-                return self.fails(fault)
-            self._written = position
+            self._later += text
+            self._handed = position
             # (who asks is told only once the line is on the disk)
             self._is_urgent = self._is_urgent or b" hold " in text
+        if self._later and not self._is_writing:
+            self._puts(self._store)
         if self._written > self._durable or self._takes_all:
             self._syncs_in(0.0 if self._is_urgent or self._waiting else SOON)
 
+    def _puts(self, store: Store) -> None:
+        text, position, self._later = bytes(self._later), self._handed, bytearray()
+        if self._aside is None:
+            fault: Optional[OSError] = None
+            try:
+                store.write(text)
+            except OSError as it:
+                fault = it
+            return self._has_put(position, fault)
+        self._is_writing = True
+        self._aside.does(functools.partial(store.write, text), functools.partial(self._has_put, position))
+        if self._is_writing:
+            self._writing_timer = self._loop.call_later(SLOW, self._takes_long)
+
+    def _has_put(self, position: int, fault: Optional[Exception]) -> None:
+        self._is_writing = False
+        timer, self._writing_timer = self._writing_timer, None
+        if self._is_closed:
+            return
+        if fault is not None:
+            self.fails(fault)
+        elif self.fault is None:
+            self._written = position
+        if timer is not None:
+            timer.cancel()
+            self.pump()
+
+    async def outlives(self) -> None:
+        """Returns once all that was given outlives the broker; or the disk doesn't answer, or fails."""
+        while self._is_writing and self.fault is None and not self._is_slow and not self._is_closed:
+            await asyncio.sleep(LOOKS)
+
     def _syncs_in(self, seconds: float) -> None:
-        if self._is_syncing or self.fault is not None:
+        if self._is_syncing or self._is_writing or self.fault is not None:
             return
         if self._sync_timer is not None:
             if self._sync_timer.when() <= self._loop.time() + seconds:
@@ -125,6 +165,8 @@ class Shell:
 
     def _syncs(self) -> None:
         self._sync_timer = None
+        if self._is_writing:
+            return
         takes_all = self._takes_all or not self._is_urgent or self._loop.time() > self._took_all_at + NOW_AND_THEN
         self._is_syncing, self._is_urgent, self._takes_all = True, False, False
         if takes_all:
@@ -164,7 +206,7 @@ class Shell:
         if self._is_closed:
             return
         self._durable, self._pause = position, AGAIN
-        if (self._last_fault is not None or self._is_slow) and self.fault is None:
+        if (self._last_fault is not None or self._is_slow) and self.fault is None and not self._is_writing:
             self._last_fault, self._is_slow, self.wrong_since = None, False, None
             self._says(f"{self.path}: all is written")
         self.machine.durable(position)
@@ -178,8 +220,12 @@ class Shell:
     @property
     def is_quiet(self) -> bool:
         """Whether all that was written is on the disk, and nothing is to be done there."""
-        is_idle = not self._is_syncing and self._sync_timer is None and self.fault is None and not self._is_closed
+        is_idle = not self._is_syncing and not self._is_writing and self._sync_timer is None and self.fault is None and not self._is_closed
         return is_idle and self._written == self._durable
+
+    @property
+    def is_closed(self) -> bool:
+        return self._is_closed
 
     @property
     def written(self) -> int:
@@ -217,7 +263,7 @@ class Shell:
     def has_file(self, base: int, text: bytes) -> None:
         """A new file stands, with this text; what was handed out meanwhile is handed out again, and written behind it."""
         self.base, position = base, base + len(text)
-        self._written = self._durable = position
+        self._written = self._durable = self._handed = position
         self.machine.durable(position)
         self.machine.failed()
         self._is_urgent = True
@@ -239,6 +285,7 @@ class Shell:
                 it.cancel()
         # (what it was to sync is cut off)
         self._sync_timer = None
+        self._later.clear()
         if self.fault is None:
             is_new, self.fault, self._last_fault = self._last_fault is None, fault, fault
             self._is_wrong_since(self.now())
@@ -250,7 +297,7 @@ class Shell:
         """The store is cut back to what is durable, and the rest is written again, after a pause; or a new file is made again."""
         is_cut = False
         while not is_cut:
-            while self._is_syncing:
+            while self._is_syncing or self._is_writing:
                 await asyncio.sleep(AGAIN)
             try:
                 await self._loop.run_in_executor(self._thread, self._cuts)
@@ -259,7 +306,8 @@ class Shell:
                 pass
             await asyncio.sleep(self._pause)
             self._pause = min(2 * self._pause, LATEST)
-        self._written, self._is_urgent, self.fault = self._durable, True, None
+        self._written = self._handed = self._durable
+        self._is_urgent, self.fault = True, None
         if self.turns.is_under_way:
             return self.turns.is_made()
         self.machine.failed()
@@ -284,7 +332,7 @@ class Shell:
             return
         if position is None:
             # (while a write fails, or a new file is made: what is handed out here is handed out again)
-            position = self._written if self.fault is None and not self.turns.is_under_way else self.machine.journal()[1]
+            position = self._handed if self.fault is None and not self.turns.is_under_way else self.machine.journal()[1]
         if position <= self._durable and not takes_all:
             return
         one = position, takes_all, self._loop.create_future()
@@ -330,14 +378,16 @@ class Shell:
         except (builtins.TimeoutError, JournalError):
             pass
         self._is_closed = True
-        for it in (self._timer, self._sync_timer, self._slow_timer, self._mending):
+        for it in (self._timer, self._sync_timer, self._slow_timer, self._writing_timer, self._mending):
             if it is not None:
                 it.cancel()
         # (behind all that the thread was given)
         self._last = self._loop.run_in_executor(self._thread, lambda: None)
         self._thread.shutdown(wait=False)
+        if self._aside is not None:
+            self._aside.ends()
         self.machine.free()
 
     async def has_ended(self) -> bool:
         """Once it is closed: whether its thread has ended, so that nothing is written any more. Else the disk doesn't answer."""
-        return self._last is not None and not (await asyncio.wait({self._last}, timeout=CLOSING))[1]
+        return self._last is not None and not (await asyncio.wait({self._last}, timeout=CLOSING))[1] and not self._is_writing

@@ -22,6 +22,7 @@ if TYPE_CHECKING:
 MOST_BYTES = 4 << 20  # of a journal, before it begins anew
 HUSHES = 2  # times that size: then it is made quiet
 QUIET = 1.0  # seconds: for how long others wait at most, so that the bay becomes quiet
+SOON = 0.05  # seconds, after which it is looked again whether the records are written
 STANDS = 10.0  # seconds: for how long somebody waits until the new file stands
 
 Classes = Sequence[tuple[int, int]]
@@ -50,6 +51,7 @@ class Turns:
         # how far the journal was when the records were synced last; what a file has that just began; and from which size on a bay is made quiet
         self._recorded, self._least, self._hushes_at = -1, 0, 0
         self._gate: Optional[asyncio.Event] = None
+        self._will_look = False
         # the new file, until it stands: its text, and how much was in those before
         self._text: Optional[bytes] = None
         self._base = 0
@@ -70,6 +72,7 @@ class Turns:
     async def stands(self) -> None:
         """Returns once what was given outlives the broker. (While a write fails that is so later, as everybody was told.) JournalError: the
         disk doesn't answer."""
+        await self._shell.outlives()
         if not self.is_under_way or self._shell.fault is not None:
             return
         try:
@@ -127,11 +130,23 @@ class Turns:
         if records is None or self._recorded == shell.written:
             return self._turns()
         records.write()
-        if records.is_written:
+        if records.is_under_way:
+            self._looks_soon()
+        elif records.is_written:
             at = shell.written
             shell.works(records.syncs, lambda fault: self._is_recorded(at, fault))
         else:
             self._opens(f"{records.path} couldn't be written, and would lose what the journal has, until the broker begins again")
+
+    def _looks_soon(self) -> None:
+        if not self._will_look:
+            self._will_look = True
+            asyncio.get_running_loop().call_later(SOON, self._looks_again)
+
+    def _looks_again(self) -> None:
+        self._will_look = False
+        if not self._shell.is_closed:
+            self._shell.pump()
 
     def _is_recorded(self, at: int, fault: Optional[Exception]) -> None:
         if fault is None:

@@ -4,6 +4,7 @@ from __future__ import annotations
 
 import contextlib
 import math
+import select
 import socket
 import struct
 import threading
@@ -14,7 +15,8 @@ from .texts import HTTP_THERE
 
 SILENT = 10.0  # seconds without a word, after which the broker is asked whether it is there, and then as many for its answer
 FIRST = 30.0  # for a new client: for so long it waits for the first word of all
-LATE, LATER = 1.0, 6.0  # or a second once the time limit is over, and then longer: a broker takes it ill to be asked twice in five seconds
+LATE = 1.0  # or a second once the time limit is over, and then as long for its answer
+ASKS_WISH, ASKS_PING = 1, 4  # fields of Ask
 MOST_BYTES = 16000  # of a wish: it is one frame
 DATA, HEADERS, RESET, SETTINGS, PING, WINDOW = 0, 1, 3, 4, 6, 8
 ACK, STREAM_ENDS, HEADERS_END, PADDED = 1, 1, 4, 8
@@ -53,8 +55,12 @@ class Wire:
         self.socket, self._writing = socket.socket(socket.AF_UNIX), threading.Lock()
         self.was_there = self.is_leaving = False  # the broker; this client
         self._begun, self._has_pinged = time.monotonic(), False
-        # until when it may take to hold; and for how long it is waited for after that
-        self.limit, self._late = math.inf, LATE
+        # until when it may take to hold; and, of one that leaves, until when it waits for a word
+        self.limit = self.until = math.inf
+        # whether it waits to hold. Then the broker itself has to say something in time, on the stream: a connection answers by threads of gRPC
+        # also if the broker stands still. When it did last, if it ever did; and since when a question has no answer
+        self._waits = self._has_word = False
+        self._word_at, self._question_at = 0.0, math.inf
         # bytes that came: of frames, and of messages
         self._came = self._messages = b""
 
@@ -78,13 +84,30 @@ class Wire:
         self._came += self._more()
 
     def is_unlimited(self) -> None:
-        self.limit = math.inf
+        self.limit, self._waits = math.inf, False
         self.socket.settimeout(SILENT)
 
     def _is_patient(self, span: float = 0.0) -> None:
         """For how long it waits for the next word. (Of the first one's time half is left for a question.)"""
-        span = span or (SILENT if self.was_there else max(LATE, self._begun + FIRST / 2 * (1 + self._has_pinged) - time.monotonic()))
-        self.socket.settimeout(min(span, max(self._late, self.limit - time.monotonic())))
+        now = time.monotonic()
+        span = span or (SILENT if self.was_there else max(LATE, self._begun + FIRST / 2 * (1 + self._has_pinged) - now))
+        self.socket.settimeout(min(span, max(0.001, self._due() - now) if self._waits else max(LATE, self.limit - now)))
+
+    def _due(self) -> float:
+        """The moment by which the broker itself has to have said something."""
+        if self._question_at < math.inf:
+            return self._question_at + LATE
+        due = max(self.limit, self._word_at) + LATE
+        return due if self._has_word else min(due, self._begun + FIRST)
+
+    def _minds_the_time(self) -> None:
+        """Once that is over it is asked whether it is there. Silent: it was asked. (What came while this process was stopped is read first.)"""
+        if self._waits and (now := time.monotonic()) >= self._due():
+            if self._question_at == math.inf:
+                self._question_at = now
+                self.asks(ASKS_PING, b"")
+            elif not select.select([self.socket], [], [], 0)[0]:
+                raise Silent
 
     def _is_over(self) -> bool:
         return time.monotonic() > self.limit
@@ -94,6 +117,8 @@ class Wire:
             self.socket.sendall(what)
 
     def asks(self, what: int, message: bytes) -> None:
+        if what == ASKS_WISH:
+            self._waits, self._word_at = True, time.monotonic()
         ask = field(what, message)
         if len(ask) > MOST_BYTES:
             raise Odd
@@ -110,6 +135,7 @@ class Wire:
             elif kind in (DATA, RESET) or kind == HEADERS and flags & STREAM_ENDS:
                 raise Odd
         message, self._messages = self._messages[5:end], self._messages[end:]
+        self._has_word, self._word_at, self._question_at = True, time.monotonic(), math.inf
         [(what, values)] = fields_of(message).items()
         return what, fields_of(values[0])
 
@@ -121,14 +147,7 @@ class Wire:
 
     def _more(self) -> bytes:
         with _oddly():
-            if self.limit < math.inf or not self.was_there:
-                self._is_patient()
-            try:
-                came = self.socket.recv(1 << 16)
-            except TimeoutError:
-                if self.is_leaving:
-                    raise
-                came = self._asks_whether_it_is_there()
+            came = self._receives()
         if not came:
             raise Odd
         if not self.was_there and came.startswith(b"HTTP/"):
@@ -138,18 +157,27 @@ class Wire:
             self.socket.settimeout(SILENT)
         return came
 
-    def _asks_whether_it_is_there(self) -> bytes:
-        self.socket.sendall(frame(PING, 0, 0, bytes(8)))
-        self._has_pinged = True
-        if self.limit < math.inf or not self.was_there:
-            self._is_patient()
-            self._late = LATER
-        try:
-            return self.socket.recv(1 << 16)
-        except TimeoutError:
-            if self._is_over() or not self.was_there:
-                raise Silent from None
-            raise
+    def _receives(self) -> bytes:
+        has_pinged = False
+        while True:
+            if self.is_leaving:
+                if (left := self.until - time.monotonic()) <= 0:
+                    raise TimeoutError
+                self.socket.settimeout(min(left, SILENT))
+            elif self._waits or self.limit < math.inf or not self.was_there:
+                self._minds_the_time()
+                self._is_patient()
+            try:
+                return self.socket.recv(1 << 16)
+            except TimeoutError:
+                if self.is_leaving or self._waits and time.monotonic() > self._due() - 0.1:
+                    continue
+                if has_pinged and (self._is_over() or not self.was_there):
+                    raise Silent from None
+                if has_pinged:
+                    raise
+            self.socket.sendall(frame(PING, 0, 0, bytes(8)))
+            has_pinged = self._has_pinged = True
 
 
 # how HTTP/2 and protobuf write

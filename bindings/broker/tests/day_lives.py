@@ -28,6 +28,16 @@ from tests.day_world import PLACES, Disk, Killed, lines_of
 LEASE = 0.75  # of the grace
 
 
+def at_once(_: object, does: Callable[[], None], then: Callable[[Optional[Exception]], None]) -> None:
+    """(A kill isn't caught.)"""
+    fault: Optional[Exception] = None
+    try:
+        does()
+    except OSError as it:
+        fault = it
+    then(fault)
+
+
 class Day:
     def __init__(self, file: rules.File) -> None:
         self.life: Life
@@ -61,7 +71,8 @@ class Day:
         """For the clock, the disk and the thread of every broker."""
         with self.disk.stands_in(), mock.patch.multiple("time", time=self.clock, monotonic=lambda: self.halves / 2000):
             # (nobody is made to wait so that the journal can begin anew: the rules have no word of that)
-            with mock.patch("labrun_broker.shell.ThreadPoolExecutor", lambda *_: self.life.loop), mock.patch("labrun_broker.turning.HUSHES", 10**9):
+            threads = mock.patch("labrun_broker.shell.ThreadPoolExecutor", lambda *_: self.life.loop), mock.patch("labrun_broker.aside.Aside.does", at_once)
+            with threads[0], threads[1], mock.patch("labrun_broker.turning.HUSHES", 10**9):
                 yield
 
     def begins(self, file: rules.File) -> None:
