@@ -96,7 +96,7 @@ def whole(key: str, given: Any) -> int:
 
 
 WISH: Fields = {"instruments": names, "any_of": choices, "station": text, "by": text, "timeout": number, "limit": number, "urgent": yes_or_no, "ticket": text}
-NOTE: Fields = {"text": text}
+NOTE: Fields = {"text": text, "number": whole}
 RELEASE: Fields = {"station": text, "session": whole, "by": text, "bay": text}
 
 

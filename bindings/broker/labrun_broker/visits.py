@@ -173,9 +173,9 @@ class Visit:
         lease = self._keeping.lease
         return MOST_WAIT if lease is None else min(MOST_WAIT, lease / PART_OF_LEASE)
 
-    async def notes(self, text: str) -> None:
+    async def notes(self, text: str, number: int = 0) -> None:
         with self._as_it_ended():
-            await self._keeping.note(self._held(), self, text)
+            await self._keeping.note(self._held(), self, text, number)
 
     @contextlib.contextmanager
     def _as_it_ended(self) -> Iterator[None]:
