@@ -84,9 +84,9 @@ class Unchanged(OnHttp):
     def test_it_is_answered_when_that_is_another(self) -> None:
         """With `while=unchanged` soon, also if that was between two requests; without it only once it holds, or the time is over."""
         broker, one = self.http()
-        lab = broker.lab("board")
-        self.addCleanup(lab.close)
-        lab.hold("scope").acquire()
+        holds = self.enterContext(broker.started("hold", "scope", "--station", "board", "--", "sleep", "600"))
+        self.addCleanup(holds.kill)
+        until(lambda: one.status("board")["state"] == "holding")
         tickets, unchanged = [one.asks("scope")[1]["ticket"] for _ in range(3)], {"while": "unchanged"}
         spans = dict[str, tuple[float, Any]]()
 
@@ -101,7 +101,7 @@ class Unchanged(OnHttp):
         for it in threads:
             it.start()
         time.sleep(0.3)
-        lab.close(lets_go=False)
+        holds.kill()
         for it in threads:
             it.join(LIMIT)
         asks(tickets[2], wait=10, **unchanged)

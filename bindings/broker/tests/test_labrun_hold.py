@@ -477,8 +477,9 @@ class Held(OnBroker):
         """Whoever waited may hold, as the journal of a broker that was killed may say: it is told so, and who has asked nothing isn't."""
         broker, one = self.at(BAY, "--state", "FOLDER/state")
         one.holds("scope", station="radio")
-        hold = self.waits(broker, "scope", "--quiet", "--timeout", "4", "--", "true")
-        until(lambda: one.status("guest-1")["state"] == "waiting", "it waits")
+        hold = self.waits(broker, "scope", "--timeout", "4", "--", "true")
+        assert hold.stderr is not None
+        self.assertIn("waits: scope has been held", heard(hold.stderr))
         broker.kill()
         may = "the session may hold all the same: if `labrun-broker status` shows guest-1 as gone, end it by `labrun-broker release guest-1`"
         self.assertRegex(self.ends(hold, 69), f"^labrun-hold: the broker at unix:.* (can't be reached: nobody listens there|doesn't answer); {may}\n$")
@@ -556,21 +557,22 @@ class Held(OnBroker):
                     broker.end()
                     broker.command = [sys.executable, "-c", OLDER]
                     broker.begin()
-                holder = self.enterContext(subprocess.Popen([*COMMAND, "hold", "scope", "--station", "radio", "--", "sleep", "600"], env=self.environment(broker)))
+                holder = ends.enter_context(subprocess.Popen([*COMMAND, "hold", "scope", "--station", "radio", "--", "sleep", "600"], env=self.environment(broker)))
                 ends.callback(holder.kill)
                 until(lambda: station(lab, "radio")["state"] == "holding")
-                with self.waits(broker, "scope", "--", "true") as waits:
-                    assert waits.stderr is not None
-                    self.assertIn("scope has been held by radio for", heard(waits.stderr))
-                    time.sleep(1)
-                    holder.kill()
-                    until(lambda: station(lab, "radio")["state"] == "gone")
-                    begun = time.monotonic()
-                    self.assertIn("gone for", heard(waits.stderr))
-                    if not old:
-                        self.assertLess(time.monotonic() - begun, 3)
-                    lab.release("radio")
-                    self.assertEqual(waits.wait(LIMIT), 0)
+                waits = ends.enter_context(self.waits(broker, "scope", "--", "true"))
+                ends.callback(waits.kill)
+                assert waits.stderr is not None
+                self.assertIn("scope has been held by radio for", heard(waits.stderr))
+                time.sleep(1)
+                holder.kill()
+                until(lambda: station(lab, "radio")["state"] == "gone")
+                begun = time.monotonic()
+                self.assertIn("gone for", heard(waits.stderr))
+                if not old:
+                    self.assertLess(time.monotonic() - begun, 3)
+                lab.release("radio")
+                self.assertEqual(waits.wait(LIMIT), 0)
 
     def test_one_that_is_stopped_while_it_holds(self) -> None:
         """It is shown as gone soon."""
