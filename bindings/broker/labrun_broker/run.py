@@ -219,6 +219,7 @@ def runs(command: list[str], held: Union[Quick, Held], signals: Signals, address
     if taken and isinstance(taken[0], ConnectionError):
         # (it isn't taken away: the broker lets this client in no more, and keeps what it holds)
         by = 'the broker releases it (gone = "release")' if held.is_released_if_gone else "an operator releases it"
+        # (and why was said as the command was ended)
         raise as_told(status, type(taken[0])(""), f", until {by}")
     return TAKEN if taken else status
 

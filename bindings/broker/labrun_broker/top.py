@@ -40,6 +40,8 @@ def run_top(args: argparse.Namespace) -> int:
             with contextlib.suppress(queue.Empty):
                 it = news.get(timeout=TICK)
             if isinstance(it, dict):
+                # (from now on it is said here)
+                lab._on_wait = None
                 shows.status(only(it, args.bay))
             elif isinstance(it, Exception) and (shows.has_none or not isinstance(it, Unreachable)):
                 raise it

@@ -230,10 +230,10 @@ class Visit:
     def shown(self) -> dict[str, Any]:
         """As it is told: always with the same keys."""
         it, waits, lease = self.session, self.state == WAITING, None
-        self._told_of = self.for_whom()
         if self.state == HOLDING and it is not None:
             lease, self._is_untold = self._keeping.lease_of(it), False
-        keepers, why, _ = self._keeping.for_whom(it) if waits and it is not None else ([], "", ())
+        keepers, why, who = self._keeping.for_whom(it) if waits and it is not None else ([], "", None)
+        self._told_of = "" if who is None else repr(who)
         about: dict[str, Any] = {"state": self.state, "ticket": self.wish.ticket, "station": it and it.name, "session": it and it.number}
         about |= {"token": it.token if it is not None and self.state == HOLDING else None, "warning": self._warning()}
         about |= {"instruments": list(it.instruments) if it else [], "text": why, "waits_for": keepers}
