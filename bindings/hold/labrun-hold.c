@@ -35,9 +35,9 @@ enum { USAGE = 2, NO_FILE = 66, UNREACHABLE = 69, NOT_WRITTEN = 74, TIMED_OUT = 
    a new client */
 static const double STARTING = 5, AWAY = 60, PAUSE = 0.3, LATE = 10, LATE_END = 2, UNTOLD = 1.5, TELLING = 1, LOOK = 0.02;
 static const double FIRST = 30, FIRST_WORD = 0.3, AGAIN = 60, LONG = 30, SILENCE = 8;
-/* what is said of a session whose client waited, and gave up without the broker's word; and of one whose client held, and couldn't tell that it
-   lets go */
-static const char MAY_HOLD[] = "the session may hold all the same: if `labrun-broker status` shows it as gone, end it by `labrun-broker release`";
+/* what is said of a session whose client waited, and gave up at a broker that is there and says nothing; and of one whose client held, and couldn't
+   tell that it lets go */
+static const char NOTHING_HELD[] = "nothing is held: should it go on, it finds that nobody waits any more";
 static const char MAY_GO_ON[] = "the session may go on holding, as `labrun-broker status` says";
 static const char DEFAULT[] = "unix:/run/labrun/bay.sock";
 static const char HELP[] =
@@ -408,6 +408,7 @@ struct talk {
     struct text sent, heard;
     size_t written;
     double at, until; /* when it was sent, and how long its answer may take */
+    bool is_cut;      /* its connection ended before the answer */
 };
 
 enum outcome { PENDING, ANSWERED, LOST, ABSENT };
@@ -455,8 +456,8 @@ static enum outcome goes_on(struct talk *it) {
         put(&it->heard, some, (size_t)count);
     if (is_whole(it))
         return ANSWERED;
-    bool is_over = count == 0 || (count < 0 && errno != EAGAIN && errno != EINTR) || it->heard.length >= 1 << 20;
-    return is_over || now() > it->until ? LOST : PENDING;
+    it->is_cut = count == 0 || (count < 0 && errno != EAGAIN && errno != EINTR) || it->heard.length >= 1 << 20;
+    return it->is_cut || now() > it->until ? LOST : PENDING;
 }
 
 static int status_of(const struct talk *it) {
@@ -655,8 +656,8 @@ static void find_path(void) {
     }
 }
 
-/* `most`: it may take no longer. */
-static enum outcome asks(struct talk *it, bool is_new, double wait, double left, double most) {
+/* `waits_so`: it is answered once it waits for somebody else; `most`: it may take no longer. */
+static enum outcome asks(struct talk *it, bool is_new, bool waits_so, double wait, double left, double most) {
     struct text rest = {0}, body = {0};
     double late = isnan(left) ? LATE : left + LATE_END - wait < LATE ? fmax(LATE_END, left + LATE_END - wait) : LATE;
     put(&body, "", 0);
@@ -665,16 +666,34 @@ static enum outcome asks(struct talk *it, bool is_new, double wait, double left,
         put_wish(&body, left);
     } else
         putf(&rest, "/%s", ticket);
-    putf(&rest, "?wait=%.3f", wait);
+    putf(&rest, "?wait=%.3f%s", wait, waits_so ? "&while=unchanged" : "");
     enum outcome how = call(it, is_new ? "POST" : "GET", rest.at, body.at, fmin(wait + late, fmax(LATE_END, most)));
     free(rest.at);
     free(body.at);
     return how;
 }
 
+/* A broker that died may have written down that this holds; one that goes on finds the connection closed, and then nothing is held. `may_hold`:
+   whether one died that this had asked; `name` is as whom, if that is known. */
+static char *what_is_held(bool may_hold, const char *name) {
+    struct text found = {0};
+    bool has_name = name != NULL && *name;
+    if (may_hold)
+        putf(&found, "the session may hold all the same: if `labrun-broker status` shows %s as gone, end it by `labrun-broker release %s`%s", has_name ? name : "it",
+             has_name ? name : "NAME", has_name ? "" : ", with the name that stands there");
+    else
+        putf(&found, "%s", NOTHING_HELD);
+    return found.at;
+}
+
+/* Whether the broker ended, or is gone, while this asked. */
+static bool has_died(const struct talk *it, enum outcome how) {
+    return how == ABSENT || (how == LOST && it->is_cut) || (how == ANSWERED && status_of(it) == 503);
+}
+
 /* The broker is told until it answers, or another signal comes, and no longer than so many seconds. A wish that is still on its way is to be
    answered before: else the broker, which has much to do, might read it later, and hold for nobody. Whether it was told. */
-static bool gives_up(struct talk *wish_sent, double span) {
+static bool gives_up(struct talk *wish_sent, double span, bool *may_hold, const char *name) {
     struct talk it = {.socket = -1};
     struct text rest = {0};
     int first = came;
@@ -685,6 +704,7 @@ static bool gives_up(struct talk *wish_sent, double span) {
         struct talk *open = wish_sent->socket >= 0 ? wish_sent : &it;
         enum outcome how = open->socket >= 0 ? goes_on(open) : call(&it, "DELETE", rest.at, "", end - now());
         int answer = how == ANSWERED ? status_of(open) : 0;
+        *may_hold |= has_died(open, how);
         if (open == &it)
             is_told = answer != 0 && answer != 429 && answer != 503;
         else /* (what was refused isn't asked for) */
@@ -698,8 +718,10 @@ static bool gives_up(struct talk *wish_sent, double span) {
             says = INFINITY;
         }
     }
+    char *its = what_is_held(*may_hold, name);
     if (!is_told && span >= LATE)
-        say("the broker wasn't told, as far as is known here; %s", MAY_HOLD);
+        say("the broker wasn't told, as far as is known here; %s", its);
+    free(its);
     came = first;
     hang_up(&it);
     free(rest.at);
@@ -768,9 +790,11 @@ static bool is_held(const struct talk *it) {
 }
 
 /* How it goes on to wait: whether its wish is to be sent, or it asks on by its ticket; whether some of it was sent; whether the broker was there,
-   and has said something; since when it is away; whether it would wait for itself; whether it was said that no word comes, and none has come. */
+   and has said something; since when it is away; whether it would wait for itself; whether it was said that no word comes, and none has come;
+   whether a broker died that may have written down that it holds; whether one is of before `while=unchanged`; and as whom it waits. */
 struct line {
-    bool is_new, has_asked, was_there, has_heard, is_told, is_itself, is_missed;
+    bool is_new, has_asked, was_there, has_heard, is_told, is_itself, is_missed, may_hold, is_older;
+    char *name;
     double end, lost, wait, said_at, silent_at; /* and when it is said that no word comes */
     double first; /* until when the first word may take */
     struct text said;
@@ -798,10 +822,16 @@ static void is_back(const struct line *its) {
 /* -1: it waits on; else as `holds`. */
 static int hears(struct line *its, const struct talk *it) {
     int answer = status_of(it), found = -1;
+    its->may_hold = false;
     if (answer == 200)
         found = is_held(it) ? 0 : -1;
-    else if (answer == 202) {
+    else if (answer == 400 && !its->is_new && !its->is_older) {
+        its->is_older = true;
+        return -1;
+    } else if (answer == 202) {
         is_back(its);
+        free(its->name);
+        its->name = text_of(value_of(body_of(it), "station"));
         its->is_itself = lacks(body_of(it)) != 0;
         found = its->is_itself ? USAGE : -1;
         if (!its->is_itself && !wish.quiet)
@@ -832,6 +862,7 @@ static int hears_nothing(struct line *its, const struct talk *it, enum outcome h
     }
     its->was_there |= how == LOST || how == ANSWERED;
     its->has_heard |= how == ANSWERED;
+    its->may_hold |= its->has_asked && has_died(it, how);
     bool is_silent = how == LOST && !its->has_heard && time >= its->first;
     its->is_new = its->is_new && how == ABSENT;
     its->lost = isnan(its->lost) ? time : its->lost;
@@ -840,8 +871,10 @@ static int hears_nothing(struct line *its, const struct talk *it, enum outcome h
         its->is_told = true;
     }
     if (is_silent || time > its->lost + (its->was_there ? AWAY : STARTING) || time > its->end + LATE_END || (is_first && time >= its->end)) {
-        bool is_told = !its->has_asked || gives_up(&none, 0.5);
-        say("the broker at unix:%s %s%s%s", path, how == ABSENT ? "can't be reached: nobody listens there" : "doesn't answer", is_told ? "" : "; ", is_told ? "" : MAY_HOLD);
+        bool is_told = !its->has_asked || gives_up(&none, 0.5, &its->may_hold, its->name);
+        char *its_end = what_is_held(its->may_hold, its->name);
+        say("the broker at unix:%s %s%s%s", path, how == ABSENT ? "can't be reached: nobody listens there" : "doesn't answer", is_told ? "" : "; ", is_told ? "" : its_end);
+        free(its_end);
         return UNREACHABLE;
     }
     wait_until(NULL, time + (is_first ? 0.1 : PAUSE));
@@ -854,10 +887,11 @@ static int holds(void) {
     struct line its = {.is_new = true, .is_told = wish.quiet, .end = now() + wish.timeout, .lost = NAN, .wait = FIRST_WORD, .first = now() + FIRST};
     int found = -1;
     its.silent_at = wish.quiet ? (double)INFINITY : now() + SILENCE;
+    its.name = whole(strdup(wish.station));
     while (found < 0 && !came) {
         /* (0 says that it never wanted to wait) */
         double left = isnan(wish.timeout) ? (double)NAN : fmax(wish.timeout > 0 ? 0.001 : 0, its.end - now());
-        enum outcome how = asks(&it, its.is_new, its.wait, left, its.has_heard ? (double)INFINITY : its.first - now());
+        enum outcome how = asks(&it, its.is_new, !its.is_new && !its.is_older && its.wait > 0, its.wait, left, its.has_heard ? (double)INFINITY : its.first - now());
         while (how == PENDING && !came) {
             wait_until(&it, fmin(its.silent_at, now() + 3600));
             how = goes_on(&it);
@@ -875,8 +909,9 @@ static int holds(void) {
     if (!is_over || !its.is_new)
         hang_up(&it);
     if (is_over && its.has_asked) /* (else nobody need be told) */
-        gives_up(&it, LATE);
+        gives_up(&it, LATE, &its.may_hold, its.name);
     hang_up(&it);
+    free(its.name);
     return is_cut ? 128 + came : found;
 }
 
@@ -988,7 +1023,7 @@ static void works(void) {
     struct talk it = {.socket = -1};
     struct text rest = {0};
     double next = 0, tells = INFINITY;
-    double span = isnan(held.lease) ? LONG : held.beat, late = isnan(held.lease) ? LATE : fmin(LATE, held.lease / 2);
+    double span = isnan(held.beat) ? LONG : held.beat, late = isnan(held.lease) ? LATE : fmin(LATE, held.lease / 2);
     putf(&rest, "/%s?while=holding&wait=%.3f", ticket, span);
     while (status < 0 || (were_sent && others_run(&tells))) {
         double time = now();

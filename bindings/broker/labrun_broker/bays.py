@@ -153,10 +153,10 @@ class Bays:
     async def let_go(self, session: Session, owner: Owner, failed: Optional[str] = None) -> None:
         await self._of_session(session).let_go(session, owner, failed)
 
-    async def note(self, session: Session, owner: Owner, text: str) -> None:
+    async def note(self, session: Session, owner: Owner, text: str, number: int = 0) -> None:
         if isinstance(session, Crossing):
-            return await session.notes(owner, text)
-        await (session.home or self.peers[0]).note(session, owner, text)
+            return await session.notes(owner, text, number)
+        await (session.home or self.peers[0]).note(session, owner, text, number)
 
     def heard(self, session: Session, owner: Owner, says_so: bool = False) -> bool:
         return self._of_session(session).heard(session, owner, says_so)

@@ -9,7 +9,7 @@ from typing import TYPE_CHECKING, Any, Coroutine, Optional
 from .errors import AnswerLost, Unreachable, is_for_good, plainly, raised
 from .silence import TICK, Silence
 from .stream import AGAIN, LATE, NOBODY, Lost, Silent, Stream
-from .texts import MAY_HOLD, SILENT, none_answers
+from .texts import SILENT, may_hold, none_answers
 from .wire import FIRST
 from .work import clock
 
@@ -57,7 +57,7 @@ class Coming:
         except Unreachable as fault:
             if not self._may_hold:
                 raise
-            raise AnswerLost(f"{fault}; {MAY_HOLD}") from None
+            raise AnswerLost(f"{fault}; {may_hold(self._held._wish.station)}") from None
         except asyncio.CancelledError:
             # (it may be the lab's end that ended it)
             self._lab._may_go_on()

@@ -38,34 +38,14 @@ def add_status(parser: argparse.ArgumentParser) -> None:
 def run_status(args: argparse.Namespace) -> int:
     from .telling import lines_of
 
+    from .together import only
+
     with lab_of(args) as lab:
         status = only(lab.status(), args.bay)
     print(json.dumps(status) if args.json else "\n".join(lines_of(status)))
     return 0
 
 
-def run_top(args: argparse.Namespace) -> int:
-    from .telling import lines_of
-
-    clears = "\x1b[H\x1b[2J" if sys.stdout.isatty() and not args.json else ""
-    with contextlib.suppress(BrokenPipeError), lab_of(args) as lab:
-        for each in lab.watch():
-            status = only(each, args.bay)
-            text = json.dumps(status) if args.json else "\n".join([*lines_of(status), ""])
-            print(f"{clears}{text}", flush=True)
-    return 0
-
-
-def only(status: dict[str, Any], bay: Optional[str]) -> dict[str, Any]:
-    """The bay of this name, if one is wanted."""
-    from .together import no_bay, parts
-
-    its = {name or str(one["bay"]): one for name, one in parts(status)}
-    if bay is not None and bay not in its:
-        raise no_bay(bay, tuple(its))
-    if bay is None or not status.get("bays"):
-        return status
-    return {**its[bay], "bays": [one for one in status["bays"] if one["bay"] == bay]}
 
 
 # ---- for who looks after the bay
@@ -228,7 +208,7 @@ WORDS = (
     Word("hold", "waits for instruments, runs a command while it holds them, and lets go", add_hold, run_hold),
     Word("guard", "stands before instruments, and lets through whoever holds them", later("guard_command", "add_guard"), later("guard_command", "run_guard")),
     Word("status", "who holds what since when, and who waits for whom", add_status, run_status),
-    Word("top", "the same, again whenever it has changed", add_status, run_top),
+    Word("top", "the same, again whenever it has changed", add_status, later("top", "run_top")),
     Word("release", "ends the session of a station whose client doesn't come back", add_release, run_release),
     Word("disable", "an instrument is out of order: nobody comes to hold it", add_disable, run_disable),
     Word("enable", "it is in order again", add_enable, run_enable),
@@ -264,6 +244,17 @@ def nearly(word: str, known: list[str]) -> str:
     return near(word, known)
 
 
+def no_word(word: str, more: list[str], has_command: bool) -> str:
+    """That there is none of this name. (They are short: so `oven` isn't near to `token`.)"""
+    import difflib
+
+    names = [it.name for it in WORDS]
+    guess = "".join(f" (did you mean {it}?)" for it in difflib.get_close_matches(word, names, 1, 0.7))
+    if has_command and not guess:
+        return f"there is no word {word}: to hold what is called so, {' '.join([PROGRAM, 'hold', word, *more])} -- .."
+    return f"there is no word {word}: there are {', '.join(names)}{guess}"
+
+
 def parser_of(table: Sequence[Word]) -> Parser:
     statuses = "\n".join(f"  {number:8} {text}" for number, text in STATUSES)
     kind = argparse.RawDescriptionHelpFormatter
@@ -276,13 +267,12 @@ def parser_of(table: Sequence[Word]) -> Parser:
     return parser
 
 
-def parsed(line: list[str]) -> argparse.Namespace:
+def parsed(line: list[str], has_command: bool = False) -> argparse.Namespace:
     """(A parser of one word alone is made sooner.)"""
     its = [it for it in WORDS if line[:1] == [it.name]]
     parser = parser_of(its or WORDS)
     if line and not its and not line[0].startswith("-"):
-        names = [it.name for it in WORDS]
-        parser.error(f"there is no word {line[0]}: there are {', '.join(names)}{nearly(line[0], names)}")
+        parser.error(no_word(line[0], line[1:], has_command))
     args, more = parser.parse_known_args(line)
     if more:
         args.parser.knows_not(more)
@@ -294,7 +284,7 @@ def main(given: Optional[Sequence[str]] = None) -> int:
     os.environ.setdefault("GRPC_VERBOSITY", "NONE")
     line = list(sys.argv[1:] if given is None else given)
     at = line.index("--") if "--" in line else len(line)
-    args = parsed(line[:at])
+    args = parsed(line[:at], at < len(line))
     if "command" in args:
         args.command = line[at + 1 :]
     elif at < len(line):

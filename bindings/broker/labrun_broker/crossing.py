@@ -155,11 +155,11 @@ class Crossing(Session):
         for fault in sorted(faults, key=lambda it: not isinstance(it, labrun.JournalError)):
             raise fault
 
-    async def notes(self, owner: Owner, text: str) -> None:
+    async def notes(self, owner: Owner, text: str, number: int) -> None:
         """It stands in the first bay alone, so that it is read once."""
         self._is_of(owner)
         home, part = next(self.its())
-        await home.note(part, self, text)
+        await home.note(part, self, text, number)
 
     def heard(self, _: Session, owner: Owner, says_so: bool = False) -> bool:
         return self.owner is owner and self.holds and all([home.heard(part, self, says_so) for home, part in self.its()])

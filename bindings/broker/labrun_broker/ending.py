@@ -45,16 +45,18 @@ async def lets_go(keeping: Keeping, session: Session, owner: Owner, failed: Opti
 
 
 @settled
-async def notes(keeping: Keeping, session: Session, owner: Owner, text: str) -> None:
+async def notes(keeping: Keeping, session: Session, owner: Owner, text: str, number: int) -> None:
     await keeping._shell.turns.may_go_on()
     _is_of(keeping, session, owner)
     wishes.check_note(text, keeping.bay)
-    position = keeping._notes(session, "note", text)
-    session.note = text
-    keeping._record("note", session, text=text)
-    keeping._news.write()
-    keeping._shell.pump()
-    await keeping._shell.durable(position, takes_all=True)
+    # (whoever sends it again, because no answer came, waits for the one that is written, or is being written)
+    if number == 0 or number != session.noted[0]:
+        session.noted = number, keeping._notes(session, "note", text)
+        session.note = text
+        keeping._record("note", session, text=text)
+        keeping._news.write()
+        keeping._shell.pump()
+    await keeping._shell.durable(session.noted[1], takes_all=True)
 
 
 @settled

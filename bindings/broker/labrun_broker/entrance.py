@@ -72,7 +72,7 @@ class Caller:
         if not self.by_http:
             return f"give {its_file} by --token-file"
         # (of those that speak HTTP labrun-hold alone has such an option)
-        return f"send {it} as {BEARER}" + (" (labrun-hold: --token-file FILE)" if self.is_socket else "")
+        return (f"give labrun-hold {its_file} by --token-file, or " if self.is_socket else "") + f"send {it} as {BEARER}"
 
 
 class Entrance:

@@ -109,6 +109,8 @@ FOR_GOOD = {
     "not in peer certificate": "its certificate is for another name: call it by that",
     "certificate verify failed": ANOTHER,
     "http1.x server": HTTP_THERE,
+    # (that by which TLS says what is spoken: of those that a client of a broker meets, HTTP's ports alone say nothing)
+    "missing selected ALPN": HTTP_THERE,
 }
 IS_THERE = {"Socket closed": CLOSED, "Connection reset by peer": CLOSED, **FOR_GOOD}
 HINTS = IS_THERE | {

@@ -53,6 +53,8 @@ class Held:
         self._beats: Optional[asyncio.Task[None]] = None
         # what its owner asks now, and since when; and who looks for another stream
         self._asked: dict[str, Any] = {}
+        # how many notes: by its number the broker knows one that is sent again
+        self._noted = 0
         self._asked_at = 0.0
         self._returns: Optional[asyncio.Task[None]] = None
         # where the guards of its instruments are, and the ports that lead there
@@ -122,10 +124,10 @@ class Held:
     def note(self, text: object) -> None:
         """Writes a line to the records, as a reading."""
         self._may_sleep()
-        self.lab._run(self._ask(note=pb.Note(text=str(text))))
+        self.lab._run(self._notes(str(text)))
 
     async def note_async(self, text: object) -> None:
-        await self.lab._run_async(self._ask(note=pb.Note(text=str(text))))
+        await self.lab._run_async(self._notes(str(text)))
 
     def release(self, failed: Optional[str] = None) -> None:
         """Lets the instruments go; `failed` says what went wrong with the work. TakenAway if the session was ended before."""
@@ -366,6 +368,10 @@ class Held:
                 self._is_sure(sent)
             return
         self._raises_taken()
+
+    async def _notes(self, text: str) -> None:
+        self._noted += 1
+        await self._ask(note=pb.Note(text=text, number=self._noted))
 
     def _raises_taken(self) -> None:
         """The owner is told once, if the session was ended before."""

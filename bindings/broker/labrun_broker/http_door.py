@@ -157,10 +157,10 @@ class HttpDoor:
             return shown(visit, request)
 
     async def _notes(self, request: web.Request) -> web.Response:
-        text = http_words.read(await self._body(request), http_words.NOTE, "text")["text"]
+        given = http_words.read(await self._body(request), http_words.NOTE, "text")
         visit = await self._visit(request)
         with visit.asking():
-            await visit.notes(text)
+            await visit.notes(given["text"], given.get("number", 0))
             return shown(visit, request)
 
     async def _lets_go(self, request: web.Request) -> web.Response:

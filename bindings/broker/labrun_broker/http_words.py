@@ -12,7 +12,7 @@ from labrun.picks import near
 
 from .entrance import NotLetIn
 from .errors import KINDS, BadWish
-from .visits import HOLDING, WAITING
+from .visits import HOLDING, UNCHANGED, WAITING
 from .wishes import Ended, Wish
 
 MOST_BYTES = 1 << 16  # of a body
@@ -96,7 +96,7 @@ def whole(key: str, given: Any) -> int:
 
 
 WISH: Fields = {"instruments": names, "any_of": choices, "station": text, "by": text, "timeout": number, "limit": number, "urgent": yes_or_no, "ticket": text}
-NOTE: Fields = {"text": text}
+NOTE: Fields = {"text": text, "number": whole}
 RELEASE: Fields = {"station": text, "session": whole, "by": text, "bay": text}
 
 
@@ -143,8 +143,8 @@ def seconds(key: str, given: str) -> float:
 
 
 def state(key: str, given: str) -> str:
-    if given not in (WAITING, HOLDING):
-        raise BadWish(f"{key}: {WAITING} or {HOLDING} is wanted")
+    if given not in (WAITING, HOLDING, UNCHANGED):
+        raise BadWish(f"{key}: {WAITING}, {HOLDING} or {UNCHANGED} is wanted")
     return given
 
 

@@ -307,9 +307,9 @@ class Keeping:
         """Who waits comes to hold, and is told once both are on the disk. `failed` is what the client says of work that failed."""
         await ending.lets_go(self, session, owner, failed)
 
-    async def note(self, session: Session, owner: Owner, text: str) -> None:
-        """It is on the disk then."""
-        await ending.notes(self, session, owner, text)
+    async def note(self, session: Session, owner: Owner, text: str, number: int = 0) -> None:
+        """It is on the disk then, once, however often it comes by this number of its client's."""
+        await ending.notes(self, session, owner, text, number)
 
     async def release(self, station: str, by: str, number: int = 0, person: str = "", bay: str = "") -> tuple[str, ...]:
         """Ends the session that a station holds, for its owner; its instruments. With its number, no other session of the station. Where the bay

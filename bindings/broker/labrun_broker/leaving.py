@@ -6,14 +6,14 @@ from __future__ import annotations
 
 from typing import Callable
 
-from .texts import MAY_HOLD
+from .texts import may_hold
 from .words import say
 
 # seconds, for which the broker is told; and after which that is said
 GIVING_UP, UNTOLD = 10.0, 1.5
 
 
-def leaves(has_left: Callable[[float], bool]) -> None:
+def leaves(has_left: Callable[[float], bool], station: str) -> None:
     """Until the broker says that it has left, or another signal comes. `has_left` waits for that word for so many seconds, and gives whether it came."""
     is_told = False
     try:
@@ -22,4 +22,4 @@ def leaves(has_left: Callable[[float], bool]) -> None:
             is_told = has_left(GIVING_UP - UNTOLD)
     finally:
         if not is_told:
-            say(f"the broker wasn't told, as far as is known here; {MAY_HOLD}")
+            say(f"the broker wasn't told, as far as is known here; {may_hold(station)}")

@@ -125,6 +125,8 @@ class Quick:
         except BaseException as fault:
             if not isinstance(fault, Odd):
                 self._gives_up()
+            elif self.wire.is_refused:
+                self.has_asked = False
             raise
         self.wire.is_unlimited()
         if what != HELD:
@@ -150,7 +152,7 @@ class Quick:
         self.wire.is_leaving = True
         with contextlib.suppress(Odd):
             self.wire.asks(LET_GO, b"")
-            leaves(self._has_left)
+            leaves(self._has_left, self._wish.station)
 
     def _has_left(self, span: float) -> bool:
         """Whether the broker says so in time. (Of a session that is over it says that.)"""

@@ -107,7 +107,8 @@ def lets_go(held: Union[Quick, Held], status: int, signals: Signals, ends: conte
 def as_told(status: int, fault: BaseException, until: str = "") -> BaseException:
     """Why the session wasn't ended properly, once it is said that the command ran."""
     say(f"the command ran, and ended with status {status}, but:")
-    return type(fault)(f"{fault}\n{MAY_GO_ON}{until}") if isinstance(fault, ConnectionError) else fault
+    why = f"{fault}\n" if str(fault) else ""
+    return type(fault)(f"{why}{MAY_GO_ON}{until}") if isinstance(fault, ConnectionError) else fault
 
 
 class Start:
@@ -190,7 +191,7 @@ def holds(args: argparse.Namespace, wish: Wish, waits: Waits, signals: Signals, 
         return start.tries(wholly)
     except (KeyboardInterrupt, SystemExit):
         silence.ends()
-        leaves(lab._is_left)
+        leaves(lab._is_left, wish.station)
         raise
 
 
@@ -218,7 +219,8 @@ def runs(command: list[str], held: Union[Quick, Held], signals: Signals, address
     if taken and isinstance(taken[0], ConnectionError):
         # (it isn't taken away: the broker lets this client in no more, and keeps what it holds)
         by = 'the broker releases it (gone = "release")' if held.is_released_if_gone else "an operator releases it"
-        raise as_told(status, taken[0], f", until {by}")
+        # (and why was said as the command was ended)
+        raise as_told(status, type(taken[0])(""), f", until {by}")
     return TAKEN if taken else status
 
 

@@ -181,7 +181,7 @@ class Client:
             span = NEXT_WORD
 
     async def _note(self, asked: Any) -> None:
-        await self.keeping.note(self._held(), self, asked.text)
+        await self.keeping.note(self._held(), self, asked.text, asked.number)
         await self._tell(pb.Told(noted=pb.Noted()))
 
     async def _let_go(self, asked: Any) -> None:

@@ -27,7 +27,6 @@ if TYPE_CHECKING:
     from .crossing import Crossing
     from .keeping import Keeping
 
-
 GONE, ONCE = "gone for", "once that is"
 # the state of a session that is over for its client, while what it had is made safe (making_safe.py)
 ENDING = "ending"
@@ -61,6 +60,7 @@ class Session:
     owner: Optional[Owner] = None
     by: Optional[str] = None
     note: Optional[str] = None
+    noted: tuple[int, int] = 0, 0  # of the last note: its number by its client, and how far the journal has to be durable for it
     taken_by: str = ""
     # whose it is, where the bay names people
     person: str = ""

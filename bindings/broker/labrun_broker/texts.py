@@ -126,8 +126,13 @@ def unreached(address: str, why: str) -> str:
     return f"the broker at {address} can't be reached: {why}{more}"
 
 
-# of a session whose client waited, and gave up without the broker's word: it may have come to hold just before, or do so later
-MAY_HOLD = "the session may hold all the same: if `labrun-broker status` shows it as gone, end it by `labrun-broker release`"
+def may_hold(station: str) -> str:
+    """Of a session whose client waited, and gave up without the broker's word: it may have come to hold just before, or do so later. A guest's name
+    isn't known."""
+    what, name, more = (station, station, "") if station else ("it", "NAME", ", with the name that stands there")
+    return f"the session may hold all the same: if `labrun-broker status` shows {what} as gone, end it by `labrun-broker release {name}`{more}"
+
+
 # of one whose client held, and couldn't tell the broker that it lets go
 MAY_GO_ON = "the session may go on holding, as `labrun-broker status` says"
 

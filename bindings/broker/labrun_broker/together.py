@@ -2,7 +2,7 @@
 
 from __future__ import annotations
 
-from typing import Any, Iterable, Mapping, Sequence
+from typing import Any, Iterable, Mapping, Optional, Sequence
 
 from labrun.picks import near
 
@@ -20,6 +20,16 @@ def all_of(names: Sequence[str]) -> str:
 
 def no_bay(name: str, bays: Sequence[str]) -> BadWish:
     return BadWish(f"{name[:64]} is no bay of this broker: there {'is' if len(bays) == 1 else 'are'} {', '.join(bays)}{near(name, bays)}")
+
+
+def only(status: Status, bay: Optional[str]) -> Status:
+    """The bay of this name, if one is wanted."""
+    its = {name or str(one["bay"]): one for name, one in parts(status)}
+    if bay is not None and bay not in its:
+        raise no_bay(bay, tuple(its))
+    if bay is None or not status.get("bays"):
+        return status
+    return {**its[bay], "bays": [one for one in status["bays"] if one["bay"] == bay]}
 
 
 def status_of(name: str, refusals: int, its: Mapping[str, Status]) -> Status:

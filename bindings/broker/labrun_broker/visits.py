@@ -33,6 +33,8 @@ TOO_MANY = 429
 
 Key = tuple[int, int]
 WAITING, HOLDING, OVER = "waiting", "holding", "over"
+# it waits, and for the same ones as was answered last; that is looked at so often, in seconds
+UNCHANGED, CHANGES = "unchanged", 1.0
 
 
 class Visit:
@@ -51,6 +53,8 @@ class Visit:
         self.host = "here"
         # whether its limit is over soon, and an answer has said so
         self._is_warned = self._is_told_so = False
+        # for whom it waited as that was answered last
+        self._told_of = ""
         self._visits, self._keeping, self._open = visits, visits.keeping, 0
         self._quiet: Optional[asyncio.TimerHandle] = None
         self._changed = asyncio.Event()
@@ -162,9 +166,13 @@ class Visit:
     async def outlasts(self, state: str, span: float, is_there: Callable[[], bool]) -> None:
         """Returns once it isn't in this state any more, it is warned and no answer has said so, the time is over, or whoever asks isn't
         there."""
-        loop, was_told = asyncio.get_running_loop(), self._is_told_so
-        until = loop.time() + min(span, self.most_wait())
+        loop, was_told, looks = asyncio.get_running_loop(), self._is_told_so, state == UNCHANGED
+        until, looks_at, state = loop.time() + min(span, self.most_wait()), loop.time() + CHANGES, WAITING if looks else state
         while self.state == state and self._is_warned == was_told and is_there() and (left := until - loop.time()) > 0:
+            if looks and loop.time() >= looks_at:
+                looks_at = loop.time() + CHANGES
+                if self.for_whom() != self._told_of:
+                    return
             with contextlib.suppress(TimeoutError):
                 async with asyncio.timeout(min(left, LOOK)):
                     await self._changed.wait()
@@ -173,9 +181,9 @@ class Visit:
         lease = self._keeping.lease
         return MOST_WAIT if lease is None else min(MOST_WAIT, lease / PART_OF_LEASE)
 
-    async def notes(self, text: str) -> None:
+    async def notes(self, text: str, number: int = 0) -> None:
         with self._as_it_ended():
-            await self._keeping.note(self._held(), self, text)
+            await self._keeping.note(self._held(), self, text, number)
 
     @contextlib.contextmanager
     def _as_it_ended(self) -> Iterator[None]:
@@ -224,7 +232,8 @@ class Visit:
         it, waits, lease = self.session, self.state == WAITING, None
         if self.state == HOLDING and it is not None:
             lease, self._is_untold = self._keeping.lease_of(it), False
-        keepers, why, _ = self._keeping.for_whom(it) if waits and it is not None else ([], "", ())
+        keepers, why, who = self._keeping.for_whom(it) if waits and it is not None else ([], "", None)
+        self._told_of = "" if who is None else repr(who)
         about: dict[str, Any] = {"state": self.state, "ticket": self.wish.ticket, "station": it and it.name, "session": it and it.number}
         about |= {"token": it.token if it is not None and self.state == HOLDING else None, "warning": self._warning()}
         about |= {"instruments": list(it.instruments) if it else [], "text": why, "waits_for": keepers}

@@ -54,6 +54,7 @@ class Wire:
     def __init__(self) -> None:
         self.socket, self._writing = socket.socket(socket.AF_UNIX), threading.Lock()
         self.was_there = self.is_leaving = False  # the broker; this client
+        self.is_let_in = self.is_refused = False
         self._begun, self._has_pinged = time.monotonic(), False
         # until when it may take to hold; and, of one that leaves, until when it waits for a word
         self.limit = self.until = math.inf
@@ -132,7 +133,11 @@ class Wire:
                 self._messages += payload
             elif kind in (SETTINGS, PING) and not flags & ACK:
                 self._sends(frame(kind, ACK, 0, payload if kind == PING else b""))
-            elif kind in (DATA, RESET) or kind == HEADERS and flags & STREAM_ENDS:
+            elif kind == HEADERS and not flags & STREAM_ENDS:
+                self.is_let_in = True
+            elif kind in (DATA, RESET, HEADERS):
+                # (who isn't let in hears so before anything, and what it asked wasn't read)
+                self.is_refused = kind == HEADERS and not self.is_let_in
                 raise Odd
         message, self._messages = self._messages[5:end], self._messages[end:]
         self._has_word, self._word_at, self._question_at = True, time.monotonic(), math.inf

@@ -5,7 +5,9 @@ import fcntl
 import io
 import json
 import os
+import pty
 import re
+import select
 import shlex
 import signal
 import socket
@@ -24,7 +26,7 @@ from labrun_broker.client import _who
 from labrun_broker.command import main
 from labrun_broker.run import Signals
 from labrun_broker.telling import lines_of
-from tests.brokers import BAY, COMMAND, LIMIT, SOON, TOP, UNHEARD, Broker, OnBroker, heard, station, until
+from tests.brokers import BAY, COMMAND, LIMIT, SOON, TOP, UNHEARD, Broker, OnBroker, heard, station, stopped, until
 
 # (two runs of these tests at once look for the sleeps of their own)
 SPAN = os.getpid()
@@ -133,6 +135,9 @@ class WithoutBroker(unittest.TestCase):
             ([*outside, *tls, bay, "--tls-key", self.folder, *token], 66, "", f"labrun-broker: --tls-key {self.folder}: Is a directory\n"),
             ([], 2, "", "required: WORD"),
             (["fly"], 2, "", "labrun-broker: error: there is no word fly: there are serve, hold, guard, status, top, release, disable, enable, token, report, gantt, table, bay, manual; labrun-broker --help\n"),
+            (["oven"], 2, "", "gantt, table, bay, manual; labrun-broker --help\n"),
+            (["scope", "-n", "--", "true"], 2, "", "there is no word scope: to hold what is called so, labrun-broker hold scope -n -- ..; labrun-broker --help\n"),
+            (["hodl", "scope", "--", "true"], 2, "", "bay, manual (did you mean hold?); labrun-broker --help\n"),
             (["relese", "board"], 2, "", "bay, manual (did you mean release?); labrun-broker --help\n"),
             (["hold", "scope"], 2, "", "say what to run, behind `--`"),
             (["hold", "scope", "--broker", nowhere, "--", ""], 2, "", "say what to run, behind `--`"),
@@ -522,13 +527,60 @@ class WithBroker(OnBroker):
         self.assertLess(time.monotonic() - begun, SOON)
 
     def test_top_of_a_broker_that_dies(self) -> None:
+        """It says so once, and goes on with the next one; and ends if none was ever there."""
+        broker = self.broker(BAY, "--state", "FOLDER/state")
+        with broker.started("top", "--json") as top, contextlib.ExitStack() as ends:
+            ends.callback(top.kill)
+            assert top.stdout is not None and top.stderr is not None
+            for number in (signal.SIGKILL, signal.SIGTERM):
+                self.assertEqual(json.loads(top.stdout.readline())["instruments"][0]["holder"], None)
+                broker.end(number)
+                why = f"labrun-broker: the broker at {broker.address} can't be reached: .*; trying again until Ctrl-C\n"
+                self.assertRegex(top.stderr.readline(), f"^{why}$")
+                time.sleep(2)
+                broker.begin()
+                self.assertEqual(top.stderr.readline(), "labrun-broker: the broker answers again\n")
+            with self.lab(broker, "board").hold("scope"):
+                until(lambda: json.loads(top.stdout.readline())["instruments"][0]["holder"] == "board")
+            top.send_signal(signal.SIGINT)
+            self.assertEqual((top.communicate(timeout=LIMIT)[1], top.returncode), ("", 130))
+        broker.end()
+        done = broker.ran("top")
+        self.assertEqual((done.returncode, done.stdout), (69, ""))
+        self.assertIn("can't be reached", done.stderr)
+
+    def test_top_on_a_wall(self) -> None:
+        """The last picture stays, with its age, while the broker is away or says nothing."""
         broker = self.broker()
-        top = broker.started("top", "--json")
-        assert top.stdout is not None
-        top.stdout.readline()
-        broker.kill()
-        _, said = top.communicate(timeout=LIMIT)
-        self.assertEqual((top.returncode, said), (69, f"labrun-broker: the broker at {broker.address} can't be reached: it closed the connection\n"))
+        screen, end = pty.openpty()
+        with subprocess.Popen([*COMMAND, "top", "--broker", broker.address], stdout=end, stderr=end) as top, contextlib.ExitStack() as ends:
+            os.close(end)
+            ends.callback(top.kill)
+            seen = ""
+
+            def shows(text: str) -> bool:
+                nonlocal seen
+                if select.select([screen], [], [], 0.1)[0]:
+                    seen = (seen + os.read(screen, 1 << 16).decode()).rpartition("\x1b[H\x1b[2J")[2]
+                return re.search(text, seen) is not None
+
+            def shows_all(*texts: str) -> None:
+                until(lambda: shows(texts[0]) and all(re.search(it, seen) for it in texts), texts[0])
+
+            is_late = "(?m)^the broker at .*(doesn't answer|can't be reached).*; trying again until Ctrl-C"
+            with self.lab(broker, "board").hold("scope"):
+                shows_all(r"scope +board +\d+ s")
+                with stopped(broker):
+                    shows_all(is_late, "what follows is [0-9]+ s old", r"scope +board +\d+ s")
+                until(lambda: shows(r"scope +board +\d+ s") and "follows" not in seen, "the picture of now")
+            until(lambda: shows(r"(?m)^scope +-\s*$") and "follows" not in seen, "that nobody holds")
+            broker.kill()
+            shows_all(is_late, "what follows is 3 s old", r"(?m)^scope +-\s*$")
+            broker.begin()
+            until(lambda: shows(r"(?m)^scope +-\s*$") and "follows" not in seen, "the next broker's")
+            top.send_signal(signal.SIGINT)
+            self.assertEqual(top.wait(LIMIT), 130)
+        os.close(screen)
 
     def test_release(self) -> None:
         broker = self.broker()

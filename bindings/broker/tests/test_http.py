@@ -80,6 +80,42 @@ class Races(unittest.IsolatedAsyncioTestCase):
             self.assertEqual(found.exception.kind, "TakenAway")
 
 
+class Unchanged(OnHttp):
+    def test_it_is_answered_when_that_is_another(self) -> None:
+        """With `while=unchanged` soon, also if that was between two requests; without it only once it holds, or the time is over."""
+        broker, one = self.http()
+        holds = self.enterContext(broker.started("hold", "scope", "--station", "board", "--", "sleep", "600"))
+        self.addCleanup(holds.kill)
+        until(lambda: one.status("board")["state"] == "holding")
+        tickets, unchanged = [one.asks("scope")[1]["ticket"] for _ in range(3)], {"while": "unchanged"}
+        spans = dict[str, tuple[float, Any]]()
+
+        def asks(ticket: str, **query: Any) -> None:
+            begun = time.monotonic()
+            told = one.of(ticket, **query)
+            spans[ticket] = time.monotonic() - begun, told
+
+        asks(tickets[0], wait=2.5, **unchanged)
+        self.assertGreaterEqual(spans[tickets[0]][0], 2.5)
+        threads = [threading.Thread(target=asks, args=(it,), kwargs={"wait": 10, **more}) for it, more in zip(tickets, (unchanged, {}))]
+        for it in threads:
+            it.start()
+        time.sleep(0.3)
+        holds.kill()
+        for it in threads:
+            it.join(LIMIT)
+        asks(tickets[2], wait=10, **unchanged)
+        for ticket in tickets:
+            status, told = spans[ticket][1]
+            self.assertEqual((status, "gone for" in told["text"]), (202, True), told)
+        self.assertLess(max(spans[tickets[0]][0], spans[tickets[2]][0]), 9)
+        self.assertGreaterEqual(spans[tickets[1]][0], 10)
+        # (it is told by now)
+        asks(tickets[0], wait=1.5, **unchanged)
+        self.assertGreaterEqual(spans[tickets[0]][0], 1.5)
+        self.told((400, "BadWish", "while: waiting, holding or unchanged is wanted"), one.of(tickets[0], **{"while": "over"}))
+
+
 class Sessions(OnHttp):
     def test_one_after_another(self) -> None:
         broker, one = self.http()

@@ -3,6 +3,7 @@ compiler has them, and without a warning."""
 
 from __future__ import annotations
 
+import contextlib
 import json
 import os
 import select
@@ -28,6 +29,13 @@ COMPILER = next((it for it in ("cc", "gcc", "clang") if shutil.which(it)), None)
 STRICT = ["-std=gnu11", "-O1", "-g", "-Wall", "-Wextra", "-Wconversion", "-Wshadow", "-Werror"]
 SANITIZERS = "-fsanitize=address,undefined"
 RELEASES = f'gone = "release"\n{BAY}'
+# a broker that doesn't know that a request may be answered once it waits for somebody else
+OLDER = """
+import sys
+from labrun_broker import command, http_words
+http_words.QUERY["while"] = lambda key, given: given if given in ("waiting", "holding") else http_words.whole(key, given)
+sys.exit(command.main())
+"""
 # what writes when it got SIGTERM, and ends
 MINDS = "trap 'date +%s.%N > FOLDER/ended; exit 0' TERM; echo > FOLDER/begun; while :; do sleep 0.05; done"
 
@@ -113,7 +121,7 @@ class Held(OnBroker):
         for words, more, status, said in (
             (["load-1"], {"LABRUN_BROKER_TOKEN_FILE": his[1]}, 0, ""),
             (["scope", *his], {}, 77, "labrun-hold: bob may not have scope; operators: ana\n"),
-            (["load-1"], {}, 69, "is none of the bay's people: send your token as `Authorization: Bearer TOKEN` (labrun-hold: --token-file FILE); operators: ana\n"),
+            (["load-1"], {}, 69, "is none of the bay's people: give labrun-hold the file of your token by --token-file, or send your token as `Authorization: Bearer TOKEN`; operators: ana\n"),
         ):
             ran = self.ran(broker, *words, "--", "true", **more)
             self.assertEqual(ran.returncode, status, ran.stderr)
@@ -469,14 +477,116 @@ class Held(OnBroker):
         """Whoever waited may hold, as the journal of a broker that was killed may say: it is told so, and who has asked nothing isn't."""
         broker, one = self.at(BAY, "--state", "FOLDER/state")
         one.holds("scope", station="radio")
-        hold = self.waits(broker, "scope", "--quiet", "--timeout", "4", "--", "true")
-        until(lambda: one.status("guest-1")["state"] == "waiting", "it waits")
+        hold = self.waits(broker, "scope", "--timeout", "4", "--", "true")
+        assert hold.stderr is not None
+        self.assertIn("waits: scope has been held", heard(hold.stderr))
         broker.kill()
-        may = "the session may hold all the same: if `labrun-broker status` shows it as gone, end it by `labrun-broker release`"
+        may = "the session may hold all the same: if `labrun-broker status` shows guest-1 as gone, end it by `labrun-broker release guest-1`"
         self.assertRegex(self.ends(hold, 69), f"^labrun-hold: the broker at unix:.* (can't be reached: nobody listens there|doesn't answer); {may}\n$")
         ran = self.ran(broker, "scope", "-n", "--", "true")
         self.assertEqual((ran.returncode, "may hold" in ran.stderr), (69, False), ran.stderr)
         broker.begin()
+
+    def test_nothing_is_held_later(self) -> None:
+        """A broker that is silent finds, once it goes on, that nobody waits any more: so whoever gives up is told that nothing is held."""
+        broker, one = self.at(BAY, "--state", "FOLDER/state")
+        nothing = "labrun-hold: the broker at unix:.* doesn't answer; nothing is held: should it go on, it finds that nobody waits any more\n"
+        ticket = one.holds("scope", station="radio")
+        waits = self.waits(broker, "scope", "--quiet", "--timeout", "6", "--", "true")
+        until(lambda: one.status("guest-1")["state"] == "waiting", "it waits")
+        with stopped(broker):
+            its = [self.waits(broker, "load-1", *words, "--quiet", "--", "true") for words in (("-n",), ("--timeout", "3"), ("--station", "board", "-n"))]
+            for it in (*its, waits):
+                self.assertRegex(self.ends(it, 69), f"^{nothing}$")
+            # (also by Ctrl-C, and by a second one)
+            with self.waits(broker, "load-2", "--quiet", "--", "true") as asks:
+                time.sleep(1)
+                asks.send_signal(signal.SIGINT)
+                assert asks.stderr is not None
+                self.assertIn("and is told for some seconds", asks.stderr.readline())
+                asks.send_signal(signal.SIGINT)
+                self.assertEqual(asks.stderr.readline(), f"labrun-hold: the broker wasn't told, as far as is known here; {nothing.partition('; ')[2]}")
+        one.lets_go(ticket)
+        until(lambda: all(it["state"] == "idle" for it in one.ask("GET", "/v1/status")[1]["stations"]), "that nothing is held")
+        with open(f"{broker.folder}/state/records.jsonl", encoding="utf-8") as file:
+            self.assertNotIn("gone", [it["what"] for it in map(json.loads, file)])
+
+    def answers(self, *answers: bytes) -> str:
+        """What it says at a broker that hears each request, and answers so; then there is none."""
+        path = f"{self.room}/dies.sock"
+        with socket.socket(socket.AF_UNIX) as listens:
+            listens.bind(path)
+            listens.listen()
+            listens.settimeout(LIMIT)
+            words = [self.program, "scope", "--quiet", "--timeout", "2", "--broker", f"unix:{path}", "--", "true"]
+            one = subprocess.Popen(words, stderr=subprocess.PIPE, text=True)
+            self.addCleanup(one.kill)
+            for answer in answers:
+                came, _ = listens.accept()
+                came.recv(4096)
+                if answer is answers[-1]:
+                    listens.close()
+                    os.unlink(path)
+                came.sendall(answer)
+                came.close()
+        return self.ends(one, 69)
+
+    def test_one_that_dies_as_it_is_asked(self) -> None:
+        """Then the session may hold: its name is said if it is known."""
+        waits = b'{"state": "waiting", "station": "guest-7", "text": "", "waits_for": []}'
+        waits = b"HTTP/1.1 202 Accepted\r\nContent-Length: %d\r\n\r\n%s" % (len(waits), waits)
+        said = self.answers(b"")
+        self.assertIn("; the session may hold all the same: if `labrun-broker status` shows it as gone, end it by `labrun-broker release NAME`, with the name that stands there\n", said)
+        said = self.answers(waits, b"")
+        self.assertIn("; the session may hold all the same: if `labrun-broker status` shows guest-7 as gone, end it by `labrun-broker release guest-7`\n", said)
+
+    def test_a_broker_that_is_full(self) -> None:
+        broker, one = self.at(BAY + "[limits]\nclients = 1\n")
+        one.holds("scope")
+        for words in ((), ("-n",), ("--timeout", "2")):
+            ran = self.ran(broker, "supply", *words, "--", "true")
+            self.assertEqual((ran.returncode, ran.stderr), (69, "labrun-hold: 1 clients are here, and no more may come\n"))
+
+    def test_it_is_told_at_once(self) -> None:
+        """When whoever holds is gone, and who asks next; as `labrun-broker hold` is. Also at an older broker, which doesn't know that word, later."""
+        broker, _ = self.at(BAY, "--state", "FOLDER/state")
+        lab = self.lab(broker)
+        for old in (False, True):
+            with self.subTest(old=old), contextlib.ExitStack() as ends:
+                if old:
+                    broker.end()
+                    broker.command = [sys.executable, "-c", OLDER]
+                    broker.begin()
+                holder = ends.enter_context(subprocess.Popen([*COMMAND, "hold", "scope", "--station", "radio", "--", "sleep", "600"], env=self.environment(broker)))
+                ends.callback(holder.kill)
+                until(lambda: station(lab, "radio")["state"] == "holding")
+                waits = ends.enter_context(self.waits(broker, "scope", "--", "true"))
+                ends.callback(waits.kill)
+                assert waits.stderr is not None
+                self.assertIn("scope has been held by radio for", heard(waits.stderr))
+                time.sleep(1)
+                holder.kill()
+                until(lambda: station(lab, "radio")["state"] == "gone")
+                begun = time.monotonic()
+                self.assertIn("gone for", heard(waits.stderr))
+                if not old:
+                    self.assertLess(time.monotonic() - begun, 3)
+                lab.release("radio")
+                self.assertEqual(waits.wait(LIMIT), 0)
+
+    def test_one_that_is_stopped_while_it_holds(self) -> None:
+        """It is shown as gone soon."""
+        broker, one = self.at()
+        hold = self.started(broker, "scope", "--station", "board", "--", "sh", "-c", "echo > FOLDER/begun; sleep 600")
+        time.sleep(1)
+        hold.send_signal(signal.SIGSTOP)
+        begun = time.monotonic()
+        until(lambda: one.status("board")["state"] == "gone")
+        self.assertLess(time.monotonic() - begun, 30)
+        hold.send_signal(signal.SIGCONT)
+        until(lambda: one.status("board")["state"] == "holding")
+        hold.terminate()
+        self.ends(hold, 143)
 
     def test_a_broker_that_answers_again(self) -> None:
         """One that was stopped has kept the place in line; with one that was killed it is lost."""

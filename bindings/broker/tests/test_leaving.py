@@ -15,7 +15,7 @@ from typing import Iterator
 from tests.brokers import BAY, LIMIT, Broker, OnBroker, free_port, station, stopped, until
 
 TOLD = "labrun-broker: the broker doesn't answer, and is told for some seconds that this waits no longer, unless another signal comes\n"
-MAY_HOLD = "labrun-broker: the broker wasn't told, as far as is known here; the session may hold all the same: if `labrun-broker status` shows it as gone, end it by `labrun-broker release`\n"
+MAY_HOLD = "labrun-broker: the broker wasn't told, as far as is known here; the session may hold all the same: if `labrun-broker status` shows it as gone, end it by `labrun-broker release NAME`, with the name that stands there\n"
 # it waits as long as it takes; and says so soon
 PROGRAM = f"import sys; from labrun_broker import command, leaving; leaving.GIVING_UP, leaving.UNTOLD = {10 * LIMIT}, SOON; sys.exit(command.main())"
 

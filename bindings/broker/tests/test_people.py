@@ -255,11 +255,11 @@ class Doors(OnFolder):
         self.assertEqual((self.why(entrance, "", True), self.why(entrance, "", False, uid)), (f"say who you are: {ask}",) * 2)
         self.assertRegex(self.why(entrance, "", True, uid + 1), rf"^the user .*{uid + 1}.* of this machine is none of the bay's people: {ask}$")
         # by HTTP nobody has that option but labrun-hold, which comes by a socket
-        ask = "send your token as `Authorization: Bearer TOKEN`"
-        self.assertEqual(self.why(entrance, "", False, by_http=True), f"say who you are: {ask}; operators: ana")
+        send = "send your token as `Authorization: Bearer TOKEN`"
+        self.assertEqual(self.why(entrance, "", False, by_http=True), f"say who you are: {send}; operators: ana")
         self.assertEqual(self.why(entrance, BOB, False, by_http=True), "a token is sent as `Authorization: Bearer TOKEN`; operators: ana")
         why = self.why(entrance, "", True, uid + 1, by_http=True)
-        self.assertRegex(why, rf"none of the bay's people: {ask} \(labrun-hold: --token-file FILE\); operators: ana$")
+        self.assertRegex(why, f"none of the bay's people: give labrun-hold the file of your token by --token-file, or {send}; operators: ana$")
         # a token that isn't known is no word of the user's; nor is that of the bay, once it names people
         for given in (f"Bearer {EVE}", f"Bearer {'t' * 64}", "Bearer ", BOB, f"Bearer {digest_of(ANA)}"):
             for is_socket in (False, True):
@@ -469,7 +469,8 @@ class Brokers(OnPeople):
                     said = one.communicate(timeout=LIMIT)[1]
                     kept = f"labrun-broker: the session may go on holding, as `labrun-broker status` says, until {until_when}\n"
                     why = r"labrun-broker: the broker at .* doesn't let this client in: this is nobody's token, or not any more; operators: ana"
-                    self.assertRegex(said, rf"{why}; the command is being ended\n(.*\n)*labrun-broker: the command ran, and ended with status 3, but:\n{why}\n{re.escape(kept)}$")
+                    self.assertRegex(said, rf"{why}; the command is being ended\n(.*\n)*labrun-broker: the command ran, and ended with status 3, but:\n{re.escape(kept)}$")
+                    self.assertEqual(said.count("doesn't let this client in"), 1)
                     self.assertEqual(one.returncode, 69, said)
                 rows = self.by(broker, "ana").status()["stations"]
                 self.assertEqual(sorted((it["state"], *it["instruments"]) for it in rows if it["state"] != "idle"), [("gone", "load-1"), ("gone", "load-2")])

@@ -314,9 +314,11 @@ class Quick(OnBroker):
         done = broker.ran("hold", "scope", "--by", "x" * 30000, "--", "true")
         self.assertEqual((done.returncode, done.stderr), (1, "labrun-broker: a `by` of 30000 characters; 64 are the most\n"))
         runs = self.holds(broker, "exit 0")
-        done = broker.ran("hold", "supply", "--", "true")
-        self.assertEqual(done.returncode, 69)
-        self.assertIn("doesn't let this client in: 1 clients are here, and no more may come", done.stderr)
+        # (it has asked nothing, and is told nothing of a session)
+        for words in ((), ("-n",), ("--timeout", "2")):
+            done = broker.ran("hold", "supply", *words, "--", "true")
+            self.assertEqual(done.returncode, 69)
+            self.assertRegex(done.stderr, "^labrun-broker: the broker at .* doesn't let this client in: 1 clients are here, and no more may come\n$")
         self.ends(broker, runs, 0)
 
 

@@ -18,7 +18,8 @@ from tests.proxies import Proxy, Ways
 
 RELEASES = 'gone = "release"\n' + BAY
 TOLD = r"the broker at .* doesn't answer \(it is stopped, or the network is cut\)"
-MAY_HOLD = "the session may hold all the same: if `labrun-broker status` shows it as gone, end it by `labrun-broker release`"
+MAY_HOLD = "the session may hold all the same: if `labrun-broker status` shows it as gone, end it by `labrun-broker release NAME`, with the name that stands there"
+BOARD_MAY_HOLD = "the session may hold all the same: if `labrun-broker status` shows board as gone, end it by `labrun-broker release board`"
 # it asks, and ends while the broker is stopped
 PROGRAM = """
 import os, signal, sys, labrun_broker
@@ -173,14 +174,14 @@ class Killed(OnBroker):
         self.enterContext(mock.patch.object(coming, "GRACE", 0.5))
         broker = self.broker(BAY, "--state", "FOLDER/state")
         self.lab(broker).hold("scope").acquire()
-        for timeout in (None, LIMIT):
-            with self.subTest(timeout), ThreadPoolExecutor() as threads:
+        for timeout, of, may_hold in ((None, "", MAY_HOLD), (LIMIT, "", MAY_HOLD), (None, "board", BOARD_MAY_HOLD)):
+            with self.subTest(timeout, of=of), ThreadPoolExecutor() as threads:
                 # (a new one each time: gRPC tries one that was away again only after a while)
-                lab, waits = self.lab(broker), list[str]()
+                lab, waits = self.lab(broker, of), list[str]()
                 asked = threads.submit(lab.hold("scope", waits=waits.append, timeout=timeout).acquire)
                 until(lambda: waits, "it waits")
                 broker.kill()
-                with self.assertRaisesRegex(labrun_broker.AnswerLost, f"^the broker at unix:.* can't be reached: .*; {MAY_HOLD}$"):
+                with self.assertRaisesRegex(labrun_broker.AnswerLost, f"^the broker at unix:.* can't be reached: .*; {may_hold}$"):
                     asked.result(LIMIT)
                 with self.assertRaises(labrun_broker.Unreachable) as fault:
                     lab.hold("scope").acquire()

@@ -12,6 +12,7 @@ import subprocess
 import tempfile
 import threading
 import unittest
+from importlib.util import find_spec
 from typing import Any
 from unittest import mock
 
@@ -84,6 +85,10 @@ class Network(OnBroker):
             (safe, "localhost", ["other", "token"], "can't be reached: it has another certificate than --certificate says"),
             (plain, "localhost", ["one"], "can't be reached: it has no TLS: come without --certificate"),
         )
+        if find_spec("aiohttp"):
+            by_http = free_port()
+            self.broker(BAY, "--http", f"localhost:{by_http}", *tls)
+            rows += ((by_http, "localhost", ["one", "token"], "can't be reached: somebody speaks HTTP there, and not as the clients of a broker do"),)
         for port, host, files, said in rows:
             options = [it for option, name in zip(("--certificate", "--token-file"), files) for it in (option, f"{self.folder}/{name}")]
             for words in (["hold", "scope", "-n", *options, "--broker", f"{host}:{port}", "--", "true"], ["status", *options, "--broker", f"{host}:{port}"]):

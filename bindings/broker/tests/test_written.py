@@ -526,6 +526,24 @@ class FullDisk(OnFolder):
             text = file.read()
         self.assertEqual([text.count(it) for it in (b" note 5 V\n", b" taken eve\n", b" taken_away ")], [1, 1, 1])
 
+    async def test_who_notes_again(self) -> None:
+        """Whoever sends a note again while it is being written, by its number, waits for the same line."""
+        self.enterContext(mock.patch.object(shell, "DISK", LIMIT))
+        keeping = await self.on_disk()
+        session = await keeping.hold(Wish(("scope",), station="board"), self.owner)
+        self.breaks("full")
+        first, again = (asyncio.create_task(keeping.note(session, self.owner, "5 V", 7)) for _ in range(2))
+        await asyncio.sleep(0.1)
+        self.assertEqual([first.done(), again.done()], [False, False])
+        # (its connection has ended)
+        first.cancel()
+        self.breaks("")
+        await asyncio.wait_for(again, LIMIT)
+        await keeping.note(session, self.owner, "5 V", 7)
+        with open(f"{self.its_folder}/bay.journal", "rb") as file:
+            self.assertEqual(file.read().count(b" note 5 V\n"), 1)
+        self.assertEqual(whats(keeping, "board"), ["asked", "held", "note"])
+
     async def test_a_broker_begins(self) -> None:
         """What was held is held; who asks waits for room."""
         keeping = await self.on_disk()

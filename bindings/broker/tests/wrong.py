@@ -364,6 +364,10 @@ WRONG = {
         "test_people.Rights.test_who_is_told_how_to_enable", "rights.py", (("if not people or person in people.operators:\n        return f\"once", "if True:\n        return f\"once"),)
     ),
     "one that forgets who took something out": Wrong("test_applying.TakenOut.test_by_whom_and_when", "places.py", (("**out, **gone, **former}", "**out, **gone}"),)),
+    "one that writes a note again": Wrong("test_noted.OfProtocol.test_on_another_connection", "ending.py", (("if number == 0 or number != session.noted[0]:", "if True:"),)),
+    "one that takes any note for the one before": Wrong("test_noted.OfProtocol.test_on_another_connection", "ending.py", (("number != session.noted[0]:", "session.noted[0] == 0:"),)),
+    "a hold that isn't let in, and is told that it may hold": Wrong("test_quick.Quick.test_what_is_refused", "quick.py", (("                self.has_asked = False\n", "                pass\n"),)),
+    "one that tells who waits by HTTP of a change only later": Wrong("test_http.Unchanged.test_it_is_answered_when_that_is_another", "visits.py", (("if self.for_whom() != self._told_of:", "if False:"),)),
     "one that guesses another number": Wrong("test_applying.TakenOut.test_no_other_number_is_meant", "wishes.py", (("if not number or _digits_of", "if True or _digits_of"),)),
 }
 
