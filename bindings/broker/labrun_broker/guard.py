@@ -307,7 +307,8 @@ class Caller(End):
         super().connection_made(transport)
         self._guard.callers += 1
         self.socket = transport.get_extra_info("socket")
-        self.at = came(self.socket)
+        if self._guard.way.by_host:
+            self.at = came(self.socket)
         self.left = asyncio.get_running_loop().create_task(self._guard.serves(self)).cancel
 
     def waits(self) -> None:
