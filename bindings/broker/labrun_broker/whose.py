@@ -26,8 +26,8 @@ ROUNDING, DRIFT = 0.001, 2e-4  # seconds; and seconds a second between two machi
 PAUSE = 0.03  # seconds between two questions: a broker takes so many a second
 # seconds: in all; for the news of what an answer says; and how late a guard that runs may accept
 ALL, NEWS, LATE = 10.0, 0.05, 1.0
-# questions, until it is as sure as it gets; and seconds within which a session began, if that is known well
-TRIES, WELL = 10, 0.02
+# questions, until it is as sure as it gets; and seconds within which a session began, if that is known well, and best
+TRIES, WELL, BEST = 10, 0.02, 0.005
 
 
 class Refused(Exception):
@@ -173,15 +173,14 @@ def is_of_this_session(guard: Guard, caller: Caller, is_answered: bool, is_last:
     its = f"{guard.way.instrument}: a connection from {plainly(str(caller.transport.get_extra_info('peername')[0]))}"
     if not is_answered and (not guard.is_sure or caller.at.last < began.last):
         raise Unknown(f"{its} isn't let through, because the broker doesn't say whether {held} still holds, and began before it came")
-    spoke_at = spoke(caller.socket)
+    spoke_at, is_gone, within = spoke(caller.socket), has_left(caller.socket), began.last - began.first
     is_early = caller.at.last < began.first or spoke_at is not None and spoke_at < began.first
     if not is_early and (caller.at.first >= began.last or spoke_at is not None and spoke_at >= began.last):
         return True
-    # (it came as the session began, or just before that. A client of the session before is gone by now, as a rule)
-    is_gone = has_left(caller.socket)
-    if is_early or is_gone and is_last:
+    # (it came as the session began. One of the session before came before that had let go and this one was on the disk, and is gone, as a rule)
+    if is_early or is_gone and is_last and (spoke_at is None or within > BEST):
         raise Unknown(f"{its} came before {held} began, and isn't let through")
-    return is_last or not is_gone and began.last - began.first < WELL
+    return is_last or within < (BEST if is_gone else WELL) and not (is_gone and spoke_at is None)
 
 
 def plainly(host: str) -> str:
