@@ -200,13 +200,16 @@ async def asks(lab: Lab, names: tuple[str, ...], pulse: Pulse) -> Optional[Answe
     import grpc
 
     from . import broker_pb2 as pb
-    from .whose import Answer
+    from .whose import Answer, boot
 
     call, asked_at = lab._methods["Guard"](pb.GuardWish(instruments=names), metadata=lab._metadata), time.monotonic()
     try:
         async with asyncio.timeout(ANSWER):
             async for told in call:
-                at = time.monotonic()
+                at, moment = time.monotonic(), told.at_us / 1e6
+                if told.boot and told.boot == boot() and asked_at <= moment <= at:
+                    # (by this machine's own clock)
+                    asked_at = at = moment
                 return Answer(asked_at, at, {it.instrument: (it.token, it.held_us / 1e6 if it.HasField("held_us") else None) for it in told.holders})
     except (grpc.aio.AioRpcError, TimeoutError):
         pulse.stood_still()

@@ -11,6 +11,7 @@ from labrun import JournalError
 from labrun.picks import near, some
 
 from . import broker_pb2 as pb
+from .whose import boot
 from .wishes import digits_of
 
 if TYPE_CHECKING:
@@ -53,7 +54,7 @@ def spans_now(keeping: Kept) -> dict[int, int]:
 
 def with_spans(keeping: Kept, its: Iterable[Any]) -> Any:
     """All that is told at once. (For how long changes all the time, and is no news.)"""
-    told, spans = pb.Holders(holders=its), spans_now(keeping)
+    told, spans = pb.Holders(holders=its, at_us=int(asyncio.get_running_loop().time() * 1e6), boot=boot()), spans_now(keeping)
     for it in told.holders:
         if it.token in spans:
             it.held_us = max(0, spans[it.token])

@@ -8,6 +8,7 @@ from __future__ import annotations
 import asyncio
 import builtins
 import contextlib
+import functools
 import ipaddress
 import itertools
 import math
@@ -95,6 +96,14 @@ class Answer(NamedTuple):
     holders: dict[str, tuple[int, Optional[float]]]
 
 
+@functools.cache
+def boot() -> str:
+    """Which start of this machine it runs since; empty if that isn't known."""
+    with contextlib.suppress(OSError), open("/proc/sys/kernel/random/boot_id", encoding="ascii") as file:
+        return file.read().strip()
+    return ""
+
+
 class Began:
     """Between which two moments a session began. Each answer may tell it better."""
 
@@ -102,7 +111,7 @@ class Began:
         self.first, self.last = -math.inf, time.monotonic()
 
     def hears(self, answer: Answer, span: float) -> None:
-        unsure = DRIFT * span
+        unsure = DRIFT * span if answer.asked_at < answer.at else 0.0
         self.first = max(self.first, answer.asked_at - span - unsure)
         self.last = min(self.last, answer.at - span + unsure)
 
