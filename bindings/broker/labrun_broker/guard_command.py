@@ -202,8 +202,9 @@ async def asks(lab: Lab, names: tuple[str, ...], pulse: Pulse) -> Optional[Answe
     from . import broker_pb2 as pb
     from .whose import Answer, boot
 
-    call, asked_at = lab._methods["Guard"](pb.GuardWish(instruments=names), metadata=lab._metadata), time.monotonic()
+    call, asked_at = None, time.monotonic()
     try:
+        call = lab._methods["Guard"](pb.GuardWish(instruments=names), metadata=lab._metadata)
         async with asyncio.timeout(ANSWER):
             async for told in call:
                 at, moment = time.monotonic(), told.at_us / 1e6
@@ -211,10 +212,17 @@ async def asks(lab: Lab, names: tuple[str, ...], pulse: Pulse) -> Optional[Answe
                     # (by this machine's own clock)
                     asked_at = at = moment
                 return Answer(asked_at, at, {it.instrument: (it.token, it.held_us / 1e6 if it.HasField("held_us") else None) for it in told.holders})
-    except (grpc.aio.AioRpcError, TimeoutError):
-        pulse.stood_still()
+    except (grpc.aio.AioRpcError, grpc.aio.UsageError, TimeoutError):
+        pass
+    except asyncio.CancelledError:
+        # (so it ends, too, if the channel was closed here, as for another certificate, and not whoever asks)
+        task = asyncio.current_task()
+        if task is None or task.cancelling():
+            raise
     finally:
-        call.cancel()
+        if call is not None:
+            call.cancel()
+    pulse.stood_still()
     return None
 
 

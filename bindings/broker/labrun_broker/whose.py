@@ -186,7 +186,7 @@ def is_of_this_session(guard: Guard, caller: Caller, is_answered: bool, is_last:
     is_early = caller.at.last < began.first or spoke_at is not None and spoke_at < began.first
     if not is_early and (caller.at.first >= began.last or spoke_at is not None and spoke_at >= began.last):
         return True
-    # (it came as the session began. One of the session before came before that had let go and this one was on the disk, and is gone, as a rule)
+    # (it came as the session began. A client of the session before came before that one let go, and is gone by now, as a rule)
     if is_early or is_gone and is_last and (spoke_at is None or within > BEST):
         raise Unknown(f"{its} came before {held} began, and isn't let through")
     return is_last or within < (BEST if is_gone else WELL) and not (is_gone and spoke_at is None)
