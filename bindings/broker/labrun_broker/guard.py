@@ -17,10 +17,11 @@ import hashlib
 import hmac
 import ipaddress
 import socket
-from typing import Any, Callable, NamedTuple, Optional
+from typing import Any, Awaitable, Callable, NamedTuple, Optional
 
 from .relay import End, joins, resets
 from .texts import plain, why_none
+from .whose import Answer, Began, Came, Refused, Unknown, came, nobody, plainly, token_by_host
 
 FIRST_LINE, PATIENCE, CONNECTING = 5.0, 5.0, 5.0  # seconds
 CLOSING, AGAIN = 0.5, 0.001
@@ -49,10 +50,6 @@ class Way(NamedTuple):
     clear: str = ""
 
 
-class Refused(Exception):
-    """The client isn't let through; the text says why."""
-
-
 class Through:
     """A client's connection, and the instrument's for it."""
 
@@ -73,14 +70,21 @@ class Through:
 
 
 class Guard:
-    """The guard of one instrument. All is on one loop. `where` gives the addresses of the broker's machine."""
+    """The guard of one instrument. All is on one loop. `where` gives the addresses of the broker's machine; `asks` puts a question to the
+    broker; `says` is told who wasn't let through from the holder's machine."""
 
-    def __init__(self, way: Way, where: Callable[[], frozenset[str]] = frozenset) -> None:
+    def __init__(
+        self, way: Way, where: Callable[[], frozenset[str]] = frozenset, asks: Callable[[], Awaitable[Optional[Answer]]] = nobody, says: Callable[[str], None] = lambda text: None
+    ) -> None:
         self.way = way
+        self._asks, self._says = asks, says
         self.holder: Optional[Holder] = None
         self.newest = 0
         # whether the broker is there: for people
         self.is_told = False
+        # whether it has heard of the broker since it stood still
+        self.is_sure = True
+        self._began = Began()
         self.opened = self.cuts = self.refusals = self.sent = self.received = 0
         self.through: set[Through] = set()
         self._where = where
@@ -104,7 +108,7 @@ class Guard:
             holder = holder._replace(host=self.holder.host)
         token = 0 if holder is None else holder.token
         if self.holder is None or token != self.holder.token:
-            self._came = 0
+            self._came, self._began = 0, Began()
         self.newest, self.holder = max(self.newest, token), holder
         for one in self.through:
             if one.token != token and not one.is_cut:
@@ -127,6 +131,8 @@ class Guard:
                 caller.writes(b"ok\n")
         except Refused as why:
             self.refusals += 1
+            if isinstance(why, Unknown):
+                self._says(str(why))
             if self.way.by_host:
                 caller.cut()
             elif not caller.over.is_set():
@@ -140,7 +146,7 @@ class Guard:
         """The token of the session that this client is of. Of one that only says how many bytes its session has sent before it ends, that number,
         too."""
         if self.way.by_host:
-            return None, await self._token_of(lambda it: self._is_host_of(it, caller))
+            return None, await token_by_host(self, caller)
         word, ticket, *more = (await self._line_of(caller)).split(" ") + ["", ""]
         if word != "labrun" or not ticket or more[:1] not in ([""], ["ends"]) or more[0] and not more[1].isdigit():
             raise Refused("the first line isn't `labrun TICKET`")
@@ -187,12 +193,12 @@ class Guard:
         return held if self.is_told else f"the broker can't be reached, and when it last was, {held}"
 
     def _is_host_of(self, holder: Holder, caller: Caller) -> bool:
-        peer, here = (_plainly(str(caller.transport.get_extra_info(it)[0])) for it in ("peername", "sockname"))
-        if holder.host == HERE or holder.host is not None and ipaddress.ip_address(_plainly(holder.host)).is_loopback:
+        peer, here = (plainly(str(caller.transport.get_extra_info(it)[0])) for it in ("peername", "sockname"))
+        if holder.host == HERE or holder.host is not None and ipaddress.ip_address(plainly(holder.host)).is_loopback:
             # (who comes from the broker's machine; if that is this one, he comes from it to itself)
             where = self._where()
             return peer in where or not where and (peer == here or ipaddress.ip_address(peer).is_loopback)
-        return holder.host is not None and peer == _plainly(holder.host)
+        return holder.host is not None and peer == plainly(holder.host)
 
     # ---- the instrument
 
@@ -293,13 +299,24 @@ class Caller(End):
         super().__init__()
         self._guard = guard
         self.has_line = asyncio.Event()
+        self.at = Came(0.0, 0.0, 0.0)
         # what becomes of its work if the client leaves before it is joined with the instrument
         self.left: Callable[[], object] = lambda: None
 
     def connection_made(self, transport: Any) -> None:
         super().connection_made(transport)
         self._guard.callers += 1
+        self.socket = transport.get_extra_info("socket")
+        if self._guard.way.by_host:
+            self.at = came(self.socket)
         self.left = asyncio.get_running_loop().create_task(self._guard.serves(self)).cancel
+
+    def waits(self) -> None:
+        """Nothing of it is read."""
+        self.transport.pause_reading()
+
+    def goes_on(self) -> None:
+        self.transport.resume_reading()
 
     def says_no_more(self) -> None:
         self.transport.pause_reading()
@@ -338,11 +355,3 @@ async def connected(host: str, port: int) -> socket.socket:
             made.close()
             raise
     return made
-
-
-def _plainly(host: str) -> str:
-    """An address of IPv4 that is written as one of IPv6 is as it is."""
-    with contextlib.suppress(ValueError):
-        at = ipaddress.ip_address(host.partition("%")[0])
-        return str(getattr(at, "ipv4_mapped", None) or at)
-    return host

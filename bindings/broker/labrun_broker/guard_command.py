@@ -35,8 +35,11 @@ from .work import clock
 if TYPE_CHECKING:
     from .client import Lab
     from .guard import Guard
+    from .whose import Answer
 
 AGAIN, SELDOM, ENDING = 0.2, 60.0, 3.0
+# seconds for an answer of the broker, without which a guard goes by what it was told last
+ANSWER = 2.0
 # seconds between two looks whether this process goes on; how late one of them is if it didn't; and how soon after that it learns what came of it
 BEAT, LATE, JUST = 0.5, 2.0, 5.0
 KEYS: dict[str, Any] = {"listen": str, "instrument": str, "by_host": bool, "settle": (int, float), "clear": str}
@@ -146,16 +149,32 @@ async def until_told(ends: socket.socket, work: Coroutine[Any, Any, int]) -> int
 
 async def guards(table: dict[str, dict[str, Any]], args: argparse.Namespace, lab: Lab, context: Optional[ssl.SSLContext]) -> int:
     """Goes on until it is ended. Then its connections are reset with this process."""
+    from .door import Seldom
     from .guard import FIRST_LINE, Caller, Guard, Way
+    from .whose import Asked, notes_moments
     from .words import tell_systemd
 
-    where, its, servers = Where(lambda: lab._brokers.address), dict[str, Guard](), list[asyncio.Server]()
+    where, its, servers, seldom = Where(lambda: lab._brokers.address), dict[str, Guard](), list[asyncio.Server](), Seldom(SELDOM)
+
+    def says(text: str, kind: str = "") -> None:
+        if (told := seldom.text(kind or text, text)) is not None:
+            say(plain(told))
+
+    def stood_still(span: str) -> None:
+        for guard in its.values():
+            guard.is_sure = False
+        says(f"this guard itself stood still for {span}, as one that is stopped, or whose machine sleeps", "still")
+
+    pulse = Pulse(stood_still)
+    asked = Asked(functools.partial(asks, lab, tuple(table), pulse))
     for name, row in table.items():
         host, port = host_and_port(row["instrument"])
-        its[name] = Guard(Way(name, host, port, row["by_host"], row["settle"], row["clear"]), where.addresses)
+        its[name] = Guard(Way(name, host, port, row["by_host"], row["settle"], row["clear"]), where.addresses, asked.answer, functools.partial(says, kind=f"not {name}"))
     for name, row in table.items():
         at = host_and_port(row["listen"])
         servers.append(await listens(at, functools.partial(Caller, its[name]), None if row["by_host"] or is_here(at[0]) else context, FIRST_LINE))
+        for it in servers[-1].sockets:
+            notes_moments(it)
     web = None
     try:
         if args.metrics is not None:
@@ -165,7 +184,7 @@ async def guards(table: dict[str, dict[str, Any]], args: argparse.Namespace, lab
         for (name, row), server in zip(table.items(), servers):
             say(f"guards {name} at {row['instrument']}: clients come to {written(*server.sockets[0].getsockname()[:2])}")
         tell_systemd("READY=1")
-        await hears(its, lab, args)
+        await hears(its, lab, args, says, pulse)
     finally:
         for guard in its.values():
             guard.told(None)
@@ -176,18 +195,40 @@ async def guards(table: dict[str, dict[str, Any]], args: argparse.Namespace, lab
     return 0
 
 
-async def hears(its: dict[str, Guard], lab: Lab, args: argparse.Namespace) -> None:
+async def asks(lab: Lab, names: tuple[str, ...], pulse: Pulse) -> Optional[Answer]:
+    """Who holds now. None: the broker doesn't answer."""
+    import grpc
+
+    from . import broker_pb2 as pb
+    from .whose import Answer, boot
+
+    call, asked_at = None, time.monotonic()
+    try:
+        call = lab._methods["Guard"](pb.GuardWish(instruments=names), metadata=lab._metadata)
+        async with asyncio.timeout(ANSWER):
+            async for told in call:
+                at, moment = time.monotonic(), told.at_us / 1e6
+                if told.boot and told.boot == boot() and asked_at <= moment <= at:
+                    # (by this machine's own clock)
+                    asked_at = at = moment
+                return Answer(asked_at, at, {it.instrument: (it.token, it.held_us / 1e6 if it.HasField("held_us") else None) for it in told.holders})
+    except (grpc.aio.AioRpcError, grpc.aio.UsageError, TimeoutError):
+        pass
+    except asyncio.CancelledError:
+        # (so it ends, too, if the channel was closed here, as for another certificate, and not whoever asks)
+        task = asyncio.current_task()
+        if task is None or task.cancelling():
+            raise
+    finally:
+        if call is not None:
+            call.cancel()
+    pulse.stood_still()
+    return None
+
+
+async def hears(its: dict[str, Guard], lab: Lab, args: argparse.Namespace, says: Callable[..., None], pulse: Pulse) -> None:
     """Goes on to hear who holds. While the broker is away who is let through stays so, and no other session is. One that is back may have
     another certificate."""
-    from .door import Seldom
-
-    seldom = Seldom(SELDOM)
-
-    def says(text: str, kind: str = "") -> None:
-        if (told := seldom.text(kind or text, text)) is not None:
-            say(plain(told))
-
-    pulse = Pulse(lambda span: says(f"this guard itself stood still for {span}, as one that is stopped, or whose machine sleeps", "still"))
     goes_on = asyncio.create_task(pulse.goes_on())
     try:
         await _hears(its, lab, args, says, pulse)

@@ -4,13 +4,14 @@ it is told of an end at once, and of a holder only what is confirmed."""
 from __future__ import annotations
 
 import asyncio
-from typing import TYPE_CHECKING, Any, AsyncIterator, Optional
+from typing import TYPE_CHECKING, Any, AsyncIterator, Iterable, Optional
 from urllib.parse import unquote
 
 from labrun import JournalError
 from labrun.picks import near, some
 
 from . import broker_pb2 as pb
+from .whose import boot
 from .wishes import digits_of
 
 if TYPE_CHECKING:
@@ -44,6 +45,22 @@ def holders_now(keeping: Kept, names: tuple[str, ...]) -> dict[str, Any]:
     return {name: holder_of(name, of.get(name)) for name in names}
 
 
+def spans_now(keeping: Kept) -> dict[int, int]:
+    """Of each token for how many microseconds its session has held. (Its beginning is noted in whole milliseconds.)"""
+    its = [session for it in keeping.peers for session in it.by_number.values() if session.is_at_work]
+    part = int(asyncio.get_running_loop().time() * 1e6) % 1000
+    return {it.token: (it.home.now() - it.limit_since) * 1000 + part for it in its if it.home is not None}
+
+
+def with_spans(keeping: Kept, its: Iterable[Any]) -> Any:
+    """All that is told at once. (For how long changes all the time, and is no news.)"""
+    told, spans = pb.Holders(holders=its, at_us=int(asyncio.get_running_loop().time() * 1e6), boot=boot()), spans_now(keeping)
+    for it in told.holders:
+        if it.token in spans:
+            it.held_us = max(0, spans[it.token])
+    return told
+
+
 def why_not(keeping: Kept, wish: Any) -> Optional[str]:
     """Why a guard can't be told."""
     if keeping.state is None:
@@ -73,7 +90,7 @@ async def holders(keeping: Kept, names: tuple[str, ...]) -> AsyncIterator[Any]:
                 continue
             now = holders_now(keeping, names)
             if not said or (news := [it for name, it in now.items() if it != said[name]]):
-                yield pb.Holders(holders=news if said else list(now.values()))
+                yield with_spans(keeping, news if said else now.values())
                 said = now
             await waits
             waits = asyncio.ensure_future(anext(changes))

@@ -100,6 +100,12 @@ WRONG = {
     "a guard that takes the word of a broker that isn't asked any more": Wrong(
         "test_guard_inside.Exclusion.test_an_older_one_is_ignored", "guard.py", (("if holder is not None and holder.token < self.newest:", "if holder is not None and holder.token < 0:"),)
     ),
+    "a guard that lets in by host who came before the session": Wrong(
+        "test_guard_late.HearsLate.test_it_came_before_the_session", "whose.py", (("    is_early = caller.at.last < began.first or", "    is_early = False and caller.at.last < began.first or"),)
+    ),
+    "a guard that lets in by host without asking who holds now": Wrong(
+        "test_guard_late.HearsLate.test_the_session_has_ended", "whose.py", (("                if its != token:\n", "                if False:\n"),)
+    ),
     "a guard that sends what was queued": Wrong(
         "test_guard.Ends.test_nothing_queued_is_sent", "guard.py", (("                one.cut()\n", "                one.there.resets = False\n                one.there.closes()\n                one.caller.cut()\n"),)
     ),
