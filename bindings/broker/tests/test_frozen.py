@@ -112,7 +112,9 @@ class StandsStill(OnBroker):
     def test_a_signal(self) -> None:
         """It is told for ten seconds at most that nobody waits any more, whatever else comes on the connection."""
         broker = self.stands()
-        program = "import sys; from labrun_broker import command, leaving; leaving.GIVING_UP, leaving.UNTOLD = 2.0, 0.5; sys.exit(command.main())"
+        # (it goes on to ask, and each time the connection answers)
+        sets = "leaving.GIVING_UP, leaving.UNTOLD, silence.TICK = 4.0, 1.0, 0.1"
+        program = f"import sys; from labrun_broker import command, leaving, silence; {sets}; sys.exit(command.main())"
         with broker.lab() as lab, lab.hold("scope"):
             words = [sys.executable, "-c", program, "hold", "scope", "--quiet", "--broker", broker.address, "--", "echo", "ran"]
             with subprocess.Popen(words, stderr=subprocess.PIPE, text=True) as runs:
