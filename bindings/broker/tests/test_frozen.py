@@ -127,6 +127,23 @@ class StandsStill(OnBroker):
             self.assertIn("the broker wasn't told", said)
         self.is_idle(broker, "guest-2")
 
+    def test_as_it_lets_go(self) -> None:
+        """It is told for a minute; here for some seconds. Once it goes on it knows."""
+        broker = self.stands()
+        program = "import sys; from labrun_broker import command, quick; quick.TELLING = 3.0; sys.exit(command.main())"
+        script = f"echo runs; while ! [ -e {broker.folder}/stands ]; do sleep 0.05; done; exit 5"
+        words = [sys.executable, "-c", program, "hold", "scope", "--quiet", "--broker", broker.address, "--", "sh", "-c", script]
+        with subprocess.Popen(words, stdout=subprocess.PIPE, stderr=subprocess.PIPE, text=True) as runs:
+            self.addCleanup(runs.kill)
+            assert runs.stdout is not None
+            self.assertEqual(runs.stdout.readline(), "runs\n")
+            with self.still(broker):
+                said = runs.communicate(timeout=SOON)[1]
+        self.assertEqual(runs.returncode, 69, said)
+        self.assertIn("the command ran, and ended with status 5, but:\n", said)
+        self.assertIn("doesn't answer any more\n", said)
+        self.is_idle(broker, "guest-1")
+
     def test_stopped_after_its_first_answer(self) -> None:
         """As by SIGSTOP, when the small client has heard that it is there."""
         broker = self.broker(BAY, "--state", "FOLDER/state")
