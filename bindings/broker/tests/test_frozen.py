@@ -112,7 +112,9 @@ class StandsStill(OnBroker):
     def test_a_signal(self) -> None:
         """It is told for ten seconds at most that nobody waits any more, whatever else comes on the connection."""
         broker = self.stands()
-        program = "import sys; from labrun_broker import command, leaving; leaving.GIVING_UP, leaving.UNTOLD = 2.0, 0.5; sys.exit(command.main())"
+        # (it goes on to ask, and each time the connection answers)
+        sets = "leaving.GIVING_UP, leaving.UNTOLD, silence.TICK = 4.0, 1.0, 0.1"
+        program = f"import sys; from labrun_broker import command, leaving, silence; {sets}; sys.exit(command.main())"
         with broker.lab() as lab, lab.hold("scope"):
             words = [sys.executable, "-c", program, "hold", "scope", "--quiet", "--broker", broker.address, "--", "echo", "ran"]
             with subprocess.Popen(words, stderr=subprocess.PIPE, text=True) as runs:
@@ -124,6 +126,23 @@ class StandsStill(OnBroker):
             self.assertEqual(runs.returncode, 130, said)
             self.assertIn("the broker wasn't told", said)
         self.is_idle(broker, "guest-2")
+
+    def test_as_it_lets_go(self) -> None:
+        """It is told for a minute; here for some seconds. Once it goes on it knows."""
+        broker = self.stands()
+        program = "import sys; from labrun_broker import command, quick; quick.TELLING = 3.0; sys.exit(command.main())"
+        script = f"echo runs; while ! [ -e {broker.folder}/stands ]; do sleep 0.05; done; exit 5"
+        words = [sys.executable, "-c", program, "hold", "scope", "--quiet", "--broker", broker.address, "--", "sh", "-c", script]
+        with subprocess.Popen(words, stdout=subprocess.PIPE, stderr=subprocess.PIPE, text=True) as runs:
+            self.addCleanup(runs.kill)
+            assert runs.stdout is not None
+            self.assertEqual(runs.stdout.readline(), "runs\n")
+            with self.still(broker):
+                said = runs.communicate(timeout=SOON)[1]
+        self.assertEqual(runs.returncode, 69, said)
+        self.assertIn("the command ran, and ended with status 5, but:\n", said)
+        self.assertIn("doesn't answer any more\n", said)
+        self.is_idle(broker, "guest-1")
 
     def test_stopped_after_its_first_answer(self) -> None:
         """As by SIGSTOP, when the small client has heard that it is there."""
