@@ -79,10 +79,9 @@ class Stopped(BeforeInstruments):
                         held = self.enterContext(contextlib.ExitStack())
                         held.enter_context(lab.hold("scope"))
                         new = self.connects()
-                    with held, new:
+                    with held, new, new.makefile("rb") as it:
                         if not is_gone:
                             self.assertEqual(lines(old), ["reset"])
-                        it = new.makefile("rb")
                         self.assertEqual(it.readline(), b"READY\n")
                         for _ in range(50):
                             new.sendall(b"ADD 1\n")
