@@ -105,14 +105,16 @@ def boot() -> str:
 
 
 class Began:
-    """Between which two moments a session began. Each answer may tell it better."""
+    """Between which two moments a session began: before the guard was told of it. Each answer may tell it better."""
 
     def __init__(self) -> None:
         self.first, self.last = -math.inf, time.monotonic()
+        self._told_at = self.last
 
     def hears(self, answer: Answer, span: float) -> None:
         unsure = DRIFT * span if answer.asked_at < answer.at else 0.0
-        self.first = max(self.first, answer.asked_at - span - unsure)
+        # (for how long, a broker that began again knows by the wall clock)
+        self.first = min(max(self.first, answer.asked_at - span - unsure), self._told_at)
         self.last = min(self.last, answer.at - span + unsure)
 
 

@@ -79,10 +79,9 @@ class Stopped(BeforeInstruments):
                         held = self.enterContext(contextlib.ExitStack())
                         held.enter_context(lab.hold("scope"))
                         new = self.connects()
-                    with held, new:
+                    with held, new, new.makefile("rb") as it:
                         if not is_gone:
                             self.assertEqual(lines(old), ["reset"])
-                        it = new.makefile("rb")
                         self.assertEqual(it.readline(), b"READY\n")
                         for _ in range(50):
                             new.sendall(b"ADD 1\n")
@@ -196,6 +195,22 @@ class HearsLate(Inside):
         await asyncio.sleep(APART)
         self.told(2)
         self.assertEqual(await answer, "1")
+
+    async def test_a_broker_that_began_again(self) -> None:
+        """The wall clock was put back: for how long it says is too short. Whoever came since the guard was told is of this session all the same."""
+        await self.begins((2, 0.0))
+        self.told(2)
+        # (the kernel's ticks)
+        await asyncio.sleep(0.1)
+        client = await self.client()
+        self.assertEqual(await client.asks("*IDN?"), "1")
+        client.writer.write(b"*IDN?\n")
+        client.writer.write_eof()
+        self.assertEqual(await client.reader.read(), b"1\n")
+        late = await self.client()
+        late.writer.write(b"*IDN?\n")
+        late.writer.write_eof()
+        self.assertEqual(await late.reader.read(), b"2\n")
 
     async def test_a_broker_that_says_no_spans(self) -> None:
         """An older one: whose client is gone isn't let through, if it came before the guard had heard of the session."""
