@@ -459,7 +459,7 @@ class Refused(OnHttp):
         ticket = one.holds("scope")
         self.told((400, "BadWish", "500 are the most"), one.of(ticket, "/notes", "POST", {"text": "n" * 501}))
         self.told((400, "BadWish", "16 characters or more"), one.of("short"))
-        self.told((400, "BadWish", "waiting or holding"), one.of(ticket, **{"while": "over"}))
+        self.told((400, "BadWish", "while: waiting, holding or unchanged is wanted"), one.of(ticket, **{"while": "over"}))
         for wait in ("x", "-1", "nan", "inf", ""):
             why = "wait: a number of seconds is wanted, as wait=30; words that this request takes behind `?`: wait, while"
             self.told((400, "BadWish", why), one.of(ticket, wait=wait))
