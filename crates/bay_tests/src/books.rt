@@ -25,6 +25,7 @@ fn wait(rt: &impl Abort, book: &Book) {
     check(rt, "late", book.first_late(9, None), Some((0, End::Lapsed)));
     check(rt, "in use", book.in_use(), 0);
     check(rt, "taken", book.taken(1), 0);
+    check(rt, "of each", *book.taken_of_each(), [0; 32]);
 }
 
 /// The ask at this place holds these instruments.
@@ -46,6 +47,9 @@ fn token(rt: &impl Abort, book: &Book, place: usize, wanted: u64) {
 fn use_up(rt: &impl Abort, book: &Book) {
     check(rt, "in use", book.in_use(), 6);
     check(rt, "taken", book.taken(1), 1);
+    let mut one = [0; 32];
+    one[1] = 1;
+    check(rt, "of each", *book.taken_of_each(), one);
     check(rt, "limit", book.limit_due(2, 0), Some(7));
     check(rt, "nobody wants it", book.limit_due(1, 1), None);
     check(rt, "within", book.first_over_limit(6, 2, 0), None);
