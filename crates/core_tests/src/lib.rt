@@ -17,6 +17,8 @@ mod logs;
 #[cfg(test)]
 mod longer;
 #[cfg(test)]
+mod outside;
+#[cfg(test)]
 mod pairs;
 #[cfg(test)]
 mod plans;
