@@ -3,7 +3,7 @@
 
 Usage: checks/speed.py [rounds=N] [program=PATH] [kit=wide] [only=NAME,..] [ahead=yes]     (from anywhere, after ./labrun was built)
        checks/speed.py growth [rounds=N] [program=PATH]
-       checks/speed.py instructions [program=PATH] [only=NAME,..]
+       checks/speed.py instructions [program=PATH] [kit=wide] [only=NAME,..]
        checks/speed.py instructions growth [program=PATH]            (both with valgrind)
 
 Builds the peers of checks/peers with `rustc -O` into a temporary folder, generates workloads, and runs all programs on each
@@ -346,9 +346,9 @@ def page_faults(made, runs):
     table(["page faults of a whole run"] + [name for name, _, _ in made], rows)
 
 
-def instructions(folder, runs, only):
+def instructions(folder, runs, only, kit):
     """What the turns, the report and the reading of each run by rounds take: labrun's as multiples of the port's, and of each by size."""
-    made = scripts(folder, only)
+    made = scripts(folder, only, kit)
     spent, by_one = {}, {}
     for name, path, text in made:
         spent[name] = {heading: {run: counted(runs[run][0], each[run], path) for run in each} for heading, each, _, _, _ in COUNTED}
@@ -382,6 +382,7 @@ def main(words):
     keys = dict(word.split("=") for word in words)
     rounds, labrun = int(keys.get("rounds", "9")), os.path.abspath(keys.get("program", LABRUN))
     only = keys["only"].split(",") if "only" in keys else None
+    kit = WORKLOADS + WIDE if keys.get("kit") == "wide" else WORKLOADS
     if keys.get("ahead") == "yes":
         START["preexec_fn"] = goes_ahead
     with tempfile.TemporaryDirectory() as folder:
@@ -389,7 +390,7 @@ def main(words):
         runs = programs(peers, labrun if has_words(labrun) else None)
         by_rounds = {name: run for name, run in runs.items() if name in TURN}
         if kinds == ["instructions"]:
-            instructions(folder, runs, only)
+            instructions(folder, runs, only, kit)
             return 0
         if kinds == ["growth"]:
             growth(folder, TURN, "nanoseconds", lambda path: {name: spent * 1e9 for name, spent in measure(by_rounds, path, rounds)[0].items()})
@@ -398,7 +399,7 @@ def main(words):
             growth(folder, TURN, "instructions", lambda path: {name: counted(run[0], TURN[name], path) for name, run in by_rounds.items()})
             return 0
         times, clocks, wholes, counts = {}, {}, {}, {}
-        for name, path, text in scripts(folder, only, WORKLOADS + WIDE if keys.get("kit") == "wide" else WORKLOADS):
+        for name, path, text in scripts(folder, only, kit):
             for program, (full, _) in runs.items():
                 checked(program, full, path, text)
             times[name], clocks[name], wholes[name] = measure(runs, path, rounds)

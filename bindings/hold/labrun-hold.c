@@ -10,6 +10,7 @@
 #include <errno.h>
 #include <fcntl.h>
 #include <inttypes.h>
+#include <limits.h>
 #include <math.h>
 #include <poll.h>
 #include <pwd.h>
@@ -32,13 +33,13 @@
 enum { USAGE = 2, NO_FILE = 66, UNREACHABLE = 69, NOT_WRITTEN = 74, TIMED_OUT = 75, TAKEN = 76, MAY_NOT = 77, CANT_RUN = 126, NOT_FOUND = 127 };
 /* seconds: that a broker may take to begin; that one which was there may be away; between two tries; that an answer may be late; after which it
    is said that the broker isn't told, or what still runs; between two looks at what still runs; that a broker which is there may say nothing to
-   a new client */
+   a new client; since an ask, after which its answer may be an old one */
 static const double STARTING = 5, AWAY = 60, PAUSE = 0.3, LATE = 10, LATE_END = 2, UNTOLD = 1.5, TELLING = 1, LOOK = 0.02;
-static const double FIRST = 30, FIRST_WORD = 0.3, AGAIN = 60, LONG = 30, SILENCE = 8;
-/* what is said of a session whose client waited, and gave up at a broker that is there and says nothing; and of one whose client held, and couldn't
-   tell that it lets go */
+static const double FIRST = 30, FIRST_WORD = 0.3, AGAIN = 60, LONG = 30, SILENCE = 8, FRESH = 1;
+/* seconds that a line is waited for to be taken by standard error */
+static const double MOMENT = 0.1;
+/* what is said of a session whose client waited, and gave up at a broker that is there and says nothing */
 static const char NOTHING_HELD[] = "nothing is held: should it go on, it finds that nobody waits any more";
-static const char MAY_GO_ON[] = "the session may go on holding, as `labrun-broker status` says";
 static const char DEFAULT[] = "unix:/run/labrun/bay.sock";
 static const char HELP[] =
     "usage: labrun-hold INSTRUMENT .. [options] -- COMMAND [ARGUMENT ..]\n\n"
@@ -53,10 +54,74 @@ static const char HELP[] =
     "  --token-file FILE  your token, for a broker that asks who you are; without, LABRUN_BROKER_TOKEN_FILE says where it is\n"
     "  --broker ADDR      unix:PATH; without, LABRUN_BROKER says it, or it is unix:/run/labrun/bay.sock. If there is a socket\n"
     "                     PATH.http, it is asked there: labrun-broker serve BAY --listen unix:PATH --http unix:PATH.http\n\n"
-    "statuses: that of the command, or 128 and the number of the signal that ended it; 1 the broker said no; 2 the words aren't right; 66 the\n"
-    "token's file can't be read, or no token is in it; 69 the broker can't be reached; 74 it couldn't write; 75 the time limit passed; 76 the\n"
-    "session was taken away; 77 the station, a guest or you may not use one of the instruments; 126 and 127 the command can't be run, or\n"
-    "isn't there; 130 Ctrl-C\n";
+    "statuses: that of the command, or 128 and the number of the signal that ended it; 1 the broker said no, or this can't be written; 2\n"
+    "the words aren't right; 66 the token's file can't be read, or no token is in it; 69 the broker can't be reached; 74 it couldn't\n"
+    "write; 75 the time limit passed; 76 the session was taken away, and if the command ran already, it got SIGTERM; 77 the station, a\n"
+    "guest or you may not use one of the instruments; 126 and 127 the command can't be run, or isn't there; 130 Ctrl-C\n";
+
+/* Seconds, by a clock that goes on while the machine sleeps. */
+static double now(void) {
+    struct timespec it;
+    clock_gettime(CLOCK_BOOTTIME, &it);
+    return (double)it.tv_sec + (double)it.tv_nsec / 1e9;
+}
+
+/* ---- standard error: whoever reads it, or doesn't, changes nothing of what is done */
+
+/* the signals that a write may send, and what the command is to do with them */
+static const int of_writes[] = {SIGPIPE, SIGXFSZ};
+enum { OF_WRITES = sizeof of_writes / sizeof *of_writes };
+static struct sigaction for_command[OF_WRITES];
+static int errors = STDERR_FILENO;
+static bool is_full, has_no_end; /* whether it took nothing, when last it was asked; whether it took the beginning of a line, and not its end */
+
+/* The numbers of closed streams are taken: else a socket would get one, and what is said would go to the broker. */
+static void open_streams(void) {
+    for (int at = 0; at <= STDERR_FILENO; at++)
+        if (fcntl(at, F_GETFD) < 0 && open("/dev/null", at == STDOUT_FILENO ? O_RDONLY : O_RDWR) < 0)
+            return;
+}
+
+/* Of a pipe or a terminal this program has an end of its own, which never waits: the command may fill it just before a write. */
+static void open_errors(void) {
+    struct stat is;
+    bool may_wait = fstat(STDERR_FILENO, &is) == 0 && (S_ISFIFO(is.st_mode) || isatty(STDERR_FILENO));
+    bool is_written = (fcntl(STDERR_FILENO, F_GETFL) & O_ACCMODE) != O_RDONLY;
+    int own = may_wait && is_written ? open("/proc/self/fd/2", O_WRONLY | O_NONBLOCK | O_NOCTTY | O_CLOEXEC) : -1;
+    if (own >= 0)
+        errors = own;
+}
+
+static void ignore_writes(void) {
+    for (int n = 0; n < OF_WRITES; n++)
+        sigaction(of_writes[n], &(struct sigaction){.sa_handler = SIG_IGN}, &for_command[n]);
+}
+
+/* As much as a pipe has room for if it has any. */
+static ssize_t write_some(const char *from, size_t length) {
+    size_t some = length < PIPE_BUF ? length : PIPE_BUF;
+    ssize_t count = send(errors, from, some, MSG_DONTWAIT | MSG_NOSIGNAL);
+    return count < 0 && errno == ENOTSOCK ? write(errors, from, some) : count;
+}
+
+/* What isn't taken within a moment is lost; where the line before was, too, there is no wait. */
+static void write_line(const char *line, size_t length) {
+    double end = is_full ? 0 : now() + MOMENT;
+    size_t written = 0;
+    for (is_full = false; written < length && !is_full;) {
+        struct pollfd it = {.fd = errors, .events = POLLOUT};
+        ssize_t count = -1;
+        errno = EAGAIN;
+        if (poll(&it, 1, (int)ceil(fmax(0, end - now()) * 1000)) > 0)
+            count = write_some(line + written, length - written);
+        if (count < 0 && errno != EAGAIN && errno != EINTR)
+            break;
+        written += count > 0 ? (size_t)count : 0;
+        is_full = count <= 0 && now() >= end;
+    }
+    if (written > 0)
+        has_no_end = written < length;
+}
 
 /* ---- texts */
 
@@ -66,8 +131,9 @@ struct text {
 };
 
 static void *whole(void *it) {
+    static const char none[] = "labrun-hold: there is no memory\n";
     if (it == NULL) {
-        fputs("labrun-hold: there is no memory\n", stderr);
+        write_line(none, sizeof none - 1);
         exit(1);
     }
     return it;
@@ -148,8 +214,10 @@ __attribute__((format(printf, 1, 2))) static void say(const char *format, ...) {
     if (vasprintf(&made, format, given) < 0)
         whole(NULL);
     va_end(given);
+    putf(&line, "%slabrun-hold: ", has_no_end ? "\n" : "");
     put_plain(&line, made);
-    fprintf(stderr, "labrun-hold: %s\n", line.at ? line.at : "");
+    put(&line, "\n", 1);
+    write_line(line.at, line.length);
     free(made);
     free(line.at);
 }
@@ -265,6 +333,12 @@ static struct {
     double timeout; /* NAN: none */
 } wish = {.timeout = NAN};
 
+/* Where labrun-broker asks, too, that is told no address. */
+static const char *usual_broker(void) {
+    const char *given = getenv("LABRUN_BROKER");
+    return given != NULL && *given ? given : DEFAULT;
+}
+
 static char ticket[65], own_token[8192], path[sizeof((struct sockaddr_un){0}.sun_path)];
 static sigset_t before; /* the signals that were blocked */
 static int signals = -1;
@@ -275,13 +349,7 @@ static int status = -1;
 static unsigned long long since;
 static bool were_sent, is_taken, is_let_in = true, is_telling, is_untold;
 static double says_at = INFINITY; /* when it is said that the command goes on after a signal */
-
-/* Seconds, by a clock that goes on while the machine sleeps. */
-static double now(void) {
-    struct timespec it;
-    clock_gettime(CLOCK_BOOTTIME, &it);
-    return (double)it.tv_sec + (double)it.tv_nsec / 1e9;
-}
+static int why_none; /* why the command couldn't be run, as long as that isn't said */
 
 /* ---- the command, and all processes that come of it */
 
@@ -409,6 +477,7 @@ struct talk {
     size_t written;
     double at, until; /* when it was sent, and how long its answer may take */
     bool is_cut;      /* its connection ended before the answer */
+    bool is_at_once;  /* it wants its answer without a wait */
 };
 
 enum outcome { PENDING, ANSWERED, LOST, ABSENT };
@@ -447,11 +516,17 @@ static bool is_whole(const struct talk *it) {
 }
 
 /* As much of it as goes without waiting. */
-static enum outcome goes_on(struct talk *it) {
-    char some[4096];
+static void send_some(struct talk *it) {
     ssize_t count;
     while (it->written < it->sent.length && (count = send(it->socket, it->sent.at + it->written, it->sent.length - it->written, MSG_NOSIGNAL)) > 0)
         it->written += (size_t)count;
+}
+
+/* The same, and then what there is of its answer. */
+static enum outcome goes_on(struct talk *it) {
+    char some[4096];
+    ssize_t count;
+    send_some(it);
     while ((count = recv(it->socket, some, sizeof some, 0)) > 0 && it->heard.length < 1 << 20)
         put(&it->heard, some, (size_t)count);
     if (is_whole(it))
@@ -466,6 +541,11 @@ static int status_of(const struct talk *it) {
 
 static const char *body_of(const struct talk *it) {
     return strstr(it->heard.at, "\r\n\r\n") + 4;
+}
+
+/* Whether an answer is surely of now. One that was waited for may have lain there while this program stood still: that is asked again, at once. */
+static bool is_fresh(const struct talk *it) {
+    return now() < (it->is_at_once ? it->until : it->at + FRESH);
 }
 
 /* Waits for signals, for a request if there is one, and no longer than until a moment. */
@@ -600,8 +680,8 @@ static int lacks(const char *body) {
 static struct {
     char *station;
     struct text names; /* of the instruments, each behind a tab */
-    double lease, beat, until, token;
-    bool is_warned;
+    double lease, beat, until, token, number;
+    bool is_warned, asks_again; /* whether its limit was told of; whether that is to be asked again, as the answer may be old */
 } held;
 
 static void put_names(struct text *to, char *names, bool is_list) {
@@ -668,9 +748,57 @@ static enum outcome asks(struct talk *it, bool is_new, bool waits_so, double wai
         putf(&rest, "/%s", ticket);
     putf(&rest, "?wait=%.3f%s", wait, waits_so ? "&while=unchanged" : "");
     enum outcome how = call(it, is_new ? "POST" : "GET", rest.at, body.at, fmin(wait + late, fmax(LATE_END, most)));
+    it->is_at_once = wait == 0;
     free(rest.at);
     free(body.at);
     return how;
+}
+
+/* A word as a shell wants it. */
+static void put_word(struct text *to, const char *word) {
+    bool is_plain = *word != 0;
+    for (const char *at = word; *at; at++)
+        is_plain = is_plain && (isalnum((unsigned char)*at) || strchr("_@%+=:,./-", *at) != NULL);
+    if (!is_plain)
+        put(to, "'", 1);
+    for (const char *at = word; *at; at++)
+        if (*at == '\'')
+            put(to, "'\"'\"'", 5);
+        else
+            put(to, at, 1);
+    if (!is_plain)
+        put(to, "'", 1);
+}
+
+/* A command of labrun-broker that asks the broker of this one: it names that, unless it asks there anyway. (Where curl and the like ask, it
+   doesn't.) `number`: of the session, or NAN. Whoever asks frees it. */
+static char *typed(const char *word, const char *name, double number) {
+    static const char beside[] = ".http";
+    struct text found = {0};
+    size_t length = strlen(wish.broker), end = strlen(beside);
+    char *at = whole(strdup(wish.broker));
+    bool is_of_http = length > strlen("unix:") + end && strcmp(at + length - end, beside) == 0 && strcmp(path, wish.broker + strlen("unix:")) == 0;
+    if (is_of_http)
+        at[length - end] = 0;
+    putf(&found, "`labrun-broker %s", word);
+    if (name != NULL) {
+        put(&found, " ", 1);
+        put_word(&found, name);
+    }
+    if (!isnan(number))
+        putf(&found, " --session %.0f", number);
+    if (strcmp(at, usual_broker()) != 0) {
+        put(&found, " --broker ", 10);
+        put_word(&found, at);
+    }
+    /* (where this token isn't let in any more somebody else's is wanted) */
+    if (is_let_in && wish.token_file != NULL && *wish.token_file) {
+        put(&found, " --token-file ", strlen(" --token-file "));
+        put_word(&found, wish.token_file);
+    }
+    put(&found, "`", 1);
+    free(at);
+    return found.at;
 }
 
 /* A broker that died may have written down that this holds; one that goes on finds the connection closed, and then nothing is held. `may_hold`:
@@ -678,11 +806,15 @@ static enum outcome asks(struct talk *it, bool is_new, bool waits_so, double wai
 static char *what_is_held(bool may_hold, const char *name) {
     struct text found = {0};
     bool has_name = name != NULL && *name;
-    if (may_hold)
-        putf(&found, "the session may hold all the same: if `labrun-broker status` shows %s as gone, end it by `labrun-broker release %s`%s", has_name ? name : "it",
-             has_name ? name : "NAME", has_name ? "" : ", with the name that stands there");
-    else
+    if (!may_hold) {
         putf(&found, "%s", NOTHING_HELD);
+        return found.at;
+    }
+    char *looks = typed("status", NULL, (double)NAN), *ends = typed("release", has_name ? name : "NAME", (double)NAN);
+    putf(&found, "the session may hold all the same: if %s shows %s as gone, end it by %s%s", looks, has_name ? name : "it", ends,
+         has_name ? "" : ", with the name that stands there");
+    free(looks);
+    free(ends);
     return found.at;
 }
 
@@ -728,8 +860,8 @@ static bool gives_up(struct talk *wish_sent, double span, bool *may_hold, const 
     return is_told;
 }
 
-/* For whom it waits is said once, again if that changes, and now and then if it doesn't. */
-static void tell(const struct talk *it, struct text *said, double *said_at) {
+/* For whom it waits is said once, again if that changes, and now and then if it doesn't. False: it isn't, as this may be old. */
+static bool tell(const struct talk *it, struct text *said, double *said_at) {
     struct text who = {0};
     const char *at = value_of(body_of(it), "waits_for");
     char *why = text_of(value_of(body_of(it), "text"));
@@ -746,7 +878,8 @@ static void tell(const struct talk *it, struct text *said, double *said_at) {
             if ((at = over_value(at, 20)) == NULL || *(at = over_space(at)) != ',')
                 break;
         }
-    if (said->at == NULL || strcmp(said->at, who.at) != 0 || now() > *said_at + AGAIN) {
+    bool is_due = said->at == NULL || strcmp(said->at, who.at) != 0 || now() > *said_at + AGAIN, is_told = !is_due || is_fresh(it);
+    if (is_due && is_told) {
         say("waits: %s", why);
         *said_at = now();
         free(said->at);
@@ -754,12 +887,15 @@ static void tell(const struct talk *it, struct text *said, double *said_at) {
     } else
         free(who.at);
     free(why);
+    return is_told;
 }
 
 /* That the limit is over soon is said once. */
 static void looks_for_warning(const struct talk *it) {
     char *why = text_of(value_of(body_of(it), "warning"));
-    if (*why && !held.is_warned) {
+    bool is_due = *why && !held.is_warned;
+    held.asks_again = is_due && !is_fresh(it);
+    if (is_due && !held.asks_again) {
         say("%s", why);
         held.is_warned = true;
     }
@@ -771,6 +907,7 @@ static bool is_held(const struct talk *it) {
     const char *body = body_of(it), *at = value_of(body, "instruments");
     held.lease = number_of(value_of(body, "lease"));
     held.token = number_of(value_of(body, "token"));
+    held.number = number_of(value_of(body, "session"));
     held.beat = number_of(value_of(body, "ping"));
     held.until = isnan(held.lease) ? (double)INFINITY : it->at + held.lease;
     free(held.station);
@@ -785,8 +922,9 @@ static bool is_held(const struct talk *it) {
         at = at ? over_space(at) : "";
         at = *at == ',' ? over_space(at + 1) : at;
     }
+    bool is_new = isnan(held.lease) || now() < it->at + held.lease / 6;
     looks_for_warning(it);
-    return isnan(held.lease) || now() < it->at + held.lease / 6;
+    return is_new;
 }
 
 /* How it goes on to wait: whether its wish is to be sent, or it asks on by its ticket; whether some of it was sent; whether the broker was there,
@@ -822,6 +960,7 @@ static void is_back(const struct line *its) {
 /* -1: it waits on; else as `holds`. */
 static int hears(struct line *its, const struct talk *it) {
     int answer = status_of(it), found = -1;
+    bool is_told = true;
     its->may_hold = false;
     if (answer == 200)
         found = is_held(it) ? 0 : -1;
@@ -835,7 +974,7 @@ static int hears(struct line *its, const struct talk *it) {
         its->is_itself = lacks(body_of(it)) != 0;
         found = its->is_itself ? USAGE : -1;
         if (!its->is_itself && !wish.quiet)
-            tell(it, &its->said, &its->said_at);
+            is_told = tell(it, &its->said, &its->said_at);
     } else if (answer != 404 || its->is_new)
         found = refused(it);
     its->is_new = answer == 404;
@@ -843,7 +982,7 @@ static int hears(struct line *its, const struct talk *it) {
     its->was_there = its->has_heard = true;
     its->silent_at = wish.quiet ? (double)INFINITY : now() + SILENCE;
     its->lost = NAN;
-    its->wait = answer == 200 ? 0 : its->is_new ? FIRST_WORD : 5;
+    its->wait = answer == 200 || !is_told ? 0 : its->is_new ? FIRST_WORD : 5;
     return found;
 }
 
@@ -853,7 +992,8 @@ static int hears_nothing(struct line *its, const struct talk *it, enum outcome h
     double time = now();
     bool is_first = how == ABSENT && !its->was_there;
     if (how == LOST && it->heard.length > 0 && strncmp(it->heard.at, "HTTP/", 5) != 0) {
-        say("unix:%s takes no HTTP: labrun-broker serve BAY --listen unix:%s --http unix:%s.http", path, path, path);
+        const char *own = wish.broker + strlen("unix:");
+        say("unix:%s takes no HTTP: labrun-broker serve BAY --listen unix:%s --http unix:%s.http", path, own, own);
         return UNREACHABLE;
     }
     if (how == LOST && it->socket < 0 && why_not == EACCES) {
@@ -939,7 +1079,7 @@ static int starts(void) {
     int line[2], why = 0;
     pid_t this = getpid();
     if (pipe2(line, O_CLOEXEC) != 0 || (command = fork()) < 0) {
-        say("%s: %s", wish.command[0], strerror(errno));
+        why_none = errno;
         command = 0;
         return CANT_RUN;
     }
@@ -950,6 +1090,8 @@ static int starts(void) {
             if (getppid() != this)
                 kill(getpid(), SIGTERM);
         }
+        for (int n = 0; n < OF_WRITES; n++)
+            sigaction(of_writes[n], &for_command[n], NULL);
         sigprocmask(SIG_SETMASK, &before, NULL);
         begin_command();
         why = errno;
@@ -967,7 +1109,7 @@ static int starts(void) {
     if (failed == (ssize_t)sizeof why) {
         waitpid(command, NULL, 0);
         command = 0;
-        say("%s: %s", wish.command[0], strerror(why));
+        why_none = why;
         return why == ENOENT ? NOT_FOUND : CANT_RUN;
     }
     if (came)
@@ -977,8 +1119,8 @@ static int starts(void) {
 
 static void taken(const char *why) {
     is_taken = true;
-    say("%s; the command is being ended", why);
     send_all(SIGTERM);
+    say("%s; the command is being ended", why);
 }
 
 static void is_answered(struct talk *it, double *next) {
@@ -1021,20 +1163,24 @@ static bool others_run(double *tells) {
 /* Until the command has ended, and after a signal all that it started: who holds next would meet it at the instruments. */
 static void works(void) {
     struct talk it = {.socket = -1};
-    struct text rest = {0};
+    struct text rest = {0}, at_once = {0};
     double next = 0, tells = INFINITY;
     double span = isnan(held.beat) ? LONG : held.beat, late = isnan(held.lease) ? LATE : fmin(LATE, held.lease / 2);
     putf(&rest, "/%s?while=holding&wait=%.3f", ticket, span);
+    putf(&at_once, "/%s", ticket);
     while (status < 0 || (were_sent && others_run(&tells))) {
         double time = now();
+        if (!is_taken && time >= held.until)
+            is_late();
         if (status < 0 && time > says_at) {
             still_run("the command has ended, which goes on after the signal");
             says_at = 1e300;
         }
-        if (!is_taken && time >= held.until)
-            is_late();
-        if (!is_taken && it.socket < 0 && time >= next && call(&it, "GET", rest.at, "", span + late) != PENDING)
-            next = time + PAUSE;
+        if (!is_taken && it.socket < 0 && time >= next) {
+            bool again = held.asks_again;
+            next = call(&it, "GET", (again ? at_once : rest).at, "", (again ? 0 : span) + late) == PENDING ? next : time + PAUSE;
+            it.is_at_once = again;
+        }
         double moment = status >= 0 ? time + LOOK : is_taken ? time + 3600 : fmin(held.until, it.socket < 0 ? next : time + 3600);
         wait_until(is_taken ? NULL : &it, status < 0 ? fmin(moment, says_at) : moment);
         enum outcome how = it.socket < 0 || is_taken ? PENDING : goes_on(&it);
@@ -1047,13 +1193,23 @@ static void works(void) {
     }
     hang_up(&it);
     free(rest.at);
+    free(at_once.at);
+}
+
+/* Says of the session that it couldn't be told that it lets go. */
+static void may_go_on(const char *why) {
+    bool is_kept = isnan(held.lease);
+    char *looks = typed("status", NULL, (double)NAN), *ends = typed("release", held.station, held.number);
+    say("%sthe session may go on holding, as %s says, until %s%s%s", why, looks,
+        is_kept ? "it is released by " : "the broker releases it (gone = \"release\"), or ", ends, is_kept ? "" : " does");
+    free(looks);
+    free(ends);
 }
 
 /* The status to end with, where the broker lets this client in no more and keeps what it holds. */
 static int kept(int ended) {
     say("the command ran, and ended with status %d, but:", ended);
-    say("%s, until %s", MAY_GO_ON,
-        isnan(held.lease) ? "an operator releases it" : "the broker releases it (gone = \"release\")");
+    may_go_on("");
     return UNREACHABLE;
 }
 
@@ -1070,8 +1226,14 @@ static int lets_go(int ended) {
     came = 0;
     while (found < 0) {
         enum outcome how = call(&it, "DELETE", rest.at, "", LATE);
+        if (how == PENDING)
+            send_some(&it);
+        if (why_none != 0)
+            say("%s: %s", wish.command[0], strerror(why_none));
+        why_none = 0;
         for (double again = now() + PAUSE; found < 0 && (how == PENDING || now() < again);) {
-            wait_until(how == PENDING ? &it : NULL, is_untold ? again + LATE : fmin(began + UNTOLD, again + LATE));
+            double until = how == PENDING ? again + LATE : again;
+            wait_until(how == PENDING ? &it : NULL, is_untold ? until : fmin(began + UNTOLD, until));
             if (how == PENDING)
                 how = goes_on(&it);
             int answer = how == ANSWERED ? status_of(&it) : 0;
@@ -1080,19 +1242,21 @@ static int lets_go(int ended) {
             else if (answer != 0 && answer != 503) {
                 say("the command ran, and ended with status %d, but:", ended);
                 found = refused(&it);
+                if (answer == 404) /* the broker has forgotten it: others may have held meanwhile */
+                    found = TAKEN;
             } else if (!is_untold && now() > began + UNTOLD) {
-                say("the command has ended with status %d; the broker doesn't answer; labrun-hold keeps trying to tell it for a minute, and Ctrl-C ends that", ended);
+                say("the command has ended with status %d; the broker hasn't answered yet; labrun-hold keeps trying to tell it, and Ctrl-C ends that", ended);
                 is_untold = true;
             }
             if (found < 0 && is_untold && came) {
-                say("the broker wasn't told, as far as is known here: %s", MAY_GO_ON);
+                may_go_on("the broker wasn't told, as far as is known here: ");
                 found = ended;
             }
         }
         if (found < 0 && now() > began + AWAY) {
             say("the command ran, and ended with status %d, but:", ended);
-            say("the broker at unix:%s can't be reached", path);
-            say("%s", MAY_GO_ON);
+            say("the broker at unix:%s %s", path, how == ABSENT ? "can't be reached: nobody listens there" : "doesn't answer any more");
+            may_go_on("");
             found = UNREACHABLE;
         }
     }
@@ -1160,7 +1324,22 @@ static int read_token(void) {
                                     : "a token is one line of letters, digits and signs, and this file is empty");
 }
 
+/* On its way a byte that is no UTF-8 would stand for something else. */
+static int check_name(const char *name) {
+    struct text shown = {0};
+    int found = 0;
+    size_t length;
+    for (const char *at = name; *at && found == 0; at += length)
+        if (character(at, &length) < 0) {
+            put_plain(&shown, name);
+            found = wrong("this isn't UTF-8", shown.at);
+        }
+    free(shown.at);
+    return found;
+}
+
 static int check_words(bool is_at_once) {
+    int found = 0;
     if (is_at_once && !isnan(wish.timeout))
         return wrong("-n isn't allowed with --timeout", "");
     if (wish.station != NULL && !*wish.station)
@@ -1169,6 +1348,10 @@ static int check_words(bool is_at_once) {
     wish.timeout = is_at_once ? 0 : wish.timeout;
     if (wish.count == 0)
         return wrong("say which instruments", "");
+    for (int n = 0; n < wish.count && found == 0; n++)
+        found = check_name(wish.instruments[n]);
+    if (found != 0 || (found = check_name(wish.station)) != 0)
+        return found;
     return wish.command[0] == NULL || !*wish.command[0] ? wrong("say what to run, behind `--`", "labrun-hold scope -- ./measure.sh") : 0;
 }
 
@@ -1227,25 +1410,38 @@ static void catch_signals(void) {
     static const int caught[] = {SIGINT, SIGTERM, SIGHUP, SIGQUIT, SIGCHLD};
     sigset_t all;
     sigemptyset(&all);
-    for (size_t n = 0; n < sizeof caught / sizeof *caught; n++)
-        sigaddset(&all, caught[n]);
     signal(SIGCHLD, SIG_DFL);
+    for (size_t n = 0; n < sizeof caught / sizeof *caught; n++) {
+        // (what nohup, or a shell that runs this in the background, has it ignore stays ignored, here and by the command)
+        struct sigaction now;
+        if (sigaction(caught[n], NULL, &now) != 0 || now.sa_handler != SIG_IGN)
+            sigaddset(&all, caught[n]);
+    }
     sigprocmask(SIG_BLOCK, &all, &before);
     signals = signalfd(-1, &all, SFD_NONBLOCK | SFD_CLOEXEC);
 }
 
+static int helps(void) {
+    if (fputs(HELP, stdout) != EOF && fflush(stdout) == 0)
+        return 0;
+    int why = errno;
+    ignore_writes();
+    say("standard output: %s", strerror(why));
+    return 1;
+}
+
 int main(int count, char **words) {
+    open_streams();
     for (int at = 1; at < count && strcmp(words[at], "--") != 0; at++)
-        if (strcmp(words[at], "--help") == 0 || strcmp(words[at], "-h") == 0) {
-            fputs(HELP, stdout);
-            return 0;
-        }
+        if (strcmp(words[at], "--help") == 0 || strcmp(words[at], "-h") == 0)
+            return helps();
+    ignore_writes();
+    open_errors();
     int found = read_words(count, words);
     if (found != 0)
         return found;
-    char *given = getenv("LABRUN_BROKER");
     if (wish.broker == NULL)
-        wish.broker = given != NULL && *given ? given : (char *)(uintptr_t)DEFAULT;
+        wish.broker = (char *)(uintptr_t)usual_broker();
     if (strncmp(wish.broker, "unix:", 5) != 0 || strlen(wish.broker) - 5 >= sizeof path)
         return wrong("a broker of this machine is wanted, as unix:PATH, and not", wish.broker);
     if ((found = read_token()) != 0)

@@ -10,8 +10,8 @@ Names and errors are those of the package labrun, whose proved bay is behind it.
 TYPE_CHECKING = False
 if TYPE_CHECKING:
     from .client import Lab, connect
-    from .errors import AnswerLost, BadWish, BrokerError, JournalError, MayNotUse, NoInstrument, NotAllowed, NotHeld, Stopped, TakenAway
-    from .errors import TimeoutError, Unreachable
+    from .errors import AnswerLost, BadWish, BrokerError, JournalError, MayNotUse, NoInstrument, NotAllowed, NotHeld, OutOfOrder, Stopped
+    from .errors import TakenAway, TimeoutError, Unreachable
     from .held import Held
 
 __all__ = [
@@ -25,6 +25,7 @@ __all__ = [
     "NoInstrument",
     "NotAllowed",
     "NotHeld",
+    "OutOfOrder",
     "Stopped",
     "TakenAway",
     "TimeoutError",

@@ -6,9 +6,12 @@ import sys
 def main() -> int:
     """Ctrl-C ends it at any time, also while it is being read."""
     try:
-        from .command import main as command
+        from .streams import standing
 
-        return command()
+        with standing():
+            from .command import main as command
+
+            return command()
     except KeyboardInterrupt:
         return 130
 

@@ -7,7 +7,9 @@ from __future__ import annotations
 
 import asyncio
 import builtins
+import contextlib
 import functools
+import math
 from dataclasses import replace
 from typing import TYPE_CHECKING, Iterator, Optional, Sequence
 
@@ -17,15 +19,20 @@ from labrun.machine import HOLDS, MAY_NOT, WAITS, Refusal
 from . import people
 from .bay import Bay, BayFault, bay_of
 from .errors import BadWish, CantChange
+from .here import commands
+from .kept import Told
 from .places import Places
 from .standing import ENDING, Standings
 from .texts import span
+from .together import in_which
 from .turning import STANDS
+from .wishes import milliseconds
 
 if TYPE_CHECKING:
     from .keeping import Keeping
 
 LATER = "with the next start of the broker"
+THERE = "the broker's machine"
 
 
 def changes(before: Bay, after: Bay) -> list[str]:
@@ -34,7 +41,7 @@ def changes(before: Bay, after: Bay) -> list[str]:
         *_of_names("instrument", before.instruments, after.instruments),
         *_of_names("station", tuple(before.stations), tuple(after.stations)),
         *_of_uses(before, after),
-        *([f"guests: {after.guests} hold at once, instead of {before.guests}"] if before.guests != after.guests else []),
+        *([f"guests: {after.guests} hold{'s' if after.guests == 1 else ''} at once, instead of {before.guests}"] if before.guests != after.guests else []),
         *(f"{name}: {_told(value)}, instead of {_told(old)}" for name, value, old in _of_numbers(before, after)),
         *_of_words(before, after),
         *people.changes(before.people, after.people),
@@ -80,7 +87,8 @@ def _of_numbers(before: Bay, after: Bay) -> Iterator[tuple[str, object, object]]
     for name in dict.fromkeys((*before.on_release, *after.on_release)):
         new_one, old_one = (of.on_release.get(name, "no command") for of in (after, before))
         if new_one != old_one:
-            yield f"on_release.{name} (for whoever asks from now on)", new_one, old_one
+            whom = "sessions that end" if name in before.on_release else "whoever asks"
+            yield f"on_release.{name} (for {whom} from now on)", new_one, old_one
     if after.on_release_limit != before.on_release_limit:
         yield "on_release_limit", _span(after.on_release_limit), _span(before.on_release_limit)
     for key in LATER_KEYS:
@@ -134,17 +142,20 @@ async def _apply(keeping: Keeping, text: str, after: Bay, by: str, is_check: boo
         entrance.may_be(after)
     _may(keeping, places, after)
     its, state = changes(before, after), keeping._opened.state
+    # (told beside what has changed, and no part of it)
+    lacking = [it for it in commands(after, THERE) if it not in commands(before, THERE)]
     lacks = state is not None and state.lacks(text, after)
     if is_check or not its and not lacks:
-        return its
+        return [*its, *lacking]
     bay = replace(after, **{key: getattr(before, key) for key in LATER_KEYS})
-    if bay.its_gone != before.its_gone:
-        places = places.with_words(before.its_gone, True).with_words(bay.its_gone, True)
+    words = Words(keeping, bay)
+    places = words.either(places)
     if places != keeping.places:
         await keeps(keeping, places)
 
     def then() -> None:
         keeping.bay = bay
+        words.turn()
         if state is not None:
             state.goes_by(text, after, by)
         if its:
@@ -152,7 +163,10 @@ async def _apply(keeping: Keeping, text: str, after: Bay, by: str, is_check: boo
 
     try:
         await keeping._shell.turns.turn(places.classes(bay), then)
-    except Refusal as it:
+    except (JournalError, Refusal) as it:
+        await words.fail()
+        if isinstance(it, JournalError):
+            raise
         if it.status == MAY_NOT:
             _may(keeping, places, after)
         raise CantChange(f"the bay can't be so: {it}") from None
@@ -164,7 +178,45 @@ async def _apply(keeping: Keeping, text: str, after: Bay, by: str, is_check: boo
         await keeping.settling.kept()
     except JournalError as fault:
         raise JournalError(fault.path, f"the bay has changed, but the next broker may not know it: {fault.why}") from None
-    return its
+    await words.end()
+    return [*its, *lacking]
+
+
+class Words:
+    """Those that say what becomes of whoever is gone, as they change. Whoever comes to hold from then on is told by the new ones; the next broker knows
+    by the tokens who that is. As long as that isn't written, of either word the careful one counts for it."""
+
+    def __init__(self, keeping: Keeping, bay: Bay) -> None:
+        self._keeping, self._gone, self._before = keeping, bay.its_gone, keeping.places
+        self._are_others = bay.its_gone != keeping.bay.its_gone
+        # the tokens of those that hold as the bay changes
+        self._holders: Optional[dict[int, bool]] = None
+
+    def either(self, places: Places) -> Places:
+        """Until the bay is the new one, somebody may be told by either."""
+        if not self._are_others:
+            return places
+        has_grace = self._gone.may_release and not math.isinf(self._keeping.its_grace)
+        grace = milliseconds(self._keeping.its_grace) if has_grace else places.grace
+        return replace(places, grace=grace, gone=(*self._before.words, Told(self._gone)))
+
+    def turn(self) -> None:
+        """It is the new one. (A part of a session over several bays goes by the words of those, too: of it nothing is known here.)"""
+        rows, its = [row for row in self._keeping.machine.standings() if row.what == HOLDS], self._keeping.by_number
+        self._holders = {row.token: row.number not in its or its[row.number].of > 0 for row in rows}
+
+    async def end(self) -> None:
+        if self._are_others and self._holders is not None:
+            await self._keeps(self._keeping.places.with_words(self._gone, self._before.words, self._holders, False))
+
+    async def fail(self) -> None:
+        # (where the disk is at fault, somebody has waited long enough)
+        if self._are_others and self._holders is None and not self._keeping._shell.is_wrong():
+            await self._keeps(replace(self._keeping.places, grace=self._before.grace, gone=self._before.gone))
+
+    async def _keeps(self, places: Places) -> None:
+        with contextlib.suppress(JournalError):
+            await keeps(self._keeping, places)
 
 
 def _may(keeping: Keeping, places: Places, after: Bay) -> None:
@@ -185,17 +237,19 @@ def _in_the_way(keeping: Keeping, places: Places, after: Bay) -> Iterator[str]:
         since = stands.span_since(row.since)
         lacks = places.names(its & ~classes[row.kind][0])
         gone = [name for name in lacks if name not in after.instruments]
-        if session.state == ENDING and (lacks or row.kind and places.station(row.kind) not in after.stations):
-            yield f"{_all(gone or lacks or (session.name,))} {'is' if len(gone or lacks) < 2 else 'are'} taken out, and what session {row.number} of {session.name} had is being made safe"
-        elif places.station(row.kind) not in after.stations if row.kind else not after.guests:
+        is_out = places.station(row.kind) not in after.stations if row.kind else not after.guests
+        what = f"{_all(gone)} {'is' if len(gone) == 1 else 'are'} taken out" if gone else f"{session.name} may no longer use {_all(lacks)}"
+        if session.state == ENDING and (is_out or lacks):
+            what = f"{session.name if row.kind else 'guests'} {'is' if row.kind else 'are'} taken out" if is_out else what
+            yield f"{what}, and what session {row.number} of {session.name} had is being made safe"
+        elif is_out:
             does = f"has held {_all(places.names(its))}" if row.what == HOLDS else f"has waited for {_all(places.names(its))}"
             yield f"{who if row.kind else 'guests are'} {'is ' if row.kind else ''}taken out, and {'' if row.kind else f'{who} '}{does} for {since}"
         elif lacks:
             does = "has held" if row.what == HOLDS else "has waited for"
-            what = f"{_all(gone)} {'is' if len(gone) == 1 else 'are'} taken out" if gone else f"{session.name} may no longer use {_all(lacks)}"
             yield f"{what}, and {who} {does} {'it' if len(gone or lacks) == 1 else 'them'} for {since}"
     if guests > after.guests > 0:
-        yield f"{guests} guests hold, and by the file only {after.guests} may"
+        yield f"{guests} guests hold{in_which(keeping)}, and by the file only {after.guests} may"
 
 
 def _all(names: Sequence[str]) -> str:

@@ -7,11 +7,12 @@ import contextlib
 import threading
 import time
 from queue import SimpleQueue
-from typing import Callable, Optional
+from typing import Callable, Optional, TypeVar
 
 MOMENT = 0.1  # seconds that the loop waits for a call
 
 Then = Callable[[Optional[Exception]], None]
+Result = TypeVar("Result")
 
 
 class _Call:
@@ -70,6 +71,19 @@ class Aside:
                 return
         call.tells()
 
+    async def given(self, gives: Callable[[], Result]) -> Result:
+        """What it gives, once it has ended."""
+        found, has_ended = list[Result](), asyncio.get_running_loop().create_future()
+
+        def then(fault: Optional[Exception]) -> None:
+            if not has_ended.done():  # (whoever waited may have been cancelled)
+                has_ended.set_result(fault)
+
+        self.does(lambda: found.append(gives()), then)
+        if (fault := await has_ended) is not None:
+            raise fault
+        return found[0]
+
     def waits(self) -> None:
         """A moment more for a call that is late."""
         if self._now is not None and self._now.ended.acquire(timeout=MOMENT):
@@ -94,6 +108,7 @@ class Lines:
     """Lines that are said in their order, where `says` may hang: standard error may be a file on such a disk."""
 
     MOST = 1000  # that wait; what comes then is lost
+    LONG = 3.0  # seconds for which the end of the broker waits for them
 
     def __init__(self, says: Callable[[str], None]) -> None:
         self._says, self._aside = says, Aside("lines")
@@ -103,6 +118,12 @@ class Lines:
         if len(self._waiting) < self.MOST:
             self._waiting.append(line)
         self._goes_on()
+
+    async def are_said(self) -> None:
+        """Returns once they are, or if that takes too long."""
+        until = time.monotonic() + self.LONG
+        while self._is_under_way and time.monotonic() < until:
+            await asyncio.sleep(MOMENT / 10)
 
     def _goes_on(self) -> None:
         if self._waiting and not self._is_under_way:

@@ -174,8 +174,8 @@ def table_in(text: str, path: str) -> dict[str, Any]:
     """A TOML file's table."""
     try:
         return tomllib.loads(text)
-    except tomllib.TOMLDecodeError as fault:
-        raise BayFault(path, [_with_line_first(str(fault))]) from None
+    except (ValueError, RecursionError) as fault:  # (that a number is too long isn't tomllib's own)
+        raise BayFault(path, ["it is nested too deeply" if isinstance(fault, RecursionError) else _with_line_first(str(fault))]) from None
 
 
 def bay_of(text: str, path: str = "bay") -> Bay:

@@ -89,6 +89,10 @@ class Bays:
     def complaints(self) -> list[str]:
         return [f"{name}: {text}" for name, it in self.of.items() for text in it.complaints]
 
+    @property
+    def lost(self) -> list[str]:
+        return [text for it in self.peers for text in it.lost]
+
     async def open(self) -> None:
         """Opens each of them. LabrunError and OSError say why one can't be."""
         if self.state is not None:
@@ -102,6 +106,10 @@ class Bays:
                 ends.push_async_callback(it.close)
             over.takes_up(self)
             ends.pop_all()
+
+    def begins_to_end(self) -> None:
+        for it in self.peers:
+            it.begins_to_end()
 
     async def close(self) -> None:
         await asyncio.gather(*(it.close() for it in self.peers))
@@ -124,7 +132,7 @@ class Bays:
         key = wishes.owner_of(wish.ticket)
         if (crossing := self.crossings.get(key)) is not None:
             if crossing.holds:
-                wishes.check_asked_again(wish, crossing.instruments, self.bay)
+                crossing.instruments = wishes.asked_again(wish, crossing.instruments, self.bay)
                 return crossing
             if wish.comes_back:
                 raise Ended("NotHeld", "the session of this ticket waits, and was never told that it holds")
@@ -133,7 +141,7 @@ class Bays:
         if wish.comes_back:
             return before if before is not None else next((it for it in self.peers if it.had(key)), self.peers[0])
         if before is not None and (held := before.told(key)) is not None:
-            wishes.check_asked_again(wish, held.instruments, self.bay)
+            wishes.asked_again(wish, held.instruments, self.bay)
             return before
         home = self._of_wish(wish)
         if before is not None and before is not home:
@@ -281,7 +289,7 @@ def _looks_at(state: str, bays: Iterable[str]) -> None:
         if name in its or not os.path.exists(path := f"{state}/{name}/{JOURNAL}"):
             continue
         if held := _still_holds(path):
-            raise StillHeld(f"{state}/{name}", f"{held} still hold there, and the lab has no bay {name}: begin with it once more, until that is over")
+            raise StillHeld(f"{state}/{name}", f"{held} there, and the lab has no bay {name}: begin with it once more, until that is over")
 
 
 def _still_holds(path: str) -> str:
@@ -290,5 +298,6 @@ def _still_holds(path: str) -> str:
     try:
         its = sessions_of(text[: text.rfind(b"\n") + 1])
     except ValueError:
-        return "sessions that can't be read"
-    return ", ".join(it.station or "a guest" for it in its.values() if not it.end)
+        return "sessions that can't be read still hold"
+    held = [it.station or "a guest" for it in its.values() if not it.end]
+    return f"{', '.join(held)} still hold{'s' if len(held) == 1 else ''}" if held else ""

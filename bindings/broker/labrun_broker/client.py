@@ -14,7 +14,6 @@ import atexit
 import builtins
 import contextlib
 import itertools
-import numbers
 import os
 import sys
 from types import TracebackType
@@ -25,20 +24,21 @@ import labrun
 from labrun import picks
 
 from . import broker_pb2 as pb
-from .credentials import DEFAULT, certificate_in, token_in, user
-from .errors import AnswerLost, BadWish, why_lost
+from .credentials import address_with, certificate_in, token_in, user, usual_address
+from .errors import AnswerLost, BadWish, maybe_done, whole, why_lost
 from .finding import Brokers
+from .given import address_of, file_of, name_of, seconds, text_of
 from .held import Held
 from .quick import Quick
 from .stream import Stream
 from .texts import addresses_of
-from .work import Result, Work, loop_of_this_process
+from .withdrawing import gives_up
+from .work import NOT_AFTER_A_FORK, Result, UnderWay, Undo, Work, loop_of_this_process
 
 # a question that a broker doesn't answer for so long won't be answered
 ANSWER = 30.0
 CLOSING = 3.0
 MOST_SECONDS = 1000000000
-AN_ADDRESS = "as unix:PATH or HOST:PORT"
 SERVICE = "/labrun.broker.Broker/"
 # calls after which something is another way
 CHANGES = ("Release", "Apply", "Outage")
@@ -57,7 +57,7 @@ OPTIONS = [
 
 
 class Lab:
-    """A bay that a broker keeps. Threads may share it; a child of a fork makes its own. See `connect`."""
+    """A bay that a broker keeps. Threads may share it, and no child of a fork may. See `connect`."""
 
     def __init__(self, address: str, station: str, token: Optional[str], certificate: Optional[bytes], by: str) -> None:
         self.address, self.station, self.by = address, station, by
@@ -65,9 +65,11 @@ class Lab:
         self._metadata = _as_metadata(token)
         self._idle: list[Stream] = []
         self._held: set[Held] = set()
-        # who waits, and who is leaving the line
+        # who waits, and who is leaving the line; and the calls of watches
         self._waiting: set[asyncio.Task[Any]] = set()
-        self._leaving: set[asyncio.Task[None]] = set()
+        self._leaving, self._watches = UnderWay(), set[Any]()
+        # what goes on although nobody may wait for it, as one that lets go
+        self._under_way = UnderWay()
         self._loop = loop_of_this_process()
         self._process = os.getpid()
         # it is called, once for each question, while no broker of a list answers
@@ -97,20 +99,39 @@ class Lab:
     def _methods(self) -> dict[str, Any]:
         return self._brokers.methods
 
-    def _run(self, work: Coroutine[Any, Any, Result]) -> Result:
-        """Waits for work on the lab's loop; an interrupt cancels it, and waits for that."""
+    def _run(self, work: Coroutine[Any, Any, Result], goes_on: bool = False, undo: Optional[Undo] = None) -> Result:
+        """Waits for work on the lab's loop; an interrupt cancels it, or lets it go on, and waits for that."""
+        return self._work(work, goes_on, undo).result()
+
+    def _work(self, work: Coroutine[Any, Any, Result], goes_on: bool, undo: Optional[Undo]) -> Work[Result]:
         if self._process != os.getpid():
             work.close()
-            raise labrun.OtherProcess(self._process)
-        return Work(work, self._loop).result()
+            raise labrun.OtherProcess(self._process, "lab", NOT_AFTER_A_FORK)
+        return Work(work, self._loop, goes_on, undo, self._under_way)
 
     def _may_go_on(self) -> None:
         """Before anything is asked."""
         if self._is_closed:
             raise labrun.Closed("the lab is closed")
 
-    async def _run_async(self, work: Coroutine[Any, Any, Result]) -> Result:
-        return await asyncio.wrap_future(asyncio.run_coroutine_threadsafe(work, self._loop))
+    @contextlib.contextmanager
+    def _until_closed(self) -> Iterator[None]:
+        """Around what the lab's end ends."""
+        self._may_go_on()
+        task = asyncio.current_task()
+        assert task is not None
+        self._waiting.add(task)
+        try:
+            yield
+        except asyncio.CancelledError:
+            # (it may be the lab's end that ended it)
+            self._may_go_on()
+            raise
+        finally:
+            self._waiting.discard(task)
+
+    async def _run_async(self, work: Coroutine[Any, Any, Result], goes_on: bool = False, undo: Optional[Undo] = None) -> Result:
+        return await self._work(work, goes_on, undo).result_async()
 
     def hold(
         self, *instruments: str, timeout: Optional[float] = None, any_of: Iterable[Union[str, Iterable[str]]] = (), station: Optional[str] = None,
@@ -121,9 +142,9 @@ class Lab:
         seconds TimeoutError says who keeps it waiting, and it is given up. `waits` is called with a line whenever it is known for whom it waits,
         and when no word comes of the broker for some seconds, and one comes again. With a
         `limit` it may be taken away once it has held for so many seconds and somebody waits for what it has; `warns` is called with a line before
-        the limit is over, be it this one or the bay's, on another thread. While an `urgent` one waits, nobody who asks later goes before it, nor before
+        the limit is over, be it this one or the bay's. Both are called on other threads, and may ask the lab. While an `urgent` one waits, nobody who asks later goes before it, nor before
         anybody who waits with it."""
-        timeout, limit = _seconds("timeout", timeout), _seconds("limit", limit)
+        timeout, limit = seconds("timeout", timeout), seconds("limit", limit)
         if timeout is not None and not 0 <= timeout < MOST_SECONDS:
             raise BadWish(f"a timeout of {timeout:g} s; it is 0 or more, and below {MOST_SECONDS}")
         if limit is not None and not 0 < limit < MOST_SECONDS:
@@ -136,9 +157,9 @@ class Lab:
         except ValueError as fault:
             raise BadWish(str(fault)) from None
         for it in itertools.chain(words, *sets):
-            _whole(it)
+            whole(it)
         choices = [pb.Instruments(names=it) for it in sets]
-        wish = pb.Wish(instruments=words, any_of=choices, station=_name("a station", self.station if station is None else station), by=self.by)
+        wish = pb.Wish(instruments=words, any_of=choices, station=name_of("a station", self.station if station is None else station), by=self.by)
         wish.wants_waits, wish.pings = waits is not None, True
         if limit is not None:
             wish.limit = limit
@@ -160,18 +181,21 @@ class Lab:
         return _as_dict(self._run(self._unary("Status", pb.StatusWish())))
 
     def watch(self) -> Iterator[dict[str, Any]]:
-        """The status now, and whenever it has changed."""
+        """The status now, and whenever it has changed, until the lab is closed: then it is Closed."""
         call = self._run(self._watch())
         try:
             while (bay := self._run(self._reads(call))) is not None:
                 yield _as_dict(bay)
         finally:
+            self._watches.discard(call)
             self._loop.call_soon_threadsafe(call.cancel)
 
     async def _watch(self) -> Any:
-        self._may_go_on()
-        await self._brokers.looks(self._brokers.patience, self._on_wait)
-        return self._methods["Watch"](pb.StatusWish(), metadata=self._metadata)
+        with self._until_closed():
+            await self._brokers.looks(self._brokers.patience, self._on_wait)
+            call = self._methods["Watch"](pb.StatusWish(), metadata=self._metadata)
+            self._watches.add(call)
+            return call
 
     async def _reads(self, call: Any) -> Any:
         try:
@@ -191,42 +215,48 @@ class Lab:
         needed only if a guest of this name is in several bays of a lab."""
         if isinstance(session, bool) or not isinstance(session, int) or not 0 <= session < 1 << 64:
             raise BadWish(f"session: the number of one is wanted, and not {session!r}")
-        wish = pb.ReleaseWish(station=_name("a station", station), by=self.by, session=session, bay=_name("a bay", bay))
+        wish = pb.ReleaseWish(station=name_of("a station", station), by=self.by, session=session, bay=name_of("a bay", bay))
         return tuple(self._run(self._unary("Release", wish)).instruments)
 
     def apply(self, bay: str, only_check: bool = False, of: str = "", bays: Optional[Mapping[str, str]] = None) -> tuple[str, ...]:
         """The bay goes on as this text has it, a TOML file's, while sessions hold and wait; what has changed, or would. BrokerError: nothing has,
         because somebody holds or waits for what is gone, or the text is no bay. Of several bays it is that which the text names, or `of`; with
         `bays`, the texts of all of them by their names, `bay` is the lab's own file."""
-        texts = {_name("a bay", name): _text("bays", text) for name, text in (bays or {}).items()}
-        wish = pb.ApplyWish(bay=_text("bay", bay), by=self.by, only_check=only_check, of=_name("a bay", of), bays=texts)
+        texts = {name_of("a bay", name): text_of("bays", text) for name, text in (bays or {}).items()}
+        wish = pb.ApplyWish(bay=text_of("bay", bay), by=self.by, only_check=only_check, of=name_of("a bay", of), bays=texts)
         return tuple(self._run(self._unary("Apply", wish)).changes)
 
     def disable(self, instrument: str, why: str = "") -> None:
         """It is out of order: nobody comes to hold it any more, and whoever holds it goes on."""
-        self._run(self._unary("Outage", pb.OutageWish(instrument=_name("an instrument", instrument), why=_text("why", why), by=self.by)))
+        self._run(self._unary("Outage", pb.OutageWish(instrument=name_of("an instrument", instrument), why=text_of("why", why), by=self.by)))
 
     def enable(self, instrument: str) -> None:
         """It is in order again."""
-        self._run(self._unary("Outage", pb.OutageWish(instrument=_name("an instrument", instrument), by=self.by)))
+        self._run(self._unary("Outage", pb.OutageWish(instrument=name_of("an instrument", instrument), by=self.by)))
 
     async def _unary(self, name: str, wish: Any, within: Optional[float] = ANSWER) -> Any:
-        self._may_go_on()
-        await self._brokers.looks(self._brokers.patience, self._on_wait)
+        is_asked = False
+        # (a second release without a number would end whatever session the station has by then)
+        is_same_again = name != "Release" or wish.session > 0
         try:
-            answer = await self._methods[name](wish, metadata=self._metadata, timeout=within)
+            with self._until_closed():
+                await self._brokers.looks(self._brokers.patience, self._on_wait)
+                is_asked = name in CHANGES
+                answer = await self._methods[name](wish, metadata=self._metadata, timeout=within)
             self._was_there = True
             return answer
+        except labrun.Closed as fault:
+            raise labrun.Closed(maybe_done(self.address, fault, is_same_again)) if is_asked else fault from None
         except grpc.aio.AioRpcError as fault:
             why = self._why_lost(fault.code(), str(fault.details()))
-            if name in CHANGES and isinstance(why, AnswerLost):
-                # (a second try without a number would end whatever session the station has by then)
-                again = "try again" if name != "Release" or wish.session else "try again with the session's number, because another may have begun"
-                raise AnswerLost(f"{why}; it may have been done, or not: see `labrun-broker status`, and {again}") from None
-            raise why from None
+            raise AnswerLost(maybe_done(self.address, why, is_same_again)) if name in CHANGES and isinstance(why, AnswerLost) else why from None
 
     def _why_lost(self, code: Any, text: str) -> Exception:
         return why_lost(self.address, code, text, self._certificate is None and not self._was_there, self._certificate)
+
+    def _leaves(self, ticket: str) -> None:
+        """Whoever asked by this ticket, on a connection of another client that is lost, waits no longer."""
+        self._run(gives_up(self, ticket, None, 0))
 
     def _is_left(self, span: float) -> bool:
         """Whether whoever waits no longer has told the broker so, and was answered, in so many seconds."""
@@ -243,26 +273,22 @@ class Lab:
         gets Closed."""
         if not self._is_closed and self._process == os.getpid():
             self._is_closed = True
-            self._run(self._close(lets_go))
+            self._run(self._close(lets_go), goes_on=True)
             atexit.unregister(self._at_exit)
 
     async def _close(self, lets_go: bool) -> None:
-        fault: Optional[labrun.LabrunError] = None
-        for waits in self._waiting:
-            waits.cancel()
+        # (gRPC doesn't end a watch with its channel. A thread that still watches as the program ends does so with it, and without a word)
+        for each in (*self._waiting, *(self._watches if lets_go else ())):
+            each.cancel()
         if self._waiting:
             await asyncio.wait(set(self._waiting))
         its = list(self._held)
-        # (a broker that doesn't answer keeps what was held for whoever has its ticket)
-        with contextlib.suppress(builtins.TimeoutError):
-            async with asyncio.timeout(ANSWER):
-                for held in its if lets_go else ():
-                    try:
-                        await held._let_go(None)
-                    except labrun.LabrunError as it:  # (the others are let go all the same)
-                        fault = fault or it
+        fault = await self._lets_go(its) if lets_go else None
+        # (a broker that doesn't answer finds, once it goes on, that nobody is there)
+        await self._under_way.end(CLOSING)
+        await self._leaving.end(CLOSING)
         self._has_left = True
-        for task in (task for held in its for task in (held._returns, held._beats) if task is not None):
+        for task in (*self._leaving, *(task for held in its for task in (held._returns, held._beats) if task is not None)):
             task.cancel()
         for stream in list(self._idle):
             stream.cancel()
@@ -272,6 +298,18 @@ class Lab:
         if fault is not None:
             raise fault
 
+    async def _lets_go(self, its: list[Held]) -> Optional[BaseException]:
+        """What went wrong with one of them; the others are let go all the same."""
+        leaving = {asyncio.create_task(it._let_go(None)): it for it in its}
+        # (a broker that doesn't answer keeps what was held for whoever has its ticket)
+        if leaving:
+            await asyncio.wait(leaving, timeout=ANSWER)
+        for it in leaving:
+            it.cancel()
+        faults = [(of, it.exception()) for it, of in leaving.items() if it.done() and not it.cancelled()]
+        # (its owner may have let it go just before)
+        return next((it for of, it in faults if it is not None and of.state != "finished"), None)
+
     def _at_exit(self) -> None:
         self.close(lets_go=False)
 
@@ -280,54 +318,6 @@ class Lab:
 
     def __exit__(self, kind: Optional[type[BaseException]], fault: Optional[BaseException], at: Optional[TracebackType]) -> None:
         self.close()
-
-
-# ---- what is given, and may be of any type
-
-
-def _text(what: str, given: Any) -> str:
-    if not isinstance(given, str):
-        raise BadWish(f"{what}: a text is wanted, and not {given!r}")
-    return _whole(given)
-
-
-def _name(of: str, given: Any) -> str:
-    if not isinstance(given, str):
-        raise BadWish(f"{of} is named by a text, and not by {given!r}")
-    return _whole(given)
-
-
-def _whole(given: str) -> str:
-    try:
-        given.encode()
-    except UnicodeEncodeError:
-        raise BadWish(f"{given!r} has half of a character, which can't be sent") from None
-    return given
-
-
-def _file(what: str, given: Any) -> Any:
-    if given is not None and not isinstance(given, (str, bytes, os.PathLike)):
-        raise BadWish(f"{what}: the name of a file is wanted, and not {given!r}")
-    return given
-
-
-def _address(given: Any) -> Optional[str]:
-    if given is not None and not isinstance(given, str):
-        raise BadWish(f"an address is a text, {AN_ADDRESS}, and not {given!r}")
-    if given == "":
-        raise BadWish(f"an address is wanted, {AN_ADDRESS}")
-    return given
-
-
-def _seconds(name: str, given: Any) -> Optional[float]:
-    if given is None:
-        return None
-    try:
-        if isinstance(given, numbers.Real):
-            return float(given)
-    except OverflowError:
-        pass
-    raise BadWish(f"{name}: {given!r} is no number of seconds")
 
 
 def methods_of(channel: Any) -> dict[str, Any]:
@@ -367,14 +357,16 @@ def connect(
     a token, in a file of this name or in that which LABRUN_BROKER_TOKEN_FILE names, and its certificate to know it by, in a file or in that which
     LABRUN_BROKER_CERTIFICATE_FILE names. `by` is what people read of who holds: `ann@bench-3 4711 measure.py` if nothing is said; where the bay
     names people, your name stands before it."""
-    token, certificate = token_in(_file("token_file", token_file)), certificate_in(_file("certificate_file", certificate_file))
-    return lab_at(address, station, by, token, certificate)
+    token, certificate = token_in(file_of("token_file", token_file)), certificate_in(file_of("certificate_file", certificate_file))
+    lab = lab_at(address, station, by, token, certificate)
+    lab.address = address_with(lab.address, token_file, certificate_file)
+    return lab
 
 
 def lab_at(address: Optional[str], station: str, by: Optional[str], token: Optional[str], certificate: Optional[bytes]) -> Lab:
     """As `connect`, by what its files have."""
-    address, station, by = _address(address), _name("a station", station), None if by is None else _text("by", by)
-    return Lab(address or os.environ.get("LABRUN_BROKER") or DEFAULT, station, token, certificate, by or _who())
+    address, station, by = address_of(address), name_of("a station", station), None if by is None else text_of("by", by)
+    return Lab(address or usual_address(), station, token, certificate, by or _who())
 
 
 def _as_metadata(token: Optional[str]) -> tuple[tuple[str, str], ...]:

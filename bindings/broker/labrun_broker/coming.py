@@ -4,13 +4,15 @@ from __future__ import annotations
 
 import asyncio
 import math
-from typing import TYPE_CHECKING, Any, Coroutine, Optional
+from typing import TYPE_CHECKING, Any, Callable, Coroutine, Optional
 
+from .calling import Calls
 from .errors import AnswerLost, Unreachable, is_for_good, plainly, raised
-from .silence import TICK, Silence
+from .silence import A_WHILE, TICK, Silence, first_while
 from .stream import AGAIN, LATE, NOBODY, Lost, Silent, Stream
 from .texts import SILENT, may_hold, none_answers
 from .wire import FIRST
+from .withdrawing import gives_up
 from .work import clock
 
 if TYPE_CHECKING:
@@ -25,10 +27,9 @@ BEATS = 6
 
 
 class Coming:
-    """A session that asks until it holds. `may_hold`: another client has asked for it, and was told nothing. By `silence` whoever waits is told of
-    a broker that says nothing."""
+    """A session that asks until it holds. `may_hold`: another client has asked for it, and was told nothing."""
 
-    def __init__(self, held: Held, may_hold: bool = False, silence: Optional[Silence] = None) -> None:
+    def __init__(self, held: Held, may_hold: bool = False) -> None:
         self._held, self._lab, self._loop = held, held.lab, asyncio.get_running_loop()
         self._until = None if held.timeout is None else self._loop.time() + held.timeout
         # until when a new client tries one that is there, and says nothing
@@ -37,53 +38,77 @@ class Coming:
         self._lost_at: Optional[float] = None
         # whether a wish was lost that a broker may have written down: then whoever keeps its journal now has the session
         self._may_hold = may_hold
-        self._silence = silence
+        self.silence: Optional[Silence] = None
         # on which it waits; and what went wrong as that was told
         self._stream: Optional[Stream] = None
         self._fault: Optional[Exception] = None
+        self._is_leaving = False
 
     async def holds(self) -> tuple[Stream, Any, float]:
         """The stream on which it holds, what the broker said, and when that was asked."""
-        task = asyncio.current_task()
-        assert task is not None
-        self._lab._waiting.add(task)
-        ticks = None if self._silence is None else asyncio.create_task(self._ticks(self._silence))
+        ticks = None if self.silence is None else asyncio.create_task(self._ticks(self.silence))
+        try:
+            with self._lab._until_closed():
+                return await self._goes_on()
+        except Unreachable as fault:
+            if not self._may_hold:
+                raise
+            raise AnswerLost(f"{fault}; {may_hold(self._lab.address, self._held._wish.station)}") from None
+        finally:
+            if ticks is not None:
+                ticks.cancel()
+
+    async def _goes_on(self) -> tuple[Stream, Any, float]:
         try:
             while (found := await self._tries()) is None:
                 self._lost_at = self._lost_at or self._loop.time()
                 if self._fault is not None:
                     raise self._fault
             return found
-        except Unreachable as fault:
-            if not self._may_hold:
-                raise
-            raise AnswerLost(f"{fault}; {may_hold(self._held._wish.station)}") from None
         except asyncio.CancelledError:
-            # (it may be the lab's end that ended it)
-            self._lab._may_go_on()
+            await self._leaves(None)
             raise
-        finally:
-            self._lab._waiting.discard(task)
-            if ticks is not None:
-                ticks.cancel()
+
+    async def _leaves(self, stream: Optional[Stream]) -> None:
+        """It waits no longer. The broker is told so on the stream on which it asked; if that is lost, whoever comes in its place, unless the lab's end
+        keeps it from being found."""
+        if self._is_leaving:
+            return
+        self._is_leaving = True
+        if stream is not None and not stream.has_asked:
+            stream.cancel()
+            stream = None
+        if stream is not None or self._may_hold and not self._lab._is_closed:
+            await gives_up(self._lab, self._held.ticket, stream)
+
+    def tells(self, waits: Optional[Callable[[str], None]]) -> Optional[Calls]:
+        """By what whoever waits is told for whom, and of a broker that says nothing."""
+        held, tells = self._held, None
+        if waits is not None:
+            tells = Calls(waits, self.fails)
+            first = A_WHILE if self._lab._was_there else first_while(self._lab.address, held.timeout)
+            held._silence = held._silence or Silence(self._lab.address, tells, first)
+        self.silence = held._silence
+        return tells
+
+    def fails(self, fault: Exception) -> None:
+        """Whoever waits was to be told something, and that went wrong: so does the wait."""
+        self._fault = fault
+        if self._stream is not None:
+            self._stream.ends(fault)
 
     async def _ticks(self, silence: Silence) -> None:
         ping: Optional[asyncio.Task[None]] = None
         while self._fault is None:
             await asyncio.sleep(TICK)
-            try:
-                asks = silence.ticks()
-            except Exception as fault:
-                asks, self._fault = False, fault
-                if self._stream is not None:
-                    self._stream.ends(fault)
+            asks = silence.ticks()
             if asks and self._stream is not None and (ping is None or ping.done()):
                 ping = asyncio.create_task(self._stream.pings())
 
     def _hears(self) -> None:
         """A word, before it is in the line."""
-        if self._silence is not None:
-            self._silence.hears(is_in_line=False)
+        if self.silence is not None:
+            self.silence.hears(is_in_line=False)
 
     async def _tries(self) -> Optional[tuple[Stream, Any, float]]:
         """None: the stream ended, and it is worth another try."""
@@ -112,18 +137,18 @@ class Coming:
         except Lost as lost:
             self._held._raises_taken()
             self._may_hold = self._may_hold or stream.has_asked and lost.code in AGAIN
-            if self._silence is not None:
-                self._silence.is_cut()
+            if self.silence is not None:
+                self.silence.is_cut()
             # (one that was idle may be of a broker that is gone)
             if is_new:
                 await self._pauses(lost)
             return None
         except Silent:
-            await stream.gives_up(0)
+            await gives_up(lab, wish.ticket, stream, 0)
             withdrawn = "" if self._may_hold else ". Nothing is held: the wish is withdrawn, should it go on"
             raise Unreachable(f"{self._no_answer()}{withdrawn}") from None
         except asyncio.CancelledError:
-            await stream.gives_up()
+            await self._leaves(stream)
             raise
         except BaseException:
             stream.cancel()
@@ -163,7 +188,7 @@ class Coming:
             raise why from None
         if self._lost_at is None and lab._brokers.is_list:
             left = patience if self._until is None else min(patience, self._until - now)
-            if self._silence is not None:
-                self._silence.is_told()
+            if self.silence is not None:
+                self.silence.is_told()
             self._held._waits_for(none_answers(lab.address, left))
         await asyncio.sleep(PAUSE)

@@ -15,6 +15,7 @@ from typing import TYPE_CHECKING, Any, Callable, NoReturn, Optional, Sequence
 
 from .credentials import user
 from .run import add_hold, run_hold
+from .streams import gives_up_output, written
 from .texts import called, counted, last, plain, session
 from .words import ABOUT, INTERRUPTED, MAY_NOT, NO_BAY, NO_FILE, NOT_WRITTEN, PROGRAM, STATUSES, TAKEN, TIMED_OUT, UNREACHABLE, USAGE, Word, add_client, lab_of, reading, say
 
@@ -24,7 +25,7 @@ if TYPE_CHECKING:
 # the status of each error, by its name, or by that of the first of its kinds: it is looked up without importing what has it
 ENDS = {"TimeoutError": TIMED_OUT, "TakenAway": TAKEN, "MayNotUse": MAY_NOT, "NotAllowed": MAY_NOT, "Unreachable": UNREACHABLE, "JournalError": NOT_WRITTEN}
 ENDS |= {"Absent": UNREACHABLE, "NoBroker": UNREACHABLE, "NoFile": NO_FILE, "NoBayFile": NO_FILE, "NoInstrument": USAGE, "Itself": USAGE, "BayFault": NO_BAY, "StillHeld": NO_BAY}
-ENDS |= {"BadAddress": NO_BAY, "LabrunError": 1, "OSError": 1, "ValueError": 1}
+ENDS |= {"WrongWords": USAGE, "BadAddress": NO_BAY, "LabrunError": 1, "OSError": 1, "ValueError": 1}
 
 # ---- how it stands
 
@@ -72,7 +73,10 @@ def add_disable(parser: argparse.ArgumentParser) -> None:
 
 def run_disable(args: argparse.Namespace) -> int:
     with lab_of(args, by=user()) as lab:
+        was = next((it for it in lab.status()["instruments"] if it["name"] == args.instrument and it["out"] is not None), None)
         lab.disable(args.instrument, args.why)
+    if was is not None:
+        print(plain(f"it was out of order already{was['out'] and ': ' + was['out']} (said {was['out_by']}); {'what you say stands' if args.why else 'no reason stands'} there now"))
     return 0
 
 
@@ -247,11 +251,12 @@ def nearly(word: str, known: list[str]) -> str:
 def no_word(word: str, more: list[str], has_command: bool) -> str:
     """That there is none of this name. (They are short: so `oven` isn't near to `token`.)"""
     import difflib
+    import shlex
 
     names = [it.name for it in WORDS]
     guess = "".join(f" (did you mean {it}?)" for it in difflib.get_close_matches(word, names, 1, 0.7))
     if has_command and not guess:
-        return f"there is no word {word}: to hold what is called so, {' '.join([PROGRAM, 'hold', word, *more])} -- .."
+        return f"there is no word {word}: to hold what is called so, {shlex.join([PROGRAM, 'hold', word, *more])} -- .."
     return f"there is no word {word}: there are {', '.join(names)}{guess}"
 
 
@@ -282,7 +287,24 @@ def parsed(line: list[str], has_command: bool = False) -> argparse.Namespace:
 def main(given: Optional[Sequence[str]] = None) -> int:
     # (gRPC's own lines say no more than ours)
     os.environ.setdefault("GRPC_VERBOSITY", "NONE")
-    line = list(sys.argv[1:] if given is None else given)
+    try:
+        with written():
+            return runs(list(sys.argv[1:] if given is None else given))
+    except KeyboardInterrupt:
+        return INTERRUPTED
+    except BrokenPipeError:
+        gives_up_output()
+        return 0
+    except Exception as fault:
+        status = next((ENDS[kind.__name__] for kind in type(fault).__mro__ if kind.__name__ in ENDS), None)
+        if status is None:
+            raise
+        gives_up_output()
+        say(told(fault))
+        return status
+
+
+def runs(line: list[str]) -> int:
     at = line.index("--") if "--" in line else len(line)
     args = parsed(line[:at], at < len(line))
     if "command" in args:
@@ -290,24 +312,13 @@ def main(given: Optional[Sequence[str]] = None) -> int:
     elif at < len(line):
         say("only hold runs something, behind `--`")
         return USAGE
-    try:
-        return int(args.run(args))
-    except KeyboardInterrupt:
-        return INTERRUPTED
-    except BrokenPipeError:
-        os.dup2(os.open(os.devnull, os.O_WRONLY), 1)
-        return 0
-    except Exception as fault:
-        status = next((ENDS[kind.__name__] for kind in type(fault).__mro__ if kind.__name__ in ENDS), None)
-        if status is None:
-            raise
-        say(told(fault))
-        return status
+    return int(args.run(args))
 
 
 def told(fault: Exception) -> str:
-    if isinstance(fault, OSError) and fault.filename is not None:
-        return f"{plain(fault.filename)}: {fault.strerror}"
+    if isinstance(fault, OSError) and fault.strerror is not None:
+        # (of a long text to standard output, which is written piece by piece, nothing more is known)
+        return fault.strerror if fault.filename is None else f"{plain(fault.filename)}: {fault.strerror}"
     return f"\n{PROGRAM}: ".join(plain(line) for line in str(fault).split("\n"))
 
 

@@ -4,11 +4,36 @@ from __future__ import annotations
 
 import os
 import socket
-from typing import Optional
+from typing import Any, Optional
 
 DEFAULT = "unix:/run/labrun/bay.sock"
 # where a client's own token is, if nothing else says it. ($LABRUN_TOKEN is the number of a session)
 TOKEN_FILE, CERTIFICATE_FILE = "LABRUN_BROKER_TOKEN_FILE", "LABRUN_BROKER_CERTIFICATE_FILE"
+
+
+class Address(str):
+    """Where a client asks. `files` are the words by which it was given its token and the certificate: a command that asks there wants them, too."""
+
+    files: tuple[str, ...] = ()
+
+
+def address_with(address: str, token_file: Any, certificate_file: Any) -> Address:
+    its = Address(address)
+    given = (("--token-file", token_file), ("--certificate", certificate_file))
+    its.files = tuple(word for option, file in given if file for word in (option, os.fsdecode(file)))
+    return its
+
+
+def without_token(address: Address) -> Address:
+    """As one that is asked by somebody else's token."""
+    its = Address(address)
+    its.files = address.files[2:] if address.files[:1] == ("--token-file",) else address.files
+    return its
+
+
+def usual_address() -> str:
+    """Where a client asks that is told no address."""
+    return os.environ.get("LABRUN_BROKER") or DEFAULT
 
 
 def user() -> str:
@@ -42,14 +67,14 @@ def certificate_in(path: Optional[str]) -> Optional[bytes]:
         return None
     with open(path, "rb") as file:
         certificate = file.read()
-    if not _is_certificate(certificate):
+    if not is_certificate(certificate):
         from .errors import BadWish
 
         raise BadWish(f"{path}: there is no certificate in it (as PEM)")
     return certificate
 
 
-def _is_certificate(pem: bytes) -> bool:
+def is_certificate(pem: bytes) -> bool:
     import ssl
 
     try:

@@ -6,6 +6,7 @@ import asyncio
 import collections
 import os
 import select
+import shlex
 import socket
 import ssl
 import stat
@@ -20,7 +21,7 @@ from .bay import BadAddress, is_here
 from .credentials import is_token
 from .sockets import check_group, clear, family_of, parsed, tls_of
 from .validity import outdated
-from .words import reading
+from .words import NoFile, reading
 
 
 @dataclass(frozen=True)
@@ -35,16 +36,20 @@ class Door:
     # each of the bay's people has a token, so the door needs none
     has_people: bool = False
 
-    def token(self) -> Optional[str]:
+    def tokens(self) -> tuple[str, ...]:
+        """Each line of the file is one that lets in, so that a new one can stand beside the old. Without a file there is none."""
         if self.token_file is None:
-            return None
+            return ()
         with reading(f"--token-file {self.token_file}"), open(self.token_file, encoding="ascii", errors="replace") as file:
             if stat.S_IMODE(os.fstat(file.fileno()).st_mode) & 0o007:
-                raise BadAddress(f"{self.token_file}: everybody on this machine may read it: chmod o= {self.token_file}")
-            token = file.read().strip()
-        if len(token) < 16 or not is_token(token):
-            raise BadAddress(f"{self.token_file}: a token is one line of letters, digits and signs, 16 or more: openssl rand -hex 32 > {self.token_file}")
-        return token
+                raise BadAddress(f"{self.token_file}: everybody on this machine may read it: chmod o= {shlex.quote(self.token_file)}")
+            lines = {number: it.strip() for number, it in enumerate(file, 1) if it.strip()}
+        for number, token in (lines or {1: ""}).items():
+            if len(token) < 16 or not is_token(token):
+                where, how = (f"line {number}: ", "") if len(lines) > 1 else ("", f": openssl rand -hex 32 > {shlex.quote(self.token_file)}")
+                its = "a token is one line of letters, digits and signs, 16 or more" + ("" if lines else ", and this file is empty")
+                raise NoFile(f"--token-file {self.token_file}: {where}{its}{how}")
+        return tuple(lines.values())
 
     def tls(self) -> Optional[ssl.SSLContext]:
         if self.certificate is None or self.key is None:

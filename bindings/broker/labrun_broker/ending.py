@@ -24,6 +24,13 @@ def _is_of(keeping: Keeping, session: Session, owner: Owner) -> None:
 
 
 @settled
+async def has_let_go(keeping: Keeping) -> None:
+    """Returns once that is kept; whoever was told that it isn't may ask again."""
+    await keeping._shell.turns.stands()
+    await keeping.settling.kept()
+
+
+@settled
 async def lets_go(keeping: Keeping, session: Session, owner: Owner, failed: Optional[str]) -> None:
     await keeping._shell.turns.may_go_on()
     _is_of(keeping, session, owner)
@@ -40,8 +47,7 @@ async def lets_go(keeping: Keeping, session: Session, owner: Owner, failed: Opti
         making_safe.begins(keeping, session, making_safe.LET_GO)
     keeping._shell.pump()
     keeping._news.write()
-    await keeping._shell.turns.stands()
-    await keeping.settling.kept()
+    await has_let_go(keeping)
 
 
 @settled

@@ -70,17 +70,19 @@ class Caller:
     def to_give(self, it: str, its_file: str) -> str:
         """How a token is given, in words."""
         if not self.by_http:
-            return f"give {its_file} by --token-file"
+            # (the variable counts in every client; the option is that of the commands)
+            return f"give {its_file} by --token-file, or by LABRUN_BROKER_TOKEN_FILE"
         # (of those that speak HTTP labrun-hold alone has such an option)
         return (f"give labrun-hold {its_file} by --token-file, or " if self.is_socket else "") + f"send {it} as {BEARER}"
 
 
 class Entrance:
-    """`clients` counts those that are here. `seen` is an address that other machines see, and for which there is no token of the bay."""
+    """`clients` counts those that are here. Each of `tokens` is the bay's. `seen` is an address that other machines see, and for which there is
+    none."""
 
-    def __init__(self, keeping: Kept, token: Optional[str], seen: Optional[str] = None) -> None:
+    def __init__(self, keeping: Kept, tokens: tuple[str, ...] = (), seen: Optional[str] = None) -> None:
         self.keeping, self.seen, self.clients = keeping, seen, 0
-        self._token = None if token is None else digest_of(token)
+        self._tokens = tuple(map(digest_of, tokens))
         self._seldom = Seldom(60.0)
         self._pace = collections.defaultdict[str, Pace](lambda: Pace(keeping.bay.limits.requests))
         self._users = Users(keeping.bay.people)
@@ -92,7 +94,7 @@ class Entrance:
 
     @property
     def asks_for_token(self) -> bool:
-        return self._token is not None or bool(self.keeping.bay.people)
+        return bool(self._tokens or self.keeping.bay.people)
 
     def caller(self, given: str, is_socket: bool, uid: Optional[int] = None, looks: bool = False, by_http: bool = False) -> Caller:
         """Who comes. `given` is what came as `authorization`, `uid` who connected to a Unix socket, as far as that is known. Who only looks
@@ -124,7 +126,7 @@ class Entrance:
         return self._users.person(people, it.uid) if it.is_socket else None
 
     def _has_not_the_token(self, it: Caller) -> Optional[str]:
-        if self._token is None or hmac.compare_digest(it.digest or "", self._token):
+        if not self._tokens or any([hmac.compare_digest(it.digest or "", its) for its in self._tokens]):
             return None
         if it.digest is None:
             return f"this broker asks for its token: {it.to_give('it', 'its file')}"
@@ -140,7 +142,7 @@ class Entrance:
 
     def complaints(self) -> list[str]:
         """What whoever looks after the broker should know of the people."""
-        needless = ["the bay names people, so the token of --token-file lets nobody in"] if self._token is not None and self.keeping.bay.people else []
+        needless = ["the bay names people, so the token of --token-file lets nobody in"] if self._tokens and self.keeping.bay.people else []
         return [*needless, *self._users.complaints]
 
     # ---- while they are here
@@ -186,7 +188,8 @@ class Entrance:
     # (each answer is a text that says why not, or None)
 
     def is_full(self) -> Optional[str]:
-        return f"{self.clients} clients are here, and no more may come" if self.clients >= self.keeping.bay.limits.clients else None
+        here = f"{self.clients} client{'s are' if self.clients > 1 else ' is'} here"
+        return f"{here}, and no more may come" if self.clients >= self.keeping.bay.limits.clients else None
 
     def is_too_fast(self, peer: str, count: int = DEAR) -> Optional[str]:
         if len(self._pace) > MOST_PEERS:

@@ -10,7 +10,7 @@ from typing import Any, Callable, Optional
 import grpc
 import labrun
 
-from .texts import HTTP_THERE, SILENT, unreached
+from .texts import HTTP_THERE, SILENT, typed, unreached
 
 
 class BrokerError(labrun.LabrunError):
@@ -139,7 +139,7 @@ def plainly(address: str, text: str, may_want_tls: bool) -> str:
         # (there was a connection)
         return NO_MORE
     if text == CLOSED and may_want_tls and not address.startswith("unix:"):
-        return f"{text} (a broker with TLS wants --certificate FILE)"
+        return f"{text} (a broker with TLS wants --certificate FILE, or LABRUN_BROKER_CERTIFICATE_FILE)"
     if text == "Connection refused" and re.fullmatch(r"[^/,]+:\d+", address) and not address.startswith("unix:"):
         return f"{text} (no broker runs there, or it stands by for another one: name all of them, with commas between)"
     if text == "permission denied" and address.startswith("unix:"):
@@ -172,6 +172,8 @@ def why_lost(address: str, code: Any, text: str, may_want_tls: bool = False, cer
         why = plainly(address, text, may_want_tls)
         why = _another(certificate) if why == ANOTHER and certificate is not None else why
         return (AnswerLost if why in (CLOSED, NO_MORE, ENDED) else Unreachable)(unreached(address, why))
+    if code is grpc.StatusCode.RESOURCE_EXHAUSTED and "message larger than max" in text:
+        return BadWish(f"the broker at {address} doesn't take so much at once ({text}): a bay's file that is so long it reads by SIGHUP")
     if code in (grpc.StatusCode.UNAUTHENTICATED, grpc.StatusCode.RESOURCE_EXHAUSTED):
         return Unreachable(f"the broker at {address} doesn't let this client in: {text}")
     if code is grpc.StatusCode.PERMISSION_DENIED:
@@ -181,3 +183,18 @@ def why_lost(address: str, code: Any, text: str, may_want_tls: bool = False, cer
     if code is grpc.StatusCode.DATA_LOSS:
         return JournalError(text)
     return NotHeld(text) if code is grpc.StatusCode.FAILED_PRECONDITION else BrokerError(text)
+
+
+def maybe_done(address: str, why: Exception, is_same_again: bool) -> str:
+    """What is said of a change whose answer didn't come. `is_same_again`: a second try would do no more than the first."""
+    again = "try again" if is_same_again else "try again with the session's number, because another may have begun"
+    return f"{why}; it may have been done, or not: see {typed(address, 'status')}, and {again}"
+
+
+def whole(given: str) -> str:
+    """BadWish: it can't be written."""
+    try:
+        given.encode()
+    except UnicodeEncodeError:
+        raise BadWish(f"{given!r} has half of a character, which can't be sent") from None
+    return given

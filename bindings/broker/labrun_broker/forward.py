@@ -47,6 +47,23 @@ class Line(End):
             self.has_line.set()
             self.transport.pause_reading()
 
+    def eof_received(self) -> bool:
+        if self.other is not None and self._is_cut_short():
+            self.other.cut()
+        # (what the guard hasn't answered by now it won't)
+        self.has_line.set()
+        return super().eof_received()
+
+    def _is_cut_short(self) -> bool:
+        """Of TLS: an end that the guard hasn't said, as that of one that died. (asyncio takes both for the same.)"""
+        its = self.transport.get_extra_info("ssl_object")
+        try:
+            return its is not None and its.read(1) != b""
+        except ssl.SSLZeroReturnError:
+            return False
+        except ssl.SSLError:
+            return True
+
     def connection_lost(self, fault: Optional[Exception]) -> None:
         super().connection_lost(fault)
         self.has_line.set()
@@ -58,6 +75,8 @@ class Forward:
     def __init__(self, way: Way, ticket: str, context: Optional[ssl.SSLContext], says: Callable[[str], None]) -> None:
         self.way, self.ticket, self.sent, self.why = way, ticket, 0, ""
         self._context, self._says = context, says
+        # whether the guard ever answered
+        self._was_there = False
         self._server: Optional[asyncio.Server] = None
         self._locals: set[Local] = set()
         self._tasks: set[asyncio.Task[None]] = set()
@@ -101,14 +120,22 @@ class Forward:
                 await there.has_line.wait()
         except ssl.SSLCertVerificationError as fault:
             raise OSError(f"the guard at {at} has no certificate that is known here: {fault.verify_message}") from None
+        except ConnectionResetError:
+            raise OSError(f"the guard at {at} doesn't let this through: {self._closed()}") from None
         except (OSError, builtins.TimeoutError) as fault:
             raise OSError(f"the guard at {at} doesn't answer: {why_none(fault)}") from None
-        said, _, there.early = there.early.partition(b"\n")
-        if said != b"ok":
+        said, is_whole, there.early = there.early.partition(b"\n")
+        self._was_there = self._was_there or bool(is_whole)
+        if not is_whole or said != b"ok":
             there.cut()
-            why = said.decode(errors="replace").removeprefix("no: ")
-            raise OSError(f"the guard at {at} doesn't let this through: {why or 'it closed the connection'}")
+            why = said.decode(errors="replace").removeprefix("no: ") if is_whole else ""
+            raise OSError(f"the guard at {at} doesn't let this through: {why or self._closed()}")
         return there
+
+    def _closed(self) -> str:
+        """That it ended the connection without an answer. One that has TLS does so if it is spoken to without."""
+        wants = "no `without-tls` in [guards]" if self.way.without_tls else "another address in [guards] than a loopback one"
+        return "it closed the connection" + ("" if self._context is not None or self._was_there else f" (a guard with TLS wants {wants})")
 
     async def lets_go(self) -> None:
         """No more is taken, and the instrument has what was written until now, if that doesn't take long."""

@@ -21,7 +21,7 @@ from typing import Any, Awaitable, Callable, NamedTuple, Optional
 
 from .relay import End, joins, resets
 from .texts import plain, why_none
-from .whose import Answer, Began, Came, Refused, Unknown, came, nobody, plainly, token_by_host
+from .whose import Answer, Began, Came, Refused, Unknown, arrival, came, nobody, plainly, token_by_host
 
 FIRST_LINE, PATIENCE, CONNECTING = 5.0, 5.0, 5.0  # seconds
 CLOSING, AGAIN = 0.5, 0.001
@@ -71,7 +71,7 @@ class Through:
 
 class Guard:
     """The guard of one instrument. All is on one loop. `where` gives the addresses of the broker's machine; `asks` puts a question to the
-    broker; `says` is told who wasn't let through from the holder's machine."""
+    broker; `says` is told who wasn't let through by its machine, and why."""
 
     def __init__(
         self, way: Way, where: Callable[[], frozenset[str]] = frozenset, asks: Callable[[], Awaitable[Optional[Answer]]] = nobody, says: Callable[[str], None] = lambda text: None
@@ -80,8 +80,8 @@ class Guard:
         self._asks, self._says = asks, says
         self.holder: Optional[Holder] = None
         self.newest = 0
-        # whether the broker is there: for people
-        self.is_told = False
+        # whether the broker is there, and ever was: for people
+        self.is_told = self.was_told = False
         # whether it has heard of the broker since it stood still
         self.is_sure = True
         self._began = Began()
@@ -106,7 +106,7 @@ class Guard:
         if holder is not None and self.holder is not None and holder.token == self.holder.token and holder.host is None:
             # (its client is gone, and may come back from there)
             holder = holder._replace(host=self.holder.host)
-        token = 0 if holder is None else holder.token
+        self.was_told, token = True, 0 if holder is None else holder.token
         if self.holder is None or token != self.holder.token:
             self._came, self._began = 0, Began()
         self.newest, self.holder = max(self.newest, token), holder
@@ -131,9 +131,9 @@ class Guard:
                 caller.writes(b"ok\n")
         except Refused as why:
             self.refusals += 1
-            if isinstance(why, Unknown):
-                self._says(str(why))
             if self.way.by_host:
+                # (such a client can't be told, so the guard's log has it)
+                self._says(str(why) if isinstance(why, Unknown) else f"{arrival(self, caller)} isn't let through, because {why}")
                 caller.cut()
             elif not caller.over.is_set():
                 caller.writes(f"no: {plain(why)}\n".encode())
@@ -189,8 +189,11 @@ class Guard:
 
     def _why(self) -> str:
         name = self.way.instrument
-        held = f"{name} is held by nobody" if self.holder is None else f"{name} is held by {self.holder.who}"
-        return held if self.is_told else f"the broker can't be reached, and when it last was, {held}"
+        who = "nobody" if self.holder is None else self.holder.who
+        if self.is_told:
+            return f"{name} is held by {who}"
+        before = f"when it last was, {name} was held by {who}" if self.was_told else "hasn't been since this guard began"
+        return f"the broker can't be reached, and {before}"
 
     def _is_host_of(self, holder: Holder, caller: Caller) -> bool:
         peer, here = (plainly(str(caller.transport.get_extra_info(it)[0])) for it in ("peername", "sockname"))

@@ -74,8 +74,10 @@ def read_table(path: str, args: argparse.Namespace) -> dict[str, dict[str, Any]]
     try:
         with reading(path), open(path, "rb") as file:
             given = tomllib.load(file)
-    except (tomllib.TOMLDecodeError, UnicodeDecodeError) as fault:
+    except ValueError as fault:
         raise BadTable(f"{path}: {fault}") from None
+    except RecursionError:
+        raise BadTable(f"{path}: it is nested too deeply") from None
     usual = {"by_host": args.by_host, "settle": args.settle, "clear": args.clear}
     faults, table = list[str](), dict[str, dict[str, Any]]()
     for name, row in given.items():

@@ -45,19 +45,20 @@ def holders_now(keeping: Kept, names: tuple[str, ...]) -> dict[str, Any]:
     return {name: holder_of(name, of.get(name)) for name in names}
 
 
-def spans_now(keeping: Kept) -> dict[int, int]:
-    """Of each token for how many microseconds its session has held. (Its beginning is noted in whole milliseconds.)"""
+def spans_now(keeping: Kept) -> dict[tuple[str, int], int]:
+    """Of each instrument, and the token of its session, for how many microseconds that has held. (Each of several bays counts its own tokens. The
+    beginning is noted in whole milliseconds.)"""
     its = [session for it in keeping.peers for session in it.by_number.values() if session.is_at_work]
     part = int(asyncio.get_running_loop().time() * 1e6) % 1000
-    return {it.token: (it.home.now() - it.limit_since) * 1000 + part for it in its if it.home is not None}
+    return {(name, it.token): (it.home.now() - it.limit_since) * 1000 + part for it in its if it.home is not None for name in it.instruments}
 
 
 def with_spans(keeping: Kept, its: Iterable[Any]) -> Any:
     """All that is told at once. (For how long changes all the time, and is no news.)"""
     told, spans = pb.Holders(holders=its, at_us=int(asyncio.get_running_loop().time() * 1e6), boot=boot()), spans_now(keeping)
     for it in told.holders:
-        if it.token in spans:
-            it.held_us = max(0, spans[it.token])
+        if (key := (it.instrument, it.token)) in spans:
+            it.held_us = max(0, spans[key])
     return told
 
 

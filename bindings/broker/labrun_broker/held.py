@@ -6,17 +6,19 @@ import asyncio
 import math
 import secrets
 from types import TracebackType
-from typing import TYPE_CHECKING, Any, Callable, Optional
+from typing import TYPE_CHECKING, Any, Callable, Optional, cast
 
 import grpc
 import labrun
 from labrun._sleep import may_sleep
 
 from . import broker_pb2 as pb
+from .calling import Calls, calls_aside
 from .coming import BEATS, GRACE, PAUSE, Coming
-from .errors import BadWish, NotHeld, TakenAway, Unreachable, raised
+from .errors import BadWish, NotHeld, TakenAway, Unreachable, raised, whole
 from .forward import Ways
-from .silence import A_WHILE, Silence, first_while
+from .questions import Questions
+from .silence import Silence
 from .stream import AGAIN, Lost, Stream
 from .work import clock
 
@@ -39,7 +41,7 @@ class Held:
         self.lab, self.timeout = lab, timeout
         self.instruments: tuple[str, ...] = tuple(wish.instruments)
         self.station, self.number, self.token, self.state = "", 0, 0, "new"
-        self._wish, self._waits = wish, waits
+        self._wish, self._waits, self._tells = wish, waits, cast(Optional[Calls], None)
         # by which whoever waits is told that no word comes
         self._silence: Optional[Silence] = None
         # by which another client has asked for it; mostly nothing
@@ -51,11 +53,10 @@ class Held:
         self._lease: Optional[float] = None
         self._until = math.inf
         self._beats: Optional[asyncio.Task[None]] = None
-        # what its owner asks now, and since when; and who looks for another stream
-        self._asked: dict[str, Any] = {}
+        # what its owner asks; and who looks for another stream
+        self._questions = Questions(self)
         # how many notes: by its number the broker knows one that is sent again
         self._noted = 0
-        self._asked_at = 0.0
         self._returns: Optional[asyncio.Task[None]] = None
         # where the guards of its instruments are, and the ports that lead there
         self.guards: dict[str, str] = {}
@@ -83,7 +84,7 @@ class Held:
         """Blocks until the session holds all its instruments. WouldBlock: a loop runs on this thread; so of all that blocks here."""
         self._may_sleep()
         try:
-            self.lab._run(self._acquire())
+            self.lab._run(self._acquire(), undo=self._withdraws)
         except Entered:
             raise
         except BaseException:
@@ -93,14 +94,7 @@ class Held:
 
     async def acquire_async(self) -> None:
         """As `acquire`, for a task of asyncio."""
-        try:
-            await self.lab._run_async(self._acquire())
-        except Entered:
-            raise
-        except BaseException:
-            if self.state == "held":
-                await self.release_async()
-            raise
+        await self.lab._run_async(self._acquire(), undo=self._withdraws)
 
     def address(self, instrument: str) -> tuple[str, int]:
         """Host and port at which an instrument that has a guard is reached, as long as the session holds."""
@@ -132,10 +126,10 @@ class Held:
     def release(self, failed: Optional[str] = None) -> None:
         """Lets the instruments go; `failed` says what went wrong with the work. TakenAway if the session was ended before."""
         self._may_sleep()
-        self.lab._run(self._let_go(failed))
+        self.lab._run(self._let_go(failed), goes_on=True)
 
     async def release_async(self, failed: Optional[str] = None) -> None:
-        await self.lab._run_async(self._let_go(failed))
+        await self.lab._run_async(self._let_go(failed), goes_on=True)
 
     def __enter__(self) -> Held:
         self.acquire()
@@ -168,10 +162,8 @@ class Held:
         self.lab._may_go_on()
         if self.state != "new":
             raise Entered(f"{self._called} is {self.state}: it is entered once")
-        if self._silence is None and self._waits is not None:
-            first = A_WHILE if self.lab._was_there else first_while(self.lab.address, self.timeout)
-            self._silence = Silence(self.lab.address, self._waits, first)
-        coming = Coming(self, bool(self._ticket), self._silence)
+        coming = Coming(self, bool(self._ticket))
+        self._tells = coming.tells(self._waits)
         self._wish.ticket, self._ticket = self._ticket or secrets.token_urlsafe(), ""
         self.state = "waiting"
         try:
@@ -179,6 +171,9 @@ class Held:
         except BaseException:
             self.state = "withdrawn"
             raise
+        finally:
+            if self._tells is not None:
+                self._tells.end()
         # (it may have been taken away, or the stream have ended, just now)
         self._raises_taken()
         self.state = "held"
@@ -193,8 +188,10 @@ class Held:
         self._stream = stream
         self._lease = told.lease if told.HasField("lease") else None
         self._until = math.inf if self._lease is None else sent + self._lease
-        self.instruments, self.station = tuple(told.instruments), told.station
-        self.number, self.token = told.session, told.token
+        if self.state != "held":
+            # (one that comes back has them in the order that its program knows)
+            self.instruments = tuple(told.instruments)
+        self.station, self.number, self.token = told.station, told.session, told.token
         self.guards = dict(told.guards)
         self.limit = told.limit if told.HasField("limit") else None
 
@@ -211,8 +208,8 @@ class Held:
     def _waits_for(self, text: str, lacks: Optional[list[str]] = None) -> None:
         if self.on_lacking is not None and lacks is not None:
             self.on_lacking(lacks)
-        if self._waits is not None:
-            self._waits(text)
+        if self._tells is not None:
+            self._tells(text)
 
     def _hears(self) -> None:
         """A word came of the broker in whose line it waits."""
@@ -228,8 +225,8 @@ class Held:
         """Says again and again that the client is there. If the broker doesn't answer the session is over in time, whatever the connection does."""
         ping: Optional[asyncio.Task[None]] = None
         while self.state == "held" and (left := self._until - clock()) > 0:
-            # (a question that its owner has asked is a word, too)
-            if self._stream is not None and self._returns is None and not self._asked and (ping is None or ping.done()):
+            # (also while an answer is awaited: a disk may take its time)
+            if self._stream is not None and self._returns is None and (ping is None or ping.done()):
                 ping = asyncio.create_task(self._stream.pings())
             await asyncio.sleep(min(left, lease / BEATS))
         self._looks_at_the_time()
@@ -248,7 +245,7 @@ class Held:
         self._is_over("taken", fault)
 
     def _is_taken(self, stream: Stream, fault: Exception) -> None:
-        if self._asked:
+        if self._questions.are_awaited:
             stream.ends(fault)
         stream.cancel()
         self._is_over("taken", fault)
@@ -288,13 +285,11 @@ class Held:
                     self._returns = None
                     return self._holds(stream, told, sent)
                 if kind == "fault":
-                    was_done = told.kind == "LetGo" and "let_go" in self._asked
+                    was_done = told.kind == "LetGo" and self._questions.let_go
                     return self._is_over("finished" if was_done else "taken", None if was_done else raised(told))
             except Lost as lost:
-                now = loop.time()
-                is_late = bool(self._asked) and now > self._asked_at + GRACE
                 # (where too many clients are, there may be room later)
-                if lost.code not in (*AGAIN, grpc.StatusCode.RESOURCE_EXHAUSTED) or is_late:
+                if lost.code not in (*AGAIN, grpc.StatusCode.RESOURCE_EXHAUSTED) or self._questions.are_late:
                     return self._is_over("lost", self.lab._why_lost(lost.code, str(lost)))
             except asyncio.CancelledError:
                 stream.cancel()
@@ -310,68 +305,24 @@ class Held:
             self._ways = None
         if self._beats is not None and self._beats is not asyncio.current_task():
             self._beats.cancel()
-        if fault is not None and not self._asked and self.on_taken is not None:
-            self.on_taken(fault)
+        if fault is not None and not self._questions.are_awaited and self.on_taken is not None:
+            calls_aside(self.on_taken, fault)
 
-    async def _ask(self, **what: Any) -> None:
-        """Asks, and waits for the answer; if the stream ends meanwhile it is asked again on the next one."""
+    def _is_late(self, since: float) -> bool:
+        """Whether whoever asked then has waited for too long."""
+        return asyncio.get_running_loop().time() > since + GRACE
+
+    def _may_ask(self) -> None:
         self._looks_at_the_time()
         self._raises_taken()
         if self.state != "held":
             self.lab._may_go_on()
             raise NotHeld(f"the session is {self.state}: it doesn't hold its instruments")
-        if self._asked:
-            raise labrun.LabrunError("another thread asks something of this session")
-        self._asked, self._asked_at = what, asyncio.get_running_loop().time()
-        try:
-            await self._is_answered(what)
-        finally:
-            self._asked = {}
-
-    async def _is_answered(self, what: dict[str, Any]) -> None:
-        pause = PAUSE
-        while self.state == "held":
-            if (returns := self._returns) is not None:
-                await asyncio.wait({returns})
-                if self._returns is returns and not returns.cancelled():
-                    returns.result()
-                if self._returns is returns:
-                    raise labrun.Closed("the lab is closed")
-                continue
-            stream, sent = self._stream, clock()
-            assert stream is not None
-            try:
-                kind, told = await stream.asks(**what)
-            except Lost as lost:
-                # (it may be lost because the session was taken away just now)
-                self._raises_taken()
-                self._is_cut()
-                if self._returns is None:
-                    raise labrun.Closed("the lab is closed") from None
-                if lost.code is grpc.StatusCode.RESOURCE_EXHAUSTED and "note" in what:
-                    raise BadWish(f"the broker doesn't take this note: {lost}") from None
-                if asyncio.get_running_loop().time() > self._asked_at + GRACE:
-                    raise self.lab._why_lost(lost.code, str(lost)) from None
-                # (it comes back meanwhile)
-                await asyncio.sleep(pause)
-                pause = min(2 * pause, 1.0)
-                continue
-            except labrun.LabrunError:
-                self._raises_taken()
-                raise
-            if kind == "fault":
-                raise raised(told)
-            if kind == "gone":
-                stream.is_idle()
-                self._is_over("finished", None)
-            elif stream is self._stream:
-                self._is_sure(sent)
-            return
-        self._raises_taken()
 
     async def _notes(self, text: str) -> None:
+        whole(text)
         self._noted += 1
-        await self._ask(note=pb.Note(text=text, number=self._noted))
+        await self._questions.ask(note=pb.Note(text=text, number=self._noted))
 
     def _raises_taken(self) -> None:
         """The owner is told once, if the session was ended before."""
@@ -380,9 +331,20 @@ class Held:
             raise fault
 
     async def _let_go(self, failed: Optional[str]) -> None:
+        was_held = self.state == "held"
         if self._ways is not None:
             await self._ways.lets_go()
-        await self._ask(let_go=pb.LetGo(failed=failed and failed[:MOST_FAILED]))
+        try:
+            # (what went wrong may be a text that can't be written)
+            await self._questions.ask(let_go=pb.LetGo(failed=failed and failed[:MOST_FAILED].encode(errors="backslashreplace").decode()))
+        except (NotHeld, labrun.Closed):
+            # (somebody else may have let it go meanwhile, as the lab's end does)
+            if not was_held or self.state != "finished":
+                raise
+
+    async def _withdraws(self) -> None:
+        """It came to hold, and its owner waited no longer."""
+        await self._let_go(None)
 
 
 def _failure(kind: Optional[type[BaseException]], fault: Optional[BaseException]) -> Optional[str]:

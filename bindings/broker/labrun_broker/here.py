@@ -18,10 +18,10 @@ def lacks(read: Union[Bay, Lab]) -> list[str]:
     return [*Users(read.people).complaints, *(line for bay in bays for line in commands(bay))]
 
 
-def commands(bay: Bay) -> Iterator[str]:
+def commands(bay: Bay, machine: str = "this machine") -> Iterator[str]:
     """The first session that had one of these would leave it out of order."""
     for name, line in bay.on_release.items():
         program = shlex.split(line)[0]
         if shutil.which(program) is None:
-            why = f"{program} can't be run on this machine" if shutil.which(program, os.F_OK) else f"this machine has no command {program}"
+            why = f"{program} can't be run on {machine}" if shutil.which(program, os.F_OK) else f"{machine} has no command {program}"
             yield f"on_release.{name}: {why}"

@@ -73,6 +73,8 @@ class HttpDoor:
             with self.entrance.present(request[CALLER]):
                 return await handler(request)
         except LabrunError as fault:
+            if isinstance(fault, NotLetIn) and fault.status != FORBIDDEN:
+                self.entrance.tells(f"{peer_of(request)} (HTTP)", str(fault))
             status, told = http_words.told(fault)
         except web.HTTPException as fault:
             status, told = fault.status, {"kind": "BadWish", "text": f"{request.method} {request.path}: {fault.reason}; /v1/openapi.json has all that there is"}
@@ -90,15 +92,11 @@ class HttpDoor:
             raise NotLetIn(FORBIDDEN, "without a token it is asked for by its own address only, as 127.0.0.1")
 
     def _lets_in(self, request: web.Request) -> Caller:
-        peer, uid = request.remote or "unix:", None if request.transport is None else user_of(request.transport.get_extra_info("socket"))
-        try:
-            given = request.headers.get("Authorization", "")
-            caller = self.entrance.caller(given, not request.app[IS_TCP], uid, request.path in LOOKS, by_http=True)
-            if (why := self.entrance.is_too_fast(peer, 1 if request.path.startswith("/v1/sessions") else DEAR)) is not None:
-                raise NotLetIn(TOO_MANY, why)
-        except NotLetIn as fault:
-            self.entrance.tells(f"{peer} (HTTP)", str(fault))
-            raise
+        uid = None if request.transport is None else user_of(request.transport.get_extra_info("socket"))
+        given = request.headers.get("Authorization", "")
+        caller = self.entrance.caller(given, not request.app[IS_TCP], uid, request.path in LOOKS, by_http=True)
+        if (why := self.entrance.is_too_fast(peer_of(request), 1 if request.path.startswith("/v1/sessions") else DEAR)) is not None:
+            raise NotLetIn(TOO_MANY, why)
         return caller
 
     async def _adds_heads(self, request: web.Request, response: web.StreamResponse) -> None:
@@ -219,6 +217,10 @@ def taking(handler: Handler, *words: str) -> Handler:
     return looks
 
 
+def peer_of(request: web.Request) -> str:
+    return request.remote or "unix:"
+
+
 def is_there(request: web.Request) -> bool:
     """Whether who asks still waits for the answer. (A broker that was stopped learns it from the system, before it has read all that came.)"""
     if request.transport is None or request.transport.is_closing():
@@ -250,7 +252,7 @@ async def serve_http(keeping: Kept, door: Door, entrance: Entrance, origins: Seq
         for address in door.addresses:
             at = parsed(address)
             tls = None if isinstance(at, str) else door.tls()
-            found.append(await served(its.app(), at, door.group, tls, keeping.bay.limits.clients))
+            found.append(await served(its.app(), at, door.group, tls, lambda: keeping.bay.limits.clients))
     except BaseException:
         for one in found:
             await one.cleanup()

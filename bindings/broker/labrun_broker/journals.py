@@ -108,6 +108,29 @@ def sessions_of(journal: bytes) -> dict[int, Left]:
     return found
 
 
+def known_to(journal: bytes) -> Optional[int]:
+    """The largest number of a session of which it knows: its head says below which each was given when the file began, and each hold has a line.
+    None: it has no line."""
+    head, *lines = journal.split(b"\n")[:-1] or [b""]
+    held = (it[FIRST_WORD + 5 :].partition(b" ")[0] for it in lines if it[FIRST_WORD:].startswith(b"hold "))
+    return max([int(head.split()[4], 16) - 1, *(int(it, 16) for it in held)]) if head else None
+
+
+def ends_and_notes(lines: bytes) -> tuple[list[int], list[int]]:
+    """Of lines that go behind others: the sessions of those that ended by them, and that of each note of a client."""
+    held, ended, noted = set[int](), dict[int, None](), list[int]()
+    for line in lines.split(b"\n")[:-1]:
+        word, _, rest = line[FIRST_WORD:].partition(b" ")
+        is_note, number = word == b"note", int(rest[:16], 16) if word in (b"hold", b"end", b"note") else 0
+        if word == b"hold":
+            held.add(number)
+        elif word == b"end" or is_note and rest[17:].startswith(b"over "):
+            ended[number] = None
+        elif is_note and rest[17:].startswith(b"note "):
+            noted.append(number)
+    return [it for it in ended if it not in held], noted
+
+
 def _told(text: bytes) -> tuple[str, str]:
     word, _, rest = text.decode("utf-8", "replace").partition(" ")
     return word, _plain(rest)

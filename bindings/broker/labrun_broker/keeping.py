@@ -14,7 +14,7 @@ import labrun
 from labrun import LabrunError
 from labrun.machine import GRACE, HOLDS, LAPSED, NEVER, NOT_WRITTEN, WAS_STOPPED, Machine, Refusal, Told
 
-from . import ending, lasting, leases, making_safe, outage, people, rights, turning, wishes
+from . import closing, ending, lasting, leases, making_safe, outage, people, rights, turning, wishes
 from .bay import Bay
 from .errors import TimeoutError as TimedOut
 from .folder import Folder, State
@@ -35,6 +35,7 @@ if TYPE_CHECKING:
 UNTOLD = "before its client was told that it holds"
 NO_WAIT = "was refused, because it doesn't wait (hold -n, or a timeout of 0)"
 NOT_AT_ONCE = "can't have all that it asks for at once"
+ENDED = "the broker ended"
 
 
 class Keeping:
@@ -45,14 +46,14 @@ class Keeping:
     ) -> None:
         # `grace` is infinite if nobody is released; the other one is of those that are
         self.bay, self.grace, self.state = bay, grace if bay.its_gone.may_release else math.inf, state
-        self.its_grace, self.keeps_all = grace, False
+        self.its_grace = grace
         self._news = News()
         self.history = self._news.history
         self.refusals = self.sessions = self.opened_at = 0
         # of urgent ones: how many, and the number of the last
         self.urgent = self.last_urgent = 0
-        # what is to be told to whoever looks after the broker, as it begins, and later
-        self.complaints: list[str] = []
+        # what is to be told to whoever looks after the broker: as it begins, and ends; and meanwhile
+        self.complaints, self.lost = list[str](), list[str]()
         self.says: Callable[[str], None] = lambda text: None
         # from which size on the journal begins anew
         self.most_bytes = turning.MOST_BYTES
@@ -60,7 +61,8 @@ class Keeping:
         self.idle_since: dict[str, int] = {}
         self._opens, self._syncs = opens, syncs
         self._by_key: dict[tuple[int, int], Session] = {}
-        self._ends, self._is_closed = Ends(), False
+        # (before it is closed, its doors are: whoever waits there doesn't leave by itself then)
+        self._ends, self.is_ending, self._is_closed = Ends(), False, False
         # one after another (applying.py), and who looks after the doors meanwhile
         self.changing = asyncio.Lock()
         self.entrances: list[Entrance] = []
@@ -77,8 +79,6 @@ class Keeping:
         """Opens the bay, or goes on where the state says. LabrunError and OSError say why it can't."""
         it = self._opened = Opened(self.bay, self.state, self.grace, self._syncs, self._opens)
         self.grace, self.places, self.complaints = it.grace, it.places, it.complaints
-        # (somebody holds who was told so)
-        self.keeps_all = math.isinf(it.grace) and self.bay.its_gone.may_release
         self.its_grace = self.its_grace if math.isinf(it.grace) else it.grace
         self._news.file = None if it.state is None else it.state.records
         store = None if it.state is None else it.state.store
@@ -91,24 +91,14 @@ class Keeping:
         carries(self)
         self._shell.pump()
 
+    def begins_to_end(self) -> None:
+        self.is_ending = True
+
     async def close(self) -> None:
-        """Nobody comes to hold any more; what is held stays held, in the journal."""
-        if self._is_closed:
-            return
-        self._is_closed = True
-        for session in self.by_number.values():
-            session.stops_looking()
-            lasting.stops(session)
-        self._shell.machine.stop(self.now())
-        self._shell.pump()
-        await making_safe.closes(self)
-        self._record("closed")
-        self._news.write()
-        await self._shell.close()
-        self._news.write(is_all=True)
-        # (whoever opens the folder next meets no write of this broker: if the disk doesn't answer it stays locked. etcd sees to that itself)
-        if (state := self._opened.state) is not None and (state.lets_wait or await self._shell.has_ended()):
-            state.close()
+        """Nobody comes to hold any more; what is held stays held, in the journal. What isn't written then is in `lost`."""
+        if not self._is_closed:
+            self._is_closed = True
+            self.lost = await closing.closes(self)
 
     def now(self) -> int:
         return self._shell.now()
@@ -144,10 +134,13 @@ class Keeping:
             held = self._by_key.get(key)
             rights.check_ticket(self.bay, wish.person, held)
             if held is not None and held.holds:
-                wishes.check_asked_again(wish, held.instruments, self.bay)
+                held.instruments = wishes.asked_again(wish, held.instruments, self.bay)
                 return leases.comes_back(self, held, wish, owner)
             if wish.comes_back:
-                raise self._ends.why(key)
+                why = self._ends.why(key)
+                if why.kind == "LetGo":
+                    await self.settling.kept()
+                raise why
             wishes.check(wish, self.bay, self.places.taken_out)
             wish = outage.going_round(wishes.resolved(wish, self.bay), self.places.out, self.bay)
             session = self._asks(wish, key, owner, held)
@@ -242,7 +235,7 @@ class Keeping:
         elif told.what == NOT_WRITTEN:
             self._fails(session, "failed", self._shell.why())
         elif told.what == WAS_STOPPED:
-            self._fails(session, "gave_up", labrun.Stopped("the broker ends"))
+            self._fails(session, "gave_up", labrun.Stopped(ENDED))
         else:
             self._is_taken(session, told.what)
 
@@ -286,7 +279,7 @@ class Keeping:
         if session.state == "over":
             return
         self._shell.machine.leave(session.number, self.now())
-        text = "the client is gone" if isinstance(fault, asyncio.CancelledError) else str(fault)
+        text = (ENDED if self.is_ending else "its client waits no longer") if isinstance(fault, asyncio.CancelledError) else str(fault)
         self._over(session, "tried" if session.wish.tries and isinstance(fault, TimedOut) else "gave_up", text)
         if not session.told.done():
             session.told.set_exception(fault)
@@ -327,12 +320,13 @@ class Keeping:
 
     def keeps(self, session: Session) -> bool:
         """Whether it is kept when its client is gone: that counts from when it comes to hold on."""
-        return self.keeps_all or self.bay.its_gone.keeps(self.places.station(session.kind), session.instruments)
+        was_told_so = session.number in self._opened.kept
+        return was_told_so or self.bay.its_gone.keeps(self.places.station(session.kind), session.instruments)
 
     @property
     def lease(self) -> Optional[float]:
         """Of those that aren't kept; None: all are."""
-        return leases.lease_of(self.its_grace) if self.bay.its_gone.may_release and not self.keeps_all else None
+        return leases.lease_of(self.its_grace) if self.bay.its_gone.may_release else None
 
     def lease_of(self, session: Session) -> Optional[float]:
         return None if session.is_kept else leases.lease_of(self.its_grace)

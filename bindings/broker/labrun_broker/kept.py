@@ -4,7 +4,7 @@ station and the guests may have a word of their own; the bay's is for what has n
 from __future__ import annotations
 
 from dataclasses import dataclass, field
-from typing import Any, Iterable
+from typing import Any, Iterable, Optional
 
 KEEP, RELEASE = "keep", "release"
 
@@ -40,6 +40,35 @@ class Gone:
         names = [*self.instruments, *(f"station {it}" if it else "guests" for it in self.stations)]
         its = [name for name, word in zip(names, [*self.instruments.values(), *self.stations.values()]) if word != self.bay]
         return f"{self.bay} ({KEEP if self.bay == RELEASE else RELEASE}: {', '.join(its)})" if its else self.bay
+
+
+@dataclass(frozen=True)
+class Told:
+    """Words by which clients may have been told: those of the sessions whose token is `first` or larger, and below `last`; of all, where that wasn't
+    written."""
+
+    gone: Gone
+    first: int = 0
+    last: Optional[int] = None
+
+    def is_of(self, token: int) -> bool:
+        return self.first <= token and (self.last is None or token < self.last)
+
+    def below(self, token: int) -> Told:
+        """Of none that comes to hold later."""
+        return Told(self.gone, self.first, token) if self.last is None else self
+
+    def fields(self) -> dict[str, Any]:
+        its = {**vars(self.gone), "from": self.first, "until": self.last}
+        return {key: it for key, it in its.items() if key in vars(self.gone) or it}
+
+
+def told_of(given: Any) -> Told:
+    """One that `fields` gave. ValueError."""
+    gone, first, last = gone_of(given), given.get("from", 0), given.get("until")
+    if type(first) is not int or type(last) not in (int, type(None)):
+        raise ValueError(f"of which tokens somebody was told: {first!r} and {last!r}")
+    return Told(gone, first, last)
 
 
 def gone_of(given: Any) -> Gone:

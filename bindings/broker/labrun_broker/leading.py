@@ -5,7 +5,7 @@ transactions is done only if the key is still the one that it made. So one that 
 by now, changes nothing. That alone makes it safe; the clock only decides when it gives up.
 
     /labrun/BAY/leader          where the leader listens
-    /labrun/BAY/bay             which file the bay has by the broker that led last
+    /labrun/BAY/bay             which file the bay has by the broker that led last, and whose bay opened
     /labrun/BAY/standby/NAME    the same of one that stands by, as long as its lease
     /labrun/BAY/applied         which bay was applied last, by whom, and when; /labrun/BAY/applied-file is its file
 
@@ -17,6 +17,7 @@ from __future__ import annotations
 import contextlib
 import hashlib
 import json
+import shlex
 import threading
 from dataclasses import asdict, dataclass
 from typing import Any, Callable, Optional
@@ -160,10 +161,14 @@ class Leading:
         is_other = not others.applied and others.led not in ("", self._mark)
         if others.leader:
             self._free_since = None
-            more = ", by another bay file than this one has: this one won't lead while a broker with that file is there" if is_other else ""
+            more = ""
+            if is_other and others.leader != self.name:
+                more = ", by another bay file than this one has: this one won't lead while a broker with that file is there"
             if others.applied not in ("", self._mark):
                 more = ", and this one's bay file isn't the one that was applied last: if it leads, it goes by the one that was applied"
-            self._says(says, f"stands by: {others.leader} leads{more}")
+            # (this machine's broker was killed, and is started again)
+            leads = "its own lease of before has to run out" if others.leader == self.name else f"{others.leader} leads"
+            self._says(says, f"stands by: {leads}{more}")
             return False
         self._free_since = self._free_since or clock()
         if not is_other:
@@ -179,7 +184,7 @@ class Leading:
 
     def _makes_key(self) -> bool:
         begun, listens = clock(), self.name.encode()
-        makes = [put(self.key, listens, self.lease), put(self._bay, self._mark.encode()), delete(self._own)]
+        makes = [put(self.key, listens, self.lease), delete(self._own)]
         while True:
             try:
                 told = self.etcd.txn([is_of(self.key, 0)], makes, [get(self.key)])
@@ -205,7 +210,7 @@ class Leading:
             begun = clock()
             if begun >= self._sure_until:
                 # (which of the two, it can't know)
-                return self._loses(f"nothing was heard from etcd for {self.seconds} s: it doesn't answer, or this broker was stopped")
+                return self._loses(f"its lease of {self.seconds} s couldn't be renewed: etcd doesn't answer, or this broker was stopped")
             try:
                 left = self.etcd.keeps_alive(self.lease, max(0.05, min(self.seconds / 2, self._sure_until - begun)))
                 if not left:
@@ -239,6 +244,12 @@ class Leading:
         self._over.wait()
         raise Deposed
 
+    def has_opened(self) -> None:
+        """Its bay is that of the file that led last. (A broker that somebody is in the way of never led by its own.)"""
+        # (in an etcd that is full by now the bay opens all the same)
+        with contextlib.suppress(EtcdError):
+            self.does([put(self._bay, self._mark.encode())])
+
     def reads(self, prefix: bytes) -> list[tuple[bytes, bytes]]:
         """All keys behind a prefix, with their values. Nobody else writes them while this broker leads."""
         while True:
@@ -264,6 +275,11 @@ class Leading:
     def applies(self, text: str, it: Applied) -> list[Any]:
         """How it is written that this bay was applied."""
         return [put(self._applied, it.text()), put(self._applied + b"-file", text.encode())]
+
+    def instead(self) -> str:
+        """What somebody does where what is kept there can't be read."""
+        command = shlex.join(("etcdctl", "--endpoints", ",".join(self.etcd.endpoints), "del", "--prefix", self.prefix.decode()))
+        return f"see to all instruments, end all brokers and guards, then run `{command}`, and begin again"
 
     def close(self) -> None:
         """The next one may lead at once."""

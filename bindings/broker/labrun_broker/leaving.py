@@ -13,7 +13,11 @@ from .words import say
 GIVING_UP, UNTOLD = 10.0, 1.5
 
 
-def leaves(has_left: Callable[[float], bool], station: str) -> None:
+class GivenUp(Exception):
+    """Whoever has held doesn't want to wait until the broker has heard that."""
+
+
+def leaves(has_left: Callable[[float], bool], address: str, station: str) -> None:
     """Until the broker says that it has left, or another signal comes. `has_left` waits for that word for so many seconds, and gives whether it came."""
     is_told = False
     try:
@@ -22,4 +26,4 @@ def leaves(has_left: Callable[[float], bool], station: str) -> None:
             is_told = has_left(GIVING_UP - UNTOLD)
     finally:
         if not is_told:
-            say(f"the broker wasn't told, as far as is known here; {may_hold(station)}")
+            say(f"the broker wasn't told, as far as is known here; {may_hold(address, station)}")

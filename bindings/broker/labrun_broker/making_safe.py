@@ -27,7 +27,7 @@ from .bay import Bay
 from .errors import TimeoutError as TimedOut
 from .outage import puts_out
 from .standing import ENDING, Session
-from .texts import plain, span
+from .texts import once_safe, plain, span
 from .ways import variable_of
 from .words import ENVIRONMENT
 
@@ -115,7 +115,7 @@ async def is_over(keeping: Keeping, key: tuple[int, int], wish: Wish) -> Wish:
     begun, left = time.monotonic(), wish.timeout
     while (session := next((it for it in keeping.by_number.values() if it.state == ENDING and it.key == key), None)) is not None and session.safe:
         if left == 0 or not (await asyncio.wait({session.safe}, timeout=left))[0]:
-            raise TimedOut(f"the last session with this ticket isn't over: {' '.join(session.instruments)} is being made safe")
+            raise TimedOut(f"the last session with this ticket isn't over until {once_safe(session.unsafe)}")
         left = None if wish.timeout is None else max(0.0, wish.timeout - (time.monotonic() - begun))
     return wish if left == wish.timeout else replace(wish, timeout=left)
 

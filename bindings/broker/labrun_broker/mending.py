@@ -61,6 +61,11 @@ def missing(left: dict[int, Left], records: list[Record], places: Places) -> lis
     return found
 
 
+def holds(left: dict[int, Left], places: Places) -> list[Record]:
+    """The record of its hold, of each session that goes on."""
+    return [{**_About(it, places).record("held", it.since / 1000), "ticket": digits_of(it.owner)} for it in left.values() if not it.end]
+
+
 def _since_the_first(left: list[Left], held: set[Optional[int]], count: int) -> list[Left]:
     """Those that came to hold since the first of the records, of which only the last were read. (If so many say of none that it holds,
     those of the others were before. Of a journal that began anew all may have come later than the last record of a hold.)"""

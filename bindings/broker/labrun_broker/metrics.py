@@ -43,6 +43,9 @@ class Now(Collector):
             family = CounterMetricFamily(f"labrun_{name}", text, labels=names)
             for bay, keeping in its.items():
                 family.add_metric([bay] if names else [], getattr(keeping, name))
+            if names and name == "refusals":
+                # (of wishes that no bay has)
+                family.add_metric([""], self._keeping.refusals - sum(it.refusals for it in its.values()))
             yield family
         states = {bay: [it["state"] for it in keeping.status()["stations"]] for bay, keeping in its.items()}
         for state, text in STATES.items():

@@ -10,26 +10,25 @@ from typing import Callable, Optional
 
 import labrun
 from labrun.machine import ANOTHER, MAY_NOT, NEVER, UNSOUND, Machine, Refusal, Terms
+from labrun.picks import some
 
 from . import shell
 from .bay import Bay
 from .errors import StillHeld
 from .folder import State
-from .journals import Left, sessions_of
-from .places import Former, Places, longest, mark_of
+from .journals import Left, known_to, sessions_of
+from .places import Former, Places, mark_of
 from .records import Record
 from .texts import counted
 from .wishes import MOST_CHOICES, milliseconds
 
-SHOWN = 8  # guests in a text
-
 
 class Opened:
     """The machine, and what it doesn't know of those who held. `grace` is that of the bay: where sessions hold whose clients were told of a
-    longer one, it is that, for all; infinite if what is held is kept."""
+    longer one, it is that, for all; infinite if each is kept. `kept` has the numbers of those that are kept because their clients were told so."""
 
     def __init__(self, bay: Bay, state: Optional[str], grace: float, syncs: bool, opens: Callable[[str, bool], State]) -> None:
-        self.bay, self.complaints = bay, list[str]()
+        self.bay, self.complaints, self.kept = bay, list[str](), set[int]()
         self.overtakes = len(bay.jobs) if bay.overtakes is None else bay.overtakes
         self.state = None if state is None else opens(state, syncs)
         try:
@@ -51,10 +50,10 @@ class Opened:
         except ValueError:
             self.left = {}  # (the machine says which line isn't sound)
         holds = [it for it in self.left.values() if not it.end]
-        if holds:
-            grace = self._keeps_longer(grace, None if any(self._was_kept(it, before) for it in holds) else before.grace)
+        grace = self._keeps_longer(grace, before, holds)
         self.grace = math.inf if grace is None else grace / 1000
-        self.places = replace(before, grace=grace).with_bay(self.bay).with_words(self.bay.its_gone, bool(holds))
+        holders = {it.token: it.of > 0 for it in holds}
+        self.places = replace(before, grace=grace).with_bay(self.bay).with_words(self.bay.its_gone, before.words, holders, True)
         if before.former is None and self.places.former:
             its = taken_out_by(self.recent)
             self.places = replace(self.places, former={name: its.get(name, it) for name, it in self.places.former.items()})
@@ -62,25 +61,29 @@ class Opened:
         self.first = max([int(time.time() * 1000), *(1 + it.since for it in self.left.values())])
         self.machine = self._machine(text, grace)
         if self.state is not None:
+            self.complaints += self.state.lost(known_to(text), self.recent)
             self.state.store.cut(self.machine.used)
             # (before anybody is told of the grace; and a broker begins on a full disk, too)
             if self.places != replace(before, former=before.former or {}):
                 self.state.keeps(self.places)
 
-    def _was_kept(self, it: Left, before: Places) -> bool:
-        """Whether its client may have been told that it is kept, and by the bay it isn't any more."""
-        # (a line that isn't sound may name what nobody knows: the machine says so)
-        its = before.names(it.needs & ((1 << len(before.instruments)) - 1))
-        whose = before.station(it.kind), its
-        return any(words.keeps(*whose) for words in before.gone) and not self.bay.its_gone.keeps(*whose)
-
-    def _keeps_longer(self, grace: Optional[int], before: Optional[int]) -> Optional[int]:
-        kept = longest((grace, before))
-        if kept != grace:
-            told = "until somebody releases it" if kept is None else f"for {kept / 1000:g} s"
-            why = f"who holds now was told that a session whose client is gone is kept {told}"
-            self.complaints.append(f"{why}. That goes for all sessions until those have ended and the broker is started again")
-        return kept
+    def _keeps_longer(self, grace: Optional[int], before: Places, holds: list[Left]) -> Optional[int]:
+        """The grace with which it goes on. Nobody is released who was told otherwise, nor sooner than he was told."""
+        why, was_released = "who holds now may have been told that a session whose client is gone is kept", False
+        for it in holds:
+            # (a line that isn't sound may name what nobody knows: the machine says so)
+            whose = before.station(it.kind), before.names(it.needs & ((1 << len(before.instruments)) - 1))
+            told = before.told(*whose, None if it.of else it.token)
+            was_released = was_released or False in told
+            if True in told and not self.bay.its_gone.keeps(*whose):
+                self.kept.add(it.number)
+        if self.kept:
+            self.complaints.append(f"{why} until somebody releases it. That goes for those sessions until they have ended")
+        if grace is None or before.grace is None or not was_released or before.grace <= grace:
+            return grace
+        goes_on = "That goes for all sessions until those have ended and the broker is started again"
+        self.complaints.append(f"{why} for {before.grace / 1000:g} s. {goes_on}")
+        return before.grace
 
     def _machine(self, text: bytes, grace: Optional[int]) -> Machine:
         line, grace = MOST_CHOICES * self.bay.limits.clients, NEVER if grace is None else grace
@@ -93,7 +96,8 @@ class Opened:
 
     def _why(self, it: Refusal) -> str:
         if it.status == UNSOUND:
-            return f"line {it.fault} isn't as the broker wrote it: see to all instruments, then move the file away, and begin again"
+            # (without a state there is no line)
+            return f"line {it.fault} isn't as the broker wrote it" + ("" if self.state is None else f": {self.state.instead()}")
         if it.status == ANOTHER:
             return "it is of another bay: give this one a folder of its own"
         if it.status == MAY_NOT and (of := self.left.get(it.fault)):
@@ -107,8 +111,7 @@ class Opened:
         if lacks := [name for name in self.places.names(of.needs) if name not in allowed]:
             return f"{station or of.station or 'a guest'} holds {' '.join(lacks)}, which by the bay it may not use"
         guests = [it.station or "a guest" for it in self.left.values() if not it.how and not self.places.station(it.kind)]
-        more = f" and {len(guests) - SHOWN} more" if len(guests) > SHOWN else ""
-        return f"{', '.join(guests[:SHOWN])}{more} hold, and by the bay only {counted(self.bay.guests, 'guest')} may"
+        return f"{some(guests)} hold, and by the bay only {counted(self.bay.guests, 'guest')} may"
 
 
 def taken_out_by(records: list[Record]) -> dict[str, Former]:

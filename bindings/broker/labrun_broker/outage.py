@@ -35,21 +35,24 @@ def going_round(wish: Wish, out: dict[str, Out], bay: Bay) -> Wish:
 
 def told(name: str, it: Out, bay: Bay, person: str) -> str:
     why = f": {it.why}" if it.why else ""
-    return f"{name} has been out of order for {span(time.time() - it.since)}{why} (says {it.by}; {to_enable(bay, person, name)})"
+    return f"{name} has been out of order for {span(it.span)}{why} (says {it.by}; {to_enable(bay, person, name)})"
 
 
 async def disable(keeping: Keeping, name: str, why: str, by: str) -> None:
     """JournalError: it couldn't be written, and so isn't so. NoInstrument, BadWish."""
     check_instrument(name, keeping.bay, keeping.places.taken_out)
     check_note(why, keeping.bay)
-    await puts_out(keeping, name, why, by)
+    before = keeping.places.out.get(name)
+    await puts_out(keeping, name, why, by, "" if before is None else f"; it was so already{before.why and f': {before.why}'} (said {before.by})")
 
 
-async def puts_out(keeping: Keeping, name: str, why: str, by: str) -> None:
+async def puts_out(keeping: Keeping, name: str, why: str, by: str, was: str = "") -> None:
     async with keeping.changing:
-        await keeps(keeping, replace(keeping.places, out={**keeping.places.out, name: Out(why, by, round(time.time(), 3))}))
-        keeping._record("disabled", text=f"{name}: {why}, by {by}" if why else f"{name}, by {by}", its=(name,))
-        keeping.says(f"{name} is out of order{f': {why}' if why else ''} (says {by})")
+        before = keeping.places.out.get(name)
+        out = Out(why, by, round(time.time(), 3)) if before is None else replace(before, why=why, by=by)
+        await keeps(keeping, replace(keeping.places, out={**keeping.places.out, name: out}))
+        keeping._record("disabled", text=f"{name}{why and f': {why}'}, by {by}{was}", its=(name,))
+        keeping.says(f"{name} is out of order{why and f': {why}'} (says {by}){was}")
         _tells(keeping, name)
 
 
@@ -78,7 +81,7 @@ def _asks_again(keeping: Keeping, session: Session, wish: Wish) -> None:
     """With another number, behind those that have asked."""
     keeping.machine.leave(session.number, keeping.now())
     del keeping.by_number[session.number]
-    keeping._record("gave_up", session, text="it asks for other instruments")
+    keeping._record("gave_up", session, text="it asks for other instruments", after=keeping._span(session))
     keeping._asks_for(session, wish)
 
 

@@ -3,6 +3,7 @@
 
 const STUCK = 5;                 // seconds for which somebody may hold what others wait for before it is said in large letters
 const SILENT = 15;               // seconds without a message after which what is shown is old
+const BEAT = 6;                  // seconds between two messages, at most, with one for the way
 const PACE = 800;                // milliseconds between two pictures, at least
 const MANY = 16;                 // instruments that make two columns
 const MOST_RECORDS = 14, MOST_NOTES = 4, MOST_CHAINS = 4;
@@ -53,22 +54,27 @@ function since(t) {
 }
 const hours = t => new Date(t * 1000).toLocaleTimeString("en-GB", {hour: "2-digit", minute: "2-digit", second: "2-digit"});
 const day = t => new Date(t * 1000).toLocaleString("en-GB", {day: "numeric", month: "short", hour: "2-digit", minute: "2-digit"});
-const station = name => status.stations.find(it => it.name === name);
+// (a session over several bays has a row in each, and its rows may stand differently)
+const station = (name, bay) => status.stations.find(it => it.name === name && it.bay === bay);
+// (guests of one name may be two, where each of the bays had a broker of its own before)
+const isSameSession = (one, other) => one.name === other.name && one.by === other.by;
+const bayOf = it => (status.bays || []).find(one => one.bay === it.bay) || status;
 const holds = it => it && (it.state === "holding" || it.state === "gone");
 
 // who is stuck
 
-function waitersFor(name) {
-  const of = new Set();
-  for (const it of status.instruments) if (it.holder === name) it.waiting.forEach(one => of.add(one));
-  return [...of];
+function isHeldBy(it, row) {
+  return it.holder === row.name && it.bay === row.bay;
+}
+function waitersFor(row) {
+  return [...new Set(status.instruments.filter(it => isHeldBy(it, row)).flatMap(it => it.waiting))];
 }
 function worst() {
-  const kept = status.stations.filter(it => it.state === "holding" && now() - it.since >= STUCK && waitersFor(it.name).length);
+  const kept = status.stations.filter(it => it.state === "holding" && now() - it.since >= STUCK && waitersFor(it).length);
   return kept.sort((a, b) => a.since - b.since)[0];
 }
 function alarmOf(it) {
-  const waiters = waitersFor(it.name), isGone = it.state === "gone";
+  const waiters = waitersFor(it), isGone = it.state === "gone";
   const text = isGone ? [bold(it.name), " has been gone for ", since(it.gone_since), ", and still holds "] : [bold(it.name), " has held for ", since(it.since), ": "];
   const box = make("div", `alarm ${isGone ? "gone" : "wait"}`, ...text, ...list(it.instruments));
   const more = waiters.length ? [...list(waiters), waiters.length === 1 ? " waits for it" : " wait for it"] : ["nobody waits for it"];
@@ -93,7 +99,7 @@ function say(where, text) {
   if ($(where).textContent !== text) $(where).textContent = text;
 }
 function drawDisk() {
-  say("disk", status.disk ? `The broker can't write: ${status.disk}. Nobody comes to hold until it can.` : "");
+  say("disk", status.disk ? `The broker can't write: ${status.disk}. Nobody comes to hold ${(status.bays || []).length ? "there " : ""}until it can.` : "");
   $("disk").hidden = !status.disk;
   say("notice", status.notice || "");
 }
@@ -101,10 +107,10 @@ function drawDisk() {
 // the instruments, and who waits
 
 function rowOf(it, long) {
-  const holder = it.holder && station(it.holder), isGone = holder && holder.state === "gone", isEnding = holder && holder.state === "ending";
+  const holder = it.holder && station(it.holder, it.bay), isGone = holder && holder.state === "gone", isEnding = holder && holder.state === "ending";
   const isOut = it.out != null && !it.holder;
   const kind = isGone ? "gone" : isOut ? "out" : !it.holder ? (it.waiting.length ? "wait" : "free") : it.waiting.length ? "wait" : "use";
-  const row = make("div", `row ${kind}${it.holder ? " held" : ""}${long && it.holder === long.name && it.waiting.length ? " worst" : ""}`, make("span", "name", named(it.name)));
+  const row = make("div", `row ${kind}${it.holder ? " held" : ""}${long && isHeldBy(it, long) && it.waiting.length ? " worst" : ""}`, make("span", "name", named(it.name)));
   row.dataset.instrument = it.name;
   const ending = it.being_made_safe == null ? ["free soon, after "] : ["is being made safe after "];
   const state = make("span", "state", ...(it.holder ? [...(isEnding ? ending : []), named(it.holder), isGone ? " is gone" : holder && holder.state === "waiting" ? ", once that is written" : ""] : [isOut ? "out of order" : "free"]));
@@ -113,29 +119,31 @@ function rowOf(it, long) {
   row.append(state, make("span", "since", since(isEnding ? holder.since : it.holder ? it.since : null)));
   if (it.label) row.append(make("span", "line label", make("bdi", "", it.label)));
   if (it.waiting.length) row.append(make("span", "line", it.waiting.length === 1 ? "waits: " : `${it.waiting.length} wait: `, ...eachOnce(it.waiting)));
-  if (holder && holder.note) row.append(make("span", "line of-note", make("bdi", "note", holder.note)));
+  const note = holder && noteOf(holder);
+  if (note) row.append(make("span", "line of-note", make("bdi", "note", note)));
   if (it.out != null) row.append(make("span", "line", isOut ? "" : "out of order", !isOut && it.out ? ": " : "", make("bdi", "", it.out), " (says ", make("bdi", "", it.out_by), ")"));
   return row;
+}
+function noteOf(holder) {
+  // (a session over several bays has it in the first of them)
+  const noted = holder.note ? holder : status.stations.find(it => it.note && isSameSession(it, holder));
+  return noted ? noted.note : "";
 }
 function headOf(it, before) {
   // (of several bays, each with its name; on a wall beside the picture's rows there is no room for it)
   if (WALL || !it.bay || before && before.bay === it.bay) return [];
   return [make("h3", "bay", named(it.bay))];
 }
-function links(why, seen) {
+function links(why, seen, bay) {
   // the rest of a chain: who has the instrument, and, if that one only waits, for whom
-  const other = station(why.station), state = other && ["gone", "ending"].includes(other.state) ? other.state : why.holds ? "holding" : "";
+  const other = station(why.station, bay), state = other && ["gone", "ending"].includes(other.state) ? other.state : why.holds ? "holding" : "";
   // (of several bays, one that holds in this one may wait in another)
-  const more = why.holds ? status.stations.find(it => it.name === why.station && it !== other && it.state === "waiting") : null;
+  const more = why.holds && other ? status.stations.find(it => it !== other && it.state === "waiting" && isSameSession(it, other)) : null;
   const holding = other && other.state === "waiting" ? [" waits for the disk"] : [" has held for ", since(why.since), ...(more ? [", and waits in the bay ", named(more.bay)] : [])];
   const told = state === "ending" ? ["’s session is over, and it is being made safe for ", since(other.since)] : state === "gone" ? [" has been gone for ", since(other.gone_since)] : why.holds ? holding : [];
   const whose = why.holds ? more : other, next = !whose || seen.has(why.station) ? null : whose.waits_for[0];
   seen.add(why.station);
-  return [" → ", named(why.instrument), ": ", make("span", `chip ${state}`, named(why.station)), ...told, ...(next ? links(next, seen) : [])];
-}
-function overtakesOf(it) {
-  const bay = (status.bays || []).find(one => one.bay === it.bay);
-  return bay ? bay.overtakes : status.overtakes;
+  return [" → ", named(why.instrument), ": ", make("span", `chip ${state}`, named(why.station)), ...told, ...(next ? links(next, seen, whose.bay) : [])];
 }
 function sessionOf(it) {
   // (of one of several that wait as one station)
@@ -145,13 +153,13 @@ function lineOf(it) {
   if (!it.place) return "";
   const said = `, number ${it.place} in line${it.urgent ? ", urgent" : ""}`;
   if (it.keeps_place) return `${said}${it.urgent ? "" : ", and an urgent one asked after it"}: nobody who asks later goes before it`;
-  return `${said}${it.passed ? `; ${it.passed} that asked later went first, and after ${overtakesOf(it)} what it needs is kept for it` : ""}`;
+  return `${said}${it.passed ? `; ${it.passed} went before it since it asked, and after ${bayOf(it).overtakes} what it needs is kept for it` : ""}`;
 }
 function chainOf(it) {
   // (a line is too short for all of it: for what it waits stands beside the instruments, too)
   const box = WALL ? make("div", "chain", bold(it.name), it.urgent ? ", urgent, " : " ", since(it.since)) : make("div", "chain", bold(it.name), named(sessionOf(it)), " waits for ", ...list(it.instruments), ": ", since(it.since), make("span", "soft", lineOf(it)));
-  for (const why of it.waits_for.slice(0, WALL ? 1 : MOST_CHAINS)) box.append(make("div", "links", ...(WALL ? [] : [named(it.name)]), ...links(why, new Set([it.name]))));
-  if (!it.waits_for.length) box.append(make("div", "links", status.disk ? "it waits for the disk" : "nobody keeps it waiting at this moment"));
+  for (const why of it.waits_for.slice(0, WALL ? 1 : MOST_CHAINS)) box.append(make("div", "links", ...(WALL ? [] : [named(it.name)]), ...links(why, new Set([it.name]), it.bay)));
+  if (!it.waits_for.length) box.append(make("div", "links", bayOf(it).disk ? "it waits for the disk" : "nobody keeps it waiting at this moment"));
   return box;
 }
 function inLineOf(it) {
@@ -160,13 +168,14 @@ function inLineOf(it) {
   const line = lineOf(isTaken ? {...it, passed: 0, keeps_place: false} : it);
   const box = make("div", "chain", bold(it.by || "somebody"), it.station ? sessionOf(it) : "", " waits ", ...whose, isTaken ? ", and then for " : " for ", ...list(it.instruments), ": ", since(it.since), make("span", "soft", line));
   if (WALL) return box;
-  for (const why of keepers.slice(0, MOST_CHAINS)) box.append(make("div", "links", named(it.station), ...links(why, new Set([it.station]))));
+  for (const why of keepers.slice(0, MOST_CHAINS)) box.append(make("div", "links", named(it.station), ...links(why, new Set([it.station]), it.bay)));
   if (it.text) box.append(make("div", "links", make("bdi", "", it.text)));
   return box;
 }
 function drawNow() {
   const long = worst(), waiting = status.stations.filter(it => it.state === "waiting").sort((a, b) => a.since - b.since);
-  const count = state => status.stations.filter(it => it.state === state).length;
+  // (a session over several bays is one)
+  const count = state => new Set(status.stations.filter(it => it.state === state).map(it => `${it.name} ${it.by}`)).size;
   document.title = $("bay").textContent = status.bay;
   const gone = count("gone") ? `, ${count("gone")} gone` : "";
   $("about").textContent = `${count("holding")} hold, ${waiting.length + (status.in_line || []).length} wait${gone} · since ${day(status.since)}`;
@@ -326,11 +335,20 @@ function tick() {
   const isOld = heard && Date.now() - heard > SILENT * 1000;
   if (isOld) isLost();
   $("clock").textContent = heard ? hours(now()) : "";
-  if (!status || document.body.classList.contains("lost")) return;
-  for (const it of document.querySelectorAll(".ticks[data-since]")) it.textContent = ago(now() - Number(it.dataset.since));
+  if (status && !document.body.classList.contains("lost")) showSpans(now());
+}
+function showSpans(at) {
+  for (const it of document.querySelectorAll(".ticks[data-since]")) it.textContent = ago(at - Number(it.dataset.since));
+}
+function lastAnswer() {
+  // (what ends its connection was there until then, if it had said something shortly before)
+  return Date.now() - heard > BEAT * 1000 ? status.at : now();
 }
 function isLost() {
-  if (!document.body.classList.contains("lost")) $("lost").textContent = `No answer from the broker since ${heard ? hours(now()) : "the beginning"}. What is shown is old.`;
+  if (document.body.classList.contains("lost")) return;
+  $("lost").textContent = `No answer from the broker since ${heard ? hours(lastAnswer()) : "the beginning"}. What is shown is old.`;
+  // (they went on until it was seen)
+  if (heard) showSpans(lastAnswer());
   document.body.classList.add("lost");
   $("lost").hidden = false;
 }

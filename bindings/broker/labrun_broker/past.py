@@ -12,8 +12,8 @@ from datetime import datetime, timezone
 from typing import Optional, TextIO
 
 from .benches import records_of_journal
-from .sessions import ENDS, TRIED, UNKNOWN, Fault, Past, Session, bays_in, first, read_records, spans_waited_for
-from .texts import aligned, called, plain, span
+from .sessions import ENDS, TRIED, UNKNOWN, Fault, Past, Record, Session, bays_in, files_in, first, read_records, spans_waited_for
+from .texts import aligned, called, counted, plain, span
 from .words import reading
 
 
@@ -46,12 +46,14 @@ def write_csv(sessions: list[Session], until: float, out: TextIO) -> None:
         to.writerow([it.station, number, it.by, " ".join(it.instruments), iso(it.asked), iso(it.held), iso(it.ended), *spans, it.how, it.why, notes])
 
 
-def write_notes_csv(sessions: list[Session], out: TextIO) -> None:
-    """A row for each note, with its own time."""
+def write_notes_csv(sessions: list[Session], lone: list[Record], out: TextIO) -> None:
+    """A row for each note, with its own time; of those whose session isn't known, too."""
     to = csv.writer(out, lineterminator="\n")
     to.writerow(["time", "station", "session", "instruments", "note"])
-    rows = sorted((t, it.station, it.number or "", " ".join(it.instruments), text) for it in sessions for t, text in it.notes)
-    to.writerows([iso(t), *row] for t, *row in rows)
+    rows = [(t, it.station, it.number, it.instruments, text) for it in sessions for t, text in it.notes]
+    rows += [(it["t"], it.get("station") or "", it.get("session"), tuple(it.get("instruments") or ()), it.get("text") or "") for it in lone]
+    its = sorted((t, station, number or 0, " ".join(instruments), text) for t, station, number, instruments, text in rows)
+    to.writerows([iso(t), station, number or "", *row] for t, station, number, *row in its)
 
 
 OF_SESSION = ["station", "session", "asked", "waited", "held", "end", "instruments", "by", "notes"]
@@ -79,7 +81,7 @@ def without_tries(sessions: list[Session]) -> list[Session]:
 
 def write_report(past: Past, its: list[Session], since: float, until: float, out: TextIO) -> None:
     sessions = without_tries(its)
-    out.write(f"from {local(since)} to {local(until)}, {span(until - since, 2)}: {len(sessions)} sessions\n\n")
+    out.write(f"from {local(since)} to {local(until)}, {span(until - since, 2)}: {counted(len(sessions), 'session')}\n\n")
     out.write(table_of([OF_STATION, *(of_station(name, sessions, since, until) for name in past.stations)]))
     out.write("\n")
     out.write(table_of([OF_INSTRUMENT, *(of_instrument(name, sessions, since, until) for name in past.instruments)]))
@@ -115,6 +117,8 @@ def used(sessions: list[Session], since: float, until: float) -> list[str]:
 def pasts_of(path: str, bay: Optional[str]) -> dict[str, tuple[Past, list[str]]]:
     """Of each bay of a lab by its name, or of the one that is wanted; of one bay alone, without a name."""
     bays = bays_in(path) if os.path.isdir(path) else []
+    if bay is not None and not bays and os.path.isdir(path) and files_in(path):
+        raise Fault(f"{path}: it is the folder of one bay, whose name isn't in it: leave --bay out")
     if bay is not None and bay not in bays:
         raise Fault(f"{path}: there is no bay {bay} in it: there {'is' if len(bays) == 1 else 'are'} {', '.join(bays) or 'none'}")
     return {name: read_past(f"{path}/{name}") for name in bays if bay in (None, name)} or {"": read_past(path)}
@@ -135,6 +139,8 @@ def read_past(path: str) -> tuple[Past, list[str]]:
         except Fault as fault:
             raise Fault(f"{path}: {fault}") from None
     for record in records:
+        if record["what"] == "note" and past.key_of(record) not in past.now:
+            past.lone.append(record)
         past.take(record)
     return past, faults
 
@@ -163,9 +169,9 @@ def of_all(args: argparse.Namespace) -> tuple[list[Past], list[Session], float, 
 
 
 def run_table(args: argparse.Namespace) -> int:
-    _, sessions, _, until = of_all(args)
+    pasts, sessions, since, until = of_all(args)
     if args.notes:
-        write_notes_csv(sessions, sys.stdout)
+        write_notes_csv(sessions, [it for past in pasts for it in past.lone if it["t"] >= since], sys.stdout)
     elif args.csv:
         write_csv(sessions, until, sys.stdout)
     else:

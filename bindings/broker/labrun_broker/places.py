@@ -10,24 +10,31 @@ import hashlib
 import json
 import time
 from dataclasses import dataclass, field, replace
-from typing import Any, Iterable, Optional, Sequence
+from typing import Any, Iterable, Mapping, Optional, Sequence
+
+from labrun.picks import some
 
 from .bay import MOST_INSTRUMENTS, MOST_STATIONS, Bay, BayFault
-from .kept import Gone, gone_of
+from .kept import KEEP, RELEASE, Gone, Told, told_of
 from .texts import span
 
-SHOWN = 8  # names in a text
 
 GUESTS = 0
 
 
 @dataclass(frozen=True)
 class Out:
-    """Why an instrument is out of order, who says so, and since when, in seconds of Unix."""
+    """Why an instrument is out of order, who says so, and since when, in seconds of Unix; that is written. `at` is the same moment by a clock
+    that doesn't jump, as far as a broker that begins can know it."""
 
     why: str
     by: str
     since: float
+    at: float = field(default_factory=time.monotonic, compare=False)
+
+    @property
+    def span(self) -> float:
+        return time.monotonic() - self.at
 
 
 @dataclass(frozen=True)
@@ -41,22 +48,37 @@ class Former:
 
 @dataclass(frozen=True)
 class Places:
-    """`out` has what is out of order. `grace` is the longest that a client may have been told of a session that holds, in milliseconds; None: for
-    ever, of all. `gone` has the words by which it may have been told otherwise of some. `former` has the instruments that
-    were taken out; None: a broker kept it that didn't write them down."""
+    """`out` has what is out of order. `grace` is the longest that a client may have been told of a session that holds and isn't kept, in milliseconds;
+    None: each is. `gone` has the words by which it may have been told; without any, the grace says it of all. `former` has the instruments that were
+    taken out; None: a broker kept it that didn't write them down."""
 
     instruments: tuple[str, ...] = ()
     stations: tuple[str, ...] = ()
     grace: Optional[int] = 0
     out: dict[str, Out] = field(default_factory=dict)
-    gone: tuple[Gone, ...] = ()
+    gone: tuple[Told, ...] = ()
     former: Optional[dict[str, Former]] = None
 
-    def with_words(self, gone: Gone, are_kept: bool) -> Places:
-        """Clients are told by these from now on, and perhaps were by those before."""
-        before = self.gone if are_kept else ()
-        its = (*(it for it in before if it != gone), *(() if gone.is_of_all and not before else (gone,)))
-        return replace(self, gone=its)
+    @property
+    def words(self) -> tuple[Told, ...]:
+        """By which clients may have been told."""
+        return (Told(Gone(KEEP)), *self.gone) if self.grace is None else self.gone or (Told(Gone(RELEASE)),)
+
+    def told(self, station: str, instruments: Sequence[str], token: Optional[int]) -> set[bool]:
+        """What the client of a session may have been told: that it is kept, or that it isn't, or either. Without a token it may have been told so by any
+        words."""
+        its = [it for it in self.words if token is None or it.is_of(token)]
+        return {it.gone.keeps(station, instruments) for it in its or self.words}
+
+    def with_words(self, gone: Gone, before: Sequence[Told], holders: Mapping[int, bool], is_for_all: bool) -> Places:
+        """Whoever comes to hold from now on is told by these words, and with `is_for_all` also those that hold, as they come back. These are their tokens,
+        and of each whether any words count that there were (which is so of a part of a session over several bays)."""
+        now, its = 1 + max(holders, default=0), [it for it in before if not is_for_all or it.gone != gone]
+        its = [it for it in its if any(is_any or it.is_of(token) for token, is_any in holders.items())]
+        if not its and gone.is_of_all and (gone.bay == KEEP) == (self.grace is None):
+            return replace(self, gone=())
+        first = 0 if is_for_all or not its else now
+        return replace(self, gone=(*(it.below(now) for it in its), Told(gone, first)))
 
     def with_bay(self, bay: Bay, by: str = "", before: Sequence[str] = ()) -> Places:
         """The same, and places for what is new in the bay. BayFault: there are none left. `by` changes it, and these are the instruments that it
@@ -66,8 +88,8 @@ class Places:
         for what, names, most, its in (("instruments", instruments, MOST_INSTRUMENTS, bay.instruments), ("stations", stations, MOST_STATIONS, bay.stations)):
             if len(names) > most:
                 out = [it for it in names if it not in its]
-                why = f"{len(its)} in the file and {len(out)} taken out before; a state folder, or etcd, has places for {most} of both in all its life"
-                raise BayFault(what, [f"{why}: use the name of one that was taken out ({', '.join(out[:SHOWN])}), or begin anew"])
+                why = f"{len(its)} in the file and {len(out)} no longer in it; a state folder, or etcd, has places for {most} of both in all its life"
+                raise BayFault(what, [f"{why}: use the name of one that is no longer in it ({some(out)}), or begin anew"])
         new, known = Former() if self.former is None and not before else Former(by, round(time.time(), 3)), self.former or {}
         former = {name: new if name in before else known.get(name, new) for name in self.instruments if name not in bay.instruments}
         return replace(self, instruments=instruments, stations=stations, former=former)
@@ -98,8 +120,8 @@ class Places:
         return self.stations[kind - 1] if 0 < kind <= len(self.stations) else ""
 
     def text(self) -> str:
-        out = {"out": {name: vars(it) for name, it in self.out.items()}} if self.out else {}
-        gone = {"gone": [vars(it) for it in self.gone]} if self.gone else {}
+        out = {"out": {name: {"why": it.why, "by": it.by, "since": it.since} for name, it in self.out.items()}} if self.out else {}
+        gone = {"gone": [it.fields() for it in self.gone]} if self.gone else {}
         former = {} if self.former is None else {"former": {name: vars(it) for name, it in self.former.items()}}
         return json.dumps({"instruments": self.instruments, "stations": self.stations, "grace": self.grace, **out, **gone, **former}) + "\n"
 
@@ -115,7 +137,10 @@ def bits_of(bits: int) -> list[int]:
 
 def places_of(text: str) -> Places:
     """ValueError: it is none."""
-    given = json.loads(text)
+    try:
+        given = json.loads(text)
+    except RecursionError:
+        raise ValueError("it is nested too deeply") from None
     if not isinstance(given, dict) or not all(_are_names(given.get(key)) for key in ("instruments", "stations")):
         raise ValueError("names of instruments and stations are wanted")
     grace = given.get("grace")
@@ -125,12 +150,14 @@ def places_of(text: str) -> Places:
     if not isinstance(words, list):
         raise ValueError("what becomes of whoever is gone is a list")
     former = _former_of(given["former"]) if "former" in given else None
-    return Places(tuple(given["instruments"]), tuple(given["stations"]), grace, _out_of(given.get("out", {})), tuple(map(gone_of, words)), former)
+    return Places(tuple(given["instruments"]), tuple(given["stations"]), grace, _out_of(given.get("out", {})), tuple(map(told_of, words)), former)
 
 
 def _out_of(given: Any) -> dict[str, Out]:
+    now, steady = time.time(), time.monotonic()
     try:
-        return {str(name): Out(str(it["why"]), str(it["by"]), float(it["since"])) for name, it in given.items()}
+        its = ((str(name), str(it["why"]), str(it["by"]), float(it["since"])) for name, it in given.items())
+        return {name: Out(why, by, since, steady - max(0.0, now - since)) for name, why, by, since in its}
     except (AttributeError, KeyError, TypeError) as fault:
         raise ValueError(f"what is out of order: {fault!r}") from None
 
@@ -149,8 +176,3 @@ def _are_names(given: Any) -> bool:
 def mark_of(bay: Bay) -> bytes:
     """By which the machine knows the journal of this bay: by its name, for all else of it may change."""
     return hashlib.sha256(f"bay {bay.name}".encode()).digest()
-
-
-def longest(graces: Sequence[Optional[int]]) -> Optional[int]:
-    """Of some graces, of which None is for ever."""
-    return None if None in graces else max(it for it in graces if it is not None)

@@ -45,7 +45,7 @@ class Quick:
     and is told whether the broker was there. `begins` is called once it holds: what interrupts it from there on is no business of its own."""
 
     def __init__(
-        self, path: str, wish: Wish, waits: Optional[Callable[[str], None]], connects: Callable[[bool], Lab], begins: Callable[[], None],
+        self, address: str, wish: Wish, waits: Optional[Callable[[str], None]], connects: Callable[[bool], Lab], begins: Callable[[], None],
         token: Optional[str] = None,
     ) -> None:
         self.instruments, self.station, self.number, self.token = wish.instruments, wish.station, 0, 0
@@ -57,13 +57,16 @@ class Quick:
         self.is_released_if_gone = False
         self.limit: Optional[float] = None
         self.wire = Wire()
-        self._path, self._wish, self._waits, self._connects, self._begins, self._token = path, wish, waits, connects, begins, token
+        self._address, self._path = address, address.removeprefix("unix:")
+        self._wish, self._waits, self._connects, self._begins, self._token = wish, waits, connects, begins, token
         self.ticket = binascii.b2a_base64(os.urandom(32), newline=False).decode().translate({43: "-", 47: "_", 61: None})
         # where the guards of its instruments are
         self.guards: dict[str, str] = {}
         self._taken: Any = None
         self.has_asked = self._is_over = self._is_let_go = False
         self._whole: Optional[Held] = None
+        # who tells that it leaves, once the connection has ended
+        self._leaves_by: Optional[Lab] = None
         # what the broker answers while it holds
         self._answers: SimpleQueue[tuple[int, Fields]] = SimpleQueue()
 
@@ -150,21 +153,27 @@ class Quick:
             return
         self.wire.is_unlimited()
         self.wire.is_leaving = True
-        with contextlib.suppress(Odd):
+        with contextlib.suppress(Odd):  # (whoever reads sees that, too)
             self.wire.asks(LET_GO, b"")
-            leaves(self._has_left, self._wish.station)
+        with contextlib.ExitStack() as ends:
+            leaves(lambda span: self._has_left(span, ends), self._address, self._wish.station)
 
-    def _has_left(self, span: float) -> bool:
+    def _has_left(self, span: float, ends: contextlib.ExitStack) -> bool:
         """Whether the broker says so in time. (Of a session that is over it says that.)"""
         self.wire.until = until = time.monotonic() + span
-        while time.monotonic() < until:
+        while self._leaves_by is None and time.monotonic() < until:
             try:
                 if self.wire.told()[0] in (GONE, FAULT, TAKEN):
                     return True
             except Odd as fault:
+                if self.wire.is_refused:
+                    return True
                 if not isinstance(fault.__cause__, TimeoutError):
-                    raise
-        return False
+                    # (it was killed: whoever comes in its place is told)
+                    self._leaves_by = lab = self._connects(True)
+                    ends.callback(lab.close, lets_go=False)
+                    lab._leaves(self.ticket)
+        return self._leaves_by is not None and self._leaves_by._is_left(max(0.0, until - time.monotonic()))
 
     def release(self, failed: Optional[str]) -> None:
         self._is_let_go = True

@@ -7,9 +7,11 @@ import asyncio
 import contextlib
 import json
 import os
+from collections import deque
 from typing import Any, AsyncIterator, Callable, Optional, Protocol
 
 from .aside import Aside
+from .sessions import ENDS
 
 Record = dict[str, Any]
 
@@ -25,6 +27,12 @@ class Written(Protocol):
     path: str
 
     def add(self, record: Record) -> None: ...
+
+    def follows(self, at: int, has: int) -> None:
+        """The journal is handed out until `at`, with the lines of all that was added, and has what is before `has`."""
+
+    def ends(self, has: int) -> None:
+        """It has no more than that: an end that it hasn't is left out."""
 
     def write(self) -> None: ...
 
@@ -49,13 +57,16 @@ class Written(Protocol):
 
 class Records:
     """A file to whose end lines are added. What is added is written soon, with all that others add meanwhile. Nobody waits for longer than a
-    moment for a disk that hangs (aside.py)."""
+    moment for a disk that hangs (aside.py). An end of a session waits until the journal has its line, with what is added behind it, and is left
+    out if it never has: else the file would say an end that never was, and the session would go on. (A hold is told only once it has.)"""
 
     def __init__(self, path: str, syncs: bool = True) -> None:
         self.path, self._syncs = path, syncs
         self.file = os.open(path, os.O_RDWR | os.O_CREAT | os.O_APPEND | os.O_CLOEXEC, 0o640)
         # what waits, and what is being written
         self._waiting, self._writing = bytearray(), bytearray()
+        # what waits for the journal: whether each is an end; then, how far the journal has to be; and how many bytes these are
+        self._new, self._later, self._held_back = list[tuple[bool, bytes]](), deque[tuple[int, bytes]](), 0
         self._aside, self.is_under_way = Aside("records"), False
         self._is_synced, self._is_due, self._is_closed = True, False, False
         # nothing was lost: each record is in the file, or will be
@@ -67,13 +78,38 @@ class Records:
             self._waiting += b"\n"
 
     def add(self, record: Record) -> None:
-        if len(self._waiting) + len(self._writing) > MOST_WAITING:
+        if len(self._waiting) + len(self._writing) + self._held_back > MOST_WAITING:
             self.is_whole = False
             return
+        line, is_end = LINE.encode(record).encode() + b"\n", record["what"] in ENDS
+        if is_end or self._held_back:
+            self._new.append((is_end, line))
+            self._held_back += len(line)
+        else:
+            self._takes(line)
+
+    def _takes(self, line: bytes) -> None:
         if not self._is_due:
             self._is_due = True
             asyncio.get_running_loop().call_soon(self.write)
-        self._waiting += LINE.encode(record).encode() + b"\n"
+        self._waiting += line
+
+    def follows(self, at: int, has: int) -> None:
+        if self._new:
+            self._later += [(at if is_end else 0, line) for is_end, line in self._new]
+            self._new.clear()
+        while self._later and self._later[0][0] <= has:
+            line = self._later.popleft()[1]
+            self._held_back -= len(line)
+            self._takes(line)
+
+    def ends(self, has: int) -> None:
+        self.follows(has + 1, has)
+        left, self._later, self._held_back = self._later, deque(), 0
+        for at, line in left:
+            # (what isn't an end is so, whatever the journal has)
+            if not at:
+                self._takes(line)
 
     def write(self) -> None:
         """What can't be written is kept, and tried again with the next, and soon if none comes."""
@@ -110,8 +146,8 @@ class Records:
 
     @property
     def is_written(self) -> bool:
-        """Whether all that was added is in the file."""
-        return not self._waiting and not self._writing and self.is_whole
+        """Whether all that was added, and isn't left out, is in the file."""
+        return not self._waiting and not self._writing and not self._held_back and self.is_whole
 
     def sync(self) -> None:
         """What was written is on the disk, as far as that can be. Another thread may call it."""

@@ -14,8 +14,7 @@ from typing import Any, Optional
 ROOM = 1 << 18  # bytes that are read at once
 MOST_EARLY = 1 << 16  # bytes that one end may send before there is another
 LAST_WORDS = 1.0  # seconds for an answer to one that has said all, where TLS can't tell that
-AGAIN = 0.005
-_LINGER = struct.pack("ii", 1, 0)
+AGAIN, LATER = 0.005, 0.05  # seconds between two looks at what isn't sent yet: to an instrument; to a client
 
 
 class _Room(threading.local):
@@ -29,10 +28,11 @@ class _Room(threading.local):
 _room = _Room()
 
 
-def resets(one: socket.socket) -> None:
-    """However it is closed, also by the death of this process, what isn't sent is dropped, and the other side is told so (RST)."""
+def resets(one: socket.socket, does: bool = True) -> None:
+    """However it is closed, also by the death of this process, what isn't sent is dropped, and the other side is told so (RST). If it no longer
+    does, what the kernel has is sent, and then the end."""
     with contextlib.suppress(OSError):
-        one.setsockopt(socket.SOL_SOCKET, socket.SO_LINGER, _LINGER)
+        one.setsockopt(socket.SOL_SOCKET, socket.SO_LINGER, struct.pack("ii", does, 0))
 
 
 def _asked(transport: Any, question: int) -> int:
@@ -93,7 +93,9 @@ class End(asyncio.BufferedProtocol):
         self.is_through = True
         if self.other is not None:
             self.other.gets_no_more()
-        # (TLS has no half of a connection)
+        # (TLS has no half of a connection: asyncio closes it, once all is sent)
+        if self._has_tls and not self.resets:
+            self.dies_by_reset(False)
         return not self._has_tls
 
     @property
@@ -115,19 +117,24 @@ class End(asyncio.BufferedProtocol):
             asyncio.get_running_loop().call_later(LAST_WORDS, self.closes)
 
     def closes(self) -> None:
-        """Once all is sent."""
+        """Once all is sent, or the kernel has it, which sends it also if this process dies."""
         if self.over.is_set() or self.transport is None or self.transport.is_closing():
             return
-        if self.resets and self.unsent():
-            asyncio.get_running_loop().call_later(AGAIN, self.closes)
-        else:
-            self.transport.close()
+        if self.unsent() if self.resets else self.transport.get_write_buffer_size():
+            asyncio.get_running_loop().call_later(AGAIN if self.resets else LATER, self.closes)
+            return
+        if not self.resets:
+            self.dies_by_reset(False)
+        self.transport.close()
+
+    def dies_by_reset(self, does: bool = True) -> None:
+        if (one := self.transport.get_extra_info("socket")) is not None:
+            resets(one, does)
 
     def cut(self) -> None:
         """At once: what isn't sent is dropped."""
         if self.transport is not None and not self.over.is_set():
-            if (one := self.transport.get_extra_info("socket")) is not None:
-                resets(one)
+            self.dies_by_reset()
             self.transport.abort()
 
     def unsent(self) -> int:
@@ -148,12 +155,14 @@ class End(asyncio.BufferedProtocol):
 
 
 def joins(one: End, two: End) -> None:
-    """From now on what comes at one is sent by the other."""
+    """From now on what comes at one is sent by the other. `one` is the end of whoever asks: it is reset if this process dies, so that an answer
+    that was cut doesn't look whole."""
     if one.over.is_set() or two.over.is_set():
         one.cut()
         two.cut()
         return
     one.other, two.other = two, one
+    one.dies_by_reset()
     for end, other in ((one, two), (two, one)):
         early, end.early = end.early, b""
         if early:

@@ -27,8 +27,9 @@ from .bay import Bay
 from .errors import CantChange
 from .etcd import EtcdError, delete, put
 from .leading import Applied, Deposed, Leading, file_mark
+from .own import Own
 from .places import Places, places_of
-from .records import LINE, Record, Records, Written
+from .records import LINE, Record, Written
 from .sessions import parsed
 
 # bytes of a key (a request of etcd's has 1.5 MiB at most), of all records that etcd keeps, and of those that wait for it
@@ -107,7 +108,7 @@ class EtcdStore:
             # (there is one page: the next one comes as this one goes)
             self._page = int(page)
             if int(offset) != at:
-                raise JournalError(self.path, f"what was written from byte {at} on is missing")
+                raise JournalError(self.path, f"what was written from byte {at} on is missing: {self._leading.instead()}")
             parts.append(value)
             at += len(value)
         self._waiting.at = at
@@ -117,6 +118,8 @@ class EtcdStore:
         known = self._waiting.end - length
         if known < 0 or known and not self._is_read:
             raise OSError(errno.EINVAL, f"{self.path}: it ends in the midst of a line")
+        if not self._is_read:
+            self._leading.has_opened()
         self._known, self._is_read = known, True
 
     def append(self, text: bytes) -> None:
@@ -169,7 +172,7 @@ class EtcdStore:
 class EtcdRecords:
     """They go along with the journal's lines, and are written without one when there is time. A file has them, too, if one is given."""
 
-    def __init__(self, leading: Leading, file: Optional[Records]) -> None:
+    def __init__(self, leading: Leading, file: Optional[Own]) -> None:
         self._prefix, self._file = leading.prefix + b"records/", file
         self.path = f"etcd, {self._prefix.decode()}"
         self._waiting = Waiting(MOST_WAITING)
@@ -187,6 +190,15 @@ class EtcdRecords:
         self._waiting.add(LINE.encode(record).encode() + b"\n")
         if self._file is not None:
             self._file.add(record)
+
+    def follows(self, at: int, has: int) -> None:
+        # (to etcd they go with the journal's lines, in one transaction)
+        if self._file is not None:
+            self._file.follows(at, has)
+
+    def ends(self, has: int) -> None:
+        if self._file is not None:
+            self._file.ends(has)
 
     def next(self) -> tuple[int, list[Any]]:
         """How much of them is written next, and how."""
@@ -275,23 +287,31 @@ class Replica:
 
     lets_wait = True
 
-    def __init__(self, leading: Leading, file: Optional[Records] = None) -> None:
+    def __init__(self, leading: Leading, file: Optional[Own] = None) -> None:
         self._leading, self._key = leading, leading.prefix + b"places"
         its = EtcdRecords(leading, file)
         self._store = store = EtcdStore(leading, its)
         its.sends = store.sends
         self.store: Store = store
         self.records: Written = its
-        self._last, self._fence = its.last, Fence(leading)
+        self._last, self._file, self._fence = its.last, file, Fence(leading)
 
     def places(self, is_needed: bool) -> Places:
         found = self._leading.reads(self._key)
         if not found and is_needed:
-            raise JournalError(self._key.decode(), "it isn't there, and the journal can't be read without it")
+            raise JournalError(self._key.decode(), f"it isn't there, and the journal can't be read without it: {self.instead()}")
         try:
             return places_of(found[0][1].decode()) if found else Places()
         except ValueError as fault:
-            raise JournalError(self._key.decode(), f"it isn't as the broker wrote it, and the journal can't be read without it: {fault}") from None
+            why = f"it isn't as the broker wrote it, and the journal can't be read without it: {fault}; {self.instead()}"
+            raise JournalError(self._key.decode(), why) from None
+
+    def lost(self, known: Optional[int], recent: list[Record]) -> list[str]:
+        # (a line is there as a whole, or not at all; and the records are those of a machine that may have led before others)
+        return []
+
+    def instead(self) -> str:
+        return self._leading.instead()
 
     def keeps(self, places: Places) -> None:
         self._leading.does([put(self._key, places.text().encode())])
@@ -306,6 +326,10 @@ class Replica:
 
     def recent(self) -> list[Record]:
         return list(self._last)
+
+    def mends(self, missing: list[Record], holds: list[Record]) -> None:
+        if self._file is not None:
+            self._file.mends(self._last, missing, holds)
 
     async def fence(self) -> None:
         await self._fence.passes()

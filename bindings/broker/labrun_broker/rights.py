@@ -49,7 +49,7 @@ def to_enable(bay: Bay, person: str, name: str) -> str:
     if not people or person in people.operators:
         return f"once it is mended: labrun-broker enable {name}"
     if not people.operators:
-        return "nobody may enable it: the bay's file names no operators"
+        return "nobody may enable it: there are no operators"
     return f"once it is mended, ask an operator to enable it: {some(people.operators)}"
 
 

@@ -13,16 +13,16 @@ import threading
 import time
 from typing import TYPE_CHECKING, Any, Callable, Iterator, Optional, TypeVar, Union
 
-from .credentials import DEFAULT, user
+from .credentials import Address, user, without_token
 from .family import TELLING, Family, adopting, ends
-from .leaving import leaves
+from .leaving import GivenUp, leaves
 from .quick import Quick, Wish
 from .silence import Silence, first_while
-from .texts import MAY_GO_ON, addresses_of, last, plain, seconds, span, station_name, unreached
+from .texts import addresses_of, last, may_go_on, plain, seconds, span, station_name, unreached, whole_name
 from .waking import waking
 from .wire import Absent, NoBroker, Odd, Silent
 from .within import Within, around
-from .words import CANT_RUN, ENVIRONMENT, NOT_FOUND, PROGRAM, TAKEN, USAGE, add_client, files_of, lab_of, say
+from .words import CANT_RUN, ENVIRONMENT, NOT_FOUND, PROGRAM, TAKEN, USAGE, add_client, address_of, files_of, lab_of, say
 
 if TYPE_CHECKING:
     from .client import Lab
@@ -34,7 +34,7 @@ STARTING = 5.0  # seconds that a broker may take to begin
 
 
 def add_hold(parser: argparse.ArgumentParser) -> None:
-    parser.add_argument("instruments", metavar="INSTRUMENT", nargs="+", help="what the command needs, all at once; 'load-*' and tag:precise are one that is like that, '2 of load-*' two")
+    parser.add_argument("instruments", metavar="INSTRUMENT", nargs="+", type=whole_name, help="what the command needs, all at once; 'load-*' and tag:precise are one that is like that, '2 of load-*' two")
     one_of = parser.add_mutually_exclusive_group()
     one_of.add_argument("--timeout", metavar="SECONDS", type=seconds, help="how long to wait for them at most")
     one_of.add_argument("-n", "--no-wait", dest="timeout", action="store_const", const=0.0, help="take what is free, as with --timeout 0")
@@ -74,9 +74,13 @@ def run_hold(args: argparse.Namespace) -> int:
             say(f"the bay's limit counts, which is shorter: {span(held.limit, 1)}, and not {span(args.limit, 1)}")
         variables, passes = ends.enter_context(leads(held, args))
         status = runs(args.command, held, signals, address_of(args), variables)
-        if held.held:
+        if status == TAKEN and not held.held:
+            # (why was said as the command was ended, and whoever closes the session would say it once more)
+            with contextlib.suppress(Exception):
+                ends.close()
+        else:
             passes()
-            lets_go(held, status, signals, ends)
+            lets_go(held, address_of(args), status, signals, ends)
     return status
 
 
@@ -92,7 +96,7 @@ def leads(held: Union[Quick, Held], args: argparse.Namespace) -> Iterator[tuple[
         yield found
 
 
-def lets_go(held: Union[Quick, Held], status: int, signals: Signals, ends: contextlib.ExitStack) -> None:
+def lets_go(held: Union[Quick, Held], address: str, status: int, signals: Signals, ends: contextlib.ExitStack) -> None:
     try:
         with signals.giving_up(status):
             held.release(f"status {status}" if status else None)
@@ -100,15 +104,24 @@ def lets_go(held: Union[Quick, Held], status: int, signals: Signals, ends: conte
         # (whatever is closed now might try to tell the broker once more)
         ends.pop_all()
         if not isinstance(fault, GivenUp):
-            raise as_told(status, fault) from None
-        say(f"the broker wasn't told, as far as is known here: {MAY_GO_ON}")
+            raise as_told(status, fault, held, address) from None
+        say(f"the broker wasn't told, as far as is known here: {goes_on(held, address)}")
 
 
-def as_told(status: int, fault: BaseException, until: str = "") -> BaseException:
+def as_told(status: int, fault: BaseException, held: Union[Quick, Held], address: str) -> BaseException:
     """Why the session wasn't ended properly, once it is said that the command ran."""
     say(f"the command ran, and ended with status {status}, but:")
+    if type(fault).__name__ == "NotHeld":
+        # (the broker has forgotten it, as one without --state that was started again: others may have held meanwhile)
+        from .errors import TakenAway
+
+        return TakenAway(str(fault))
     why = f"{fault}\n" if str(fault) else ""
-    return type(fault)(f"{why}{MAY_GO_ON}{until}") if isinstance(fault, ConnectionError) else fault
+    return type(fault)(why + goes_on(held, address)) if isinstance(fault, ConnectionError) else fault
+
+
+def goes_on(held: Union[Quick, Held], address: str) -> str:
+    return may_go_on(address, held.station, held.number, held.is_released_if_gone)
 
 
 class Start:
@@ -138,10 +151,6 @@ def is_absent(fault: Exception) -> bool:
     return isinstance(fault, Absent) or bool(is_unreachable)
 
 
-def address_of(args: argparse.Namespace) -> str:
-    return str(args.broker or os.environ.get("LABRUN_BROKER") or DEFAULT)
-
-
 def holds(args: argparse.Namespace, wish: Wish, waits: Waits, signals: Signals, ends: contextlib.ExitStack, within: Within) -> Union[Quick, Held]:
     """A session that holds, until the end of `ends`."""
 
@@ -162,40 +171,51 @@ def holds(args: argparse.Namespace, wish: Wish, waits: Waits, signals: Signals, 
         tried: list[Quick] = []
 
         def quickly() -> Quick:
-            tried[:] = [Quick(address.removeprefix("unix:"), wish._replace(timeout=left()), waits, connects, signals.begins, token)]
+            tried[:] = [Quick(address, wish._replace(timeout=left()), waits, connects, signals.begins, token)]
             tried[0].on_lacking, tried[0].silence = within.lacks, silence
             return ends.enter_context(tried[0])
 
         try:
             with silence.ticking(lambda: tried[0].pings() if tried else None):
                 return start.tries(quickly)
-        except Silent:
-            from .errors import Unreachable
-
-            raise Unreachable(f"the broker at {address} doesn't answer") from None
-        except (Absent, NoBroker) as fault:
-            # (the whole client would find out no more, and begins late)
-            raise type(fault)(unreached(address, str(fault))) from None
+        except (Silent, Absent, NoBroker) as fault:
+            raise why_not(address, fault) from None
         except Odd:
             was_there, ticket = tried[0].wire.was_there, tried[0].ticket if tried[0].has_asked else ""
             silence.is_cut()
-    lab = ends.enter_context(connects(was_there))
+    lab: Lab
+    helds: list[Held] = []
 
     def wholly() -> Held:
         held = lab.hold(*wish.instruments, any_of=wish.any_of, timeout=left(), waits=waits, limit=wish.limit, urgent=wish.urgent)
         # (it may hold by now, and the broker's word be lost)
         held.on_lacking, held._ticket, held._silence = within.lacks, ticket, silence
+        helds.append(held)
         return ends.enter_context(held)
 
     try:
+        with signals.later():
+            lab = ends.enter_context(connects(was_there))
         return start.tries(wholly)
     except (KeyboardInterrupt, SystemExit):
         silence.ends()
-        leaves(lab._is_left, wish.station)
+        if ticket and all(it.state == "new" for it in helds):
+            # (each that has begun tells by itself)
+            lab._leaves(ticket)
+        leaves(lab._is_left, address, wish.station)
         raise
 
 
-def runs(command: list[str], held: Union[Quick, Held], signals: Signals, address: str = "", more: dict[str, str] = {}) -> int:
+def why_not(address: str, fault: Exception) -> Exception:
+    """Why no broker can be asked: the whole client would find out no more, and begins late."""
+    if isinstance(fault, Silent):
+        from .errors import Unreachable
+
+        return Unreachable(f"the broker at {address} doesn't answer")
+    return type(fault)(unreached(address, str(fault)))
+
+
+def runs(command: list[str], held: Union[Quick, Held], signals: Signals, address: Address, more: dict[str, str] = {}) -> int:
     """Runs a command, and gives its status. A session that is taken away ends it."""
     its = {"LABRUN_HELD": " ".join(held.instruments), "LABRUN_STATION": held.station, "LABRUN_TOKEN": str(held.token)}
     environment = {**ENVIRONMENT, **its, **more, "LABRUN_AROUND": around(address, held)}
@@ -217,10 +237,8 @@ def runs(command: list[str], held: Union[Quick, Held], signals: Signals, address
     status = signals.wait()
     status = status if status >= 0 else 128 - status
     if taken and isinstance(taken[0], ConnectionError):
-        # (it isn't taken away: the broker lets this client in no more, and keeps what it holds)
-        by = 'the broker releases it (gone = "release")' if held.is_released_if_gone else "an operator releases it"
-        # (and why was said as the command was ended)
-        raise as_told(status, type(taken[0])(""), f", until {by}")
+        # (it isn't taken away: the broker lets this client in no more, and keeps what it holds. Why was said as the command was ended)
+        raise as_told(status, type(taken[0])(""), held, without_token(address))
     return TAKEN if taken else status
 
 
@@ -240,11 +258,8 @@ def ending_too(command: list[str], environment: dict[str, str]) -> list[str]:
     return [*ENDS_TOO, str(os.getpid()), *command]
 
 
+PASSED_ON = (signal.SIGINT, signal.SIGTERM, signal.SIGHUP, signal.SIGQUIT)
 LATE = 1.5  # seconds, after which it is said that the broker doesn't answer
-
-
-class GivenUp(Exception):
-    """Whoever waits doesn't want to wait until the broker answers."""
 
 
 class Signals:
@@ -268,6 +283,17 @@ class Signals:
         for number in self.came:
             self.send(number)
         return process
+
+    @contextlib.contextmanager
+    def later(self) -> Iterator[None]:
+        """What comes meanwhile interrupts only then: an import that is left half done can't be done again."""
+        self.is_starting = True
+        try:
+            yield
+        finally:
+            self.is_starting = False
+        for number in self.came:
+            self.comes(number, None)
 
     def comes(self, number: int, _: object) -> None:
         if self.is_telling:
@@ -316,7 +342,6 @@ class Signals:
             self.family.wait_for_all(lambda names: say(f"waits until what the command started has ended: {plain(names)}"))
         return status
 
-
     @contextlib.contextmanager
     def giving_up(self, status: int) -> Iterator[None]:
         """While the broker is told that the command has ended. Mostly it answers at once, and then no signal keeps it from being told."""
@@ -327,7 +352,7 @@ class Signals:
                 first.append(signal.setitimer(signal.ITIMER_REAL, LATE / 5))
                 return
             self.is_late = True
-            say(f"the command has ended with status {status}; the broker doesn't answer; hold keeps trying to tell it for a minute, and Ctrl-C ends that")
+            say(f"the command has ended with status {status}; the broker hasn't answered yet; hold keeps trying to tell it, and Ctrl-C ends that")
             self.gives_up()
 
         first: list[object] = []
@@ -348,7 +373,8 @@ class Signals:
 @contextlib.contextmanager
 def passing_on() -> Iterator[Signals]:
     signals = Signals()
-    numbers = (signal.SIGINT, signal.SIGTERM, signal.SIGHUP, signal.SIGQUIT)
+    # (what nohup, or a shell that runs this in the background, has it ignore stays ignored, here and by the command)
+    numbers = [it for it in PASSED_ON if signal.getsignal(it) is not signal.SIG_IGN]
     with waking():
         before = {number: signal.signal(number, signals.comes) for number in numbers}
         try:

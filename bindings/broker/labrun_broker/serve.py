@@ -6,10 +6,12 @@ import argparse
 import asyncio
 import contextlib
 import dataclasses
+import os
 import resource
 import signal
 import sys
-from typing import TYPE_CHECKING, Any, Awaitable, Callable, Optional
+import threading
+from typing import TYPE_CHECKING, Any, Awaitable, Callable, Iterator, Optional
 
 import labrun
 
@@ -18,9 +20,10 @@ from .credentials import DEFAULT
 from .labs import Lab, read_any, texts_of
 from .standby import add_etcd, until_it_leads
 from .texts import called, counted, mebibytes, plain, seconds
-from .words import USAGE, reading, say, tell_systemd
+from .words import NOT_WRITTEN, USAGE, reading, say, tell_systemd
 
 if TYPE_CHECKING:
+    from .aside import Aside
     from .door import Door
     from .entrance import Entrance
     from .folder import State
@@ -45,7 +48,7 @@ def add_serve(parser: argparse.ArgumentParser) -> None:
     parser.add_argument("--metrics", metavar="ADDR", help="tell Prometheus there")
     parser.add_argument("--tls-certificate", metavar="FILE", help="for other machines: the broker's certificate")
     parser.add_argument("--tls-key", metavar="FILE", help="its key")
-    parser.add_argument("--token-file", metavar="FILE", help="what clients have to know that come by the network")
+    parser.add_argument("--token-file", metavar="FILE", help="what clients have to know that come by the network: each line of it lets in")
     add_etcd(parser)
     parser.add_argument("--sync", choices=("data", "none"), default="data", help="none: what is written outlives the broker, and may not the machine")
 
@@ -57,7 +60,7 @@ def run_serve(args: argparse.Namespace) -> int:
 async def serve(args: argparse.Namespace) -> int:
     # (what only the broker needs: a client begins sooner without)
     from . import door, service
-    from .aside import Lines
+    from .aside import Aside, Lines
     from .bays import Bays
     from .entrance import Entrance
     from .folder import Folder
@@ -106,9 +109,10 @@ async def serve(args: argparse.Namespace) -> int:
     keeping.says = begins.append
     ends = contextlib.AsyncExitStack()
     try:
-        await keeping.open()
+        with told_if_late(args.state, args.etcd):
+            await keeping.open()
         ends.push_async_callback(keeping.close)
-        entrance = Entrance(keeping, its_door.token(), its_door.seen_without_token(by_http))
+        entrance = Entrance(keeping, its_door.tokens(), its_door.seen_without_token(by_http))
         # (whoever finds the broker's socket finds that of HTTP, too: it is there sooner, and for longer)
         for runner in await by_requests(args, keeping, by_http, entrance):
             ends.push_async_callback(runner.cleanup)
@@ -126,40 +130,73 @@ async def serve(args: argparse.Namespace) -> int:
         lines = Lines(say)
         keeping.says = lambda text: lines.add(plain(text)[:MOST_TOLD]) if door.is_read() else None
         tell_systemd("READY=1\nSTATUS=")
-        asyncio.get_running_loop().add_signal_handler(signal.SIGHUP, lambda: hears(keeping, args.bay))
+        files = Aside("files")
+        asyncio.get_running_loop().add_signal_handler(signal.SIGHUP, lambda: hears(keeping, args.bay, files))
         await end.wait()
+        keeping.begins_to_end()
         tell_systemd("STOPPING=1")
-        return 0
     finally:
         await ends.aclose()
+    for text in keeping.lost:
+        keeping.says(text)
+    await lines.are_said()
+    return NOT_WRITTEN if keeping.lost else 0
 
 
-def hears(keeping: Kept, path: str) -> None:
-    """SIGHUP: the bay goes on as its file has it by now."""
-    task = asyncio.ensure_future(applies(keeping, path))
+@contextlib.contextmanager
+def told_if_late(state: Optional[str], etcd: Optional[str]) -> Iterator[None]:
+    """A disk that hangs, or an etcd that is slow, holds up the loop, and signals with it, while the state is opened. (At etcd `state` is for the
+    records alone.)"""
+    from .turning import STANDS
+
+    what, why = (state, "a disk doesn't answer") if etcd is None else (f"the state in etcd at {etcd}", "etcd is slow")
+    late = threading.Timer(STANDS, lambda: say(plain(f"{what} isn't open after {STANDS:g} s, as where {why}; nobody is let in before it is")))
+    late.daemon = True
+    if what is not None:
+        late.start()
+    try:
+        yield
+    finally:
+        late.cancel()
+
+
+def hears(keeping: Kept, path: str, files: Aside) -> None:
+    """SIGHUP: the bay goes on as its file has it by now. On a disk that hangs it may take for ever to read that; and what is read is applied in
+    the order of the signals."""
+    task = asyncio.ensure_future(applies(keeping, path, files))
     keeping.tasks.add(task)
     task.add_done_callback(keeping.tasks.discard)
 
 
-async def applies(keeping: Kept, path: str) -> None:
+async def applies(keeping: Kept, path: str, files: Aside) -> None:
     try:
-        if not await applies_file(keeping, path):
+        if not await applies_file(keeping, path, files):
             keeping.says(f"{path}: nothing has changed")
     except (labrun.LabrunError, OSError, ValueError) as fault:
         for line in str(fault).split("\n"):
             keeping.says(f"{path}: {line}")
 
 
-async def applies_file(keeping: Kept, path: str) -> list[str]:
+async def applies_file(keeping: Kept, path: str, files: Aside) -> list[str]:
     from .applying import apply
     from .bays import Bays
     from .lab_applying import apply_lab
 
-    if not isinstance(keeping, Bays):
-        with open(path, encoding="utf-8") as file:
-            return await apply(keeping, file.read(), "a signal", False)
-    text, texts = texts_of(path)
-    return await apply_lab(keeping, text, texts, "a signal", False)
+    is_lab = isinstance(keeping, Bays)
+    text, texts = await files.given(lambda: its_texts(path, is_lab))
+    if isinstance(keeping, Bays):
+        return await apply_lab(keeping, text, texts, "a signal", False)
+    return await apply(keeping, text, "a signal", False)
+
+
+def its_texts(path: str, is_lab: bool) -> tuple[str, dict[str, str]]:
+    if os.path.exists(path) and not os.path.isfile(path):
+        # (it would be waited for whoever writes into a pipe)
+        raise OSError("it is no file")
+    if is_lab:
+        return texts_of(path)
+    with open(path, encoding="utf-8") as file:
+        return file.read(), {}
 
 
 # (what needs packages that the broker alone doesn't)

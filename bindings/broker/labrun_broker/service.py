@@ -72,36 +72,48 @@ class Client:
         self.keeping, self.context, self.person = keeping, context, person
         self.session: Optional[Session] = None
         self.pace = Pace(keeping.bay.limits.requests)
-        # what waits until it holds
+        # what waits until it holds; and a note that isn't answered yet
         self._waiting: Optional[asyncio.Task[None]] = None
+        self._noting: Optional[asyncio.Task[None]] = None
         self._writing = asyncio.Lock()
         self._tasks: set[asyncio.Task[None]] = set()
 
     async def talk(self) -> None:
-        answers: dict[str, Callable[[Any], Awaitable[None]]] = {"wish": self._wish, "note": self._note, "let_go": self._let_go, "ping": self._ping}
         try:
             while (ask := await self.context.read()) is not grpc.aio.EOF:
                 self._is_heard()
                 if (span := self.pace.span()) > 0:
                     await asyncio.sleep(span)
                 kind = ask.WhichOneof("ask")
-                try:
-                    if kind is None:
-                        raise BadWish("a wish, a note or a let_go is wanted")
-                    if self._waiting is not None and kind not in ("let_go", "ping"):
-                        raise BadWish("this stream waits: only let_go may come meanwhile, which gives up")
-                    await answers[kind](getattr(ask, kind))
-                except labrun.LabrunError as fault:
-                    await self._tell(pb.Told(fault=fault_of(fault)))
-                # (a client whose word took long, as on a slow disk, wasn't silent meanwhile)
-                self._is_heard()
+                if self._noting is not None and not self._noting.done() and kind != "ping":
+                    await asyncio.wait({self._noting})
+                if kind == "note":
+                    # (a disk may take its time, and the client says meanwhile that it is there)
+                    self._noting = self._starts(self._answers(kind, ask))
+                else:
+                    await self._answers(kind, ask)
             if self._waiting is not None:
                 await self._give_up(self._waiting)
         finally:
-            if self._waiting is not None:
-                self._waiting.cancel()
+            # (nobody is there to be answered)
+            for task in (self._waiting, self._noting):
+                if task is not None:
+                    task.cancel()
             if self.session is not None:
                 self.keeping.gone(self.session, self)
+
+    async def _answers(self, kind: Optional[str], ask: Any) -> None:
+        answers: dict[str, Callable[[Any], Awaitable[None]]] = {"wish": self._wish, "note": self._note, "let_go": self._let_go, "ping": self._ping}
+        try:
+            if kind is None:
+                raise BadWish("a wish, a note or a let_go is wanted")
+            if self._waiting is not None and kind not in ("let_go", "ping"):
+                raise BadWish("this stream waits: only let_go may come meanwhile, which gives up")
+            await answers[kind](getattr(ask, kind))
+        except labrun.LabrunError as fault:
+            await self._tell(pb.Told(fault=fault_of(fault)))
+        # (a client whose word took long, as on a slow disk, wasn't silent meanwhile)
+        self._is_heard()
 
     def _is_heard(self) -> None:
         if self.session is not None:
@@ -333,7 +345,7 @@ async def start(keeping: Kept, door: Door, entrance: Optional[Entrance] = None) 
     """The server, which has begun to listen. BadAddress and OSError say why it can't."""
     door.check()
     fronts = Fronts() if keeping.bay.people else None
-    service, credentials = Service(keeping, entrance or Entrance(keeping, door.token()), fronts), door.credentials()
+    service, credentials = Service(keeping, entrance or Entrance(keeping, door.tokens()), fronts), door.credentials()
     within = {it: it + WITHIN if fronts is not None and it.startswith("unix:") else it for it in door.addresses}
     # (a server of gRPC that is made and not started may keep the program from ending, so all is looked at before)
     for address, inner in within.items():

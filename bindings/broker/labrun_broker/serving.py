@@ -86,7 +86,7 @@ class Refusing(asyncio.Protocol):
         transport.abort()  # type: ignore[attr-defined]
 
 
-def limited(server: web.Server, silent: set[Any], more: int) -> Callable[[], asyncio.BaseProtocol]:
+def limited(server: web.Server, silent: set[Any], more: Callable[[], int]) -> Callable[[], asyncio.BaseProtocol]:
     """Makes the end of a new connection: no more than so many, and none that stays without a word."""
 
     def let_go(handler: Any) -> None:
@@ -96,7 +96,7 @@ def limited(server: web.Server, silent: set[Any], more: int) -> Callable[[], asy
                 handler.transport.abort()
 
     def new() -> asyncio.BaseProtocol:
-        if len(server.connections) >= MOST_CONNECTIONS + more:
+        if len(server.connections) >= MOST_CONNECTIONS + more():
             return Refusing()
         handler = server()
         silent.add(handler)
@@ -146,8 +146,10 @@ async def serve(app: web.Application, address: str, group: Optional[str] = None)
     return await served(app, at, group)
 
 
-async def served(app: web.Application, at: Address, group: Optional[str], tls: Optional[ssl.SSLContext] = None, more: int = 0) -> Served:
-    """As `serve`, wherever it is, to so many more connections."""
+async def served(
+    app: web.Application, at: Address, group: Optional[str], tls: Optional[ssl.SSLContext] = None, more: Callable[[], int] = lambda: 0
+) -> Served:
+    """As `serve`, wherever it is, to so many more connections, which may be others later."""
     app[IS_TCP], app[SILENT] = not isinstance(at, str), set()
     app.middlewares.insert(0, is_no_longer_silent)
     runner = web.AppRunner(app, access_log=None, logger=LOG)

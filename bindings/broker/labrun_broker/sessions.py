@@ -7,7 +7,7 @@ import json
 import os
 import re
 from dataclasses import dataclass, field
-from typing import Any, AsyncIterator, Callable, Iterator, Optional, Reversible
+from typing import Any, AsyncIterator, Callable, Iterable, Iterator, Optional, Reversible
 
 from .words import reading
 
@@ -19,6 +19,8 @@ ENDS = {"let_go": "done", "gave_up": "gave up", "taken": "taken away", "failed":
 TRIED = ENDS["tried"]
 # a session that isn't over, and one whose end no record tells
 WAITS, HOLDS, UNKNOWN = "waits", "holds", "end unknown"
+# ..or of which a record says that (own.py), for the journal knows no more of it
+OVER = {**ENDS, "unknown": UNKNOWN}
 
 
 @dataclass
@@ -66,6 +68,8 @@ class Past:
     def __init__(self) -> None:
         self.now: dict[Key, Session] = {}
         self.ended: list[Session] = []
+        # notes of sessions that aren't known, if somebody keeps them (past.py)
+        self.lone: list[Record] = []
         self.instruments: dict[str, None] = {}
         self.stations: dict[str, None] = {}
         self.begun: Optional[float] = None
@@ -90,12 +94,12 @@ class Past:
         session = self.now.get(key)
         if session is None:
             return None
-        if what in ENDS:
+        if what in OVER:
             if session.held is None:
                 session.wait = record.get("after")
             else:
                 session.work = record.get("after")
-            return self._end(key, t, ENDS[what], record.get("text") or "")
+            return self._end(key, t, OVER[what], record.get("text") or "")
         if what == "note":
             session.notes.append((t, record.get("text") or ""))
         elif what in ("gone", "back"):
@@ -199,8 +203,8 @@ def read_records(folder: str) -> tuple[list[Record], list[str]]:
         with reading(path), open(path, "rb") as file:
             found = [parsed(line) for line in file if line.strip()]
         whole = [it for it in found if it is not None]
-        if len(whole) < len(found):
-            faults.append(f"{path}: {len(found) - len(whole)} of {len(found)} lines are no whole records, and left out")
+        if lost := len(found) - len(whole):
+            faults.append(f"{path}: {lost} of {len(found)} lines {'is no whole record' if lost == 1 else 'are no whole records'}, and left out")
         records += whole
     return records, faults
 
@@ -218,6 +222,28 @@ def recent_records(folder: str, most: int = 1 << 23) -> list[Record]:
         if most <= 0:
             break
     return [it for it in map(parsed, found) if it is not None]
+
+
+def each_record(folder: str) -> Iterator[Record]:
+    """All of a state folder, one by one, for there may be many."""
+    for path in files_in(folder):
+        with open(path, "rb") as file:
+            yield from (it for it in map(parsed, file) if it is not None)
+
+
+def held_by(records: Iterable[Record]) -> list[Record]:
+    """Of each session that holds by the records, that of its hold."""
+    found: dict[Key, Record] = {}
+    for it in records:
+        key = it.get("station") or "", it.get("session")
+        if it["what"] == "held":
+            found[key] = it
+        elif it["what"] in OVER:
+            found.pop(key, None)
+        elif it["what"] == "opened" and not it.get("text"):
+            # (that broker found nobody who held)
+            found.clear()
+    return list(found.values())
 
 
 def parsed(line: bytes) -> Optional[Record]:

@@ -62,6 +62,10 @@ def settled(work: Work) -> Work:
     async def works(keeping: Any, *given: Any, **more: Any) -> Any:
         try:
             return await work(keeping, *given, **more)
+        except labrun.JournalError:
+            # (it was waited for that already, as long as it says)
+            await keeping.settling.leads()
+            raise
         except labrun.LabrunError:
             await keeping.settling.answers()
             raise

@@ -119,6 +119,7 @@ class Shell:
             self._is_urgent = self._is_urgent or b" hold " in text
         if self._later and not self._is_writing:
             self._puts(self._store)
+        self.turns.follows(self._handed, self._durable if self._aside is None or self._last_fault is not None else self._written)
         if self._written > self._durable or self._takes_all:
             self._syncs_in(0.0 if self._is_urgent or self._waiting else SOON)
 
@@ -198,16 +199,18 @@ class Shell:
         if not self._is_slow:
             self._is_slow = True
             self._is_wrong_since(self.now() - int(SLOW * 1000))
-            self._says(f"{self.path}: {self._because()}: nobody is told that it holds until it does")
+            self._says(f"{self.path}: {self.because()}: nobody is told that it holds until it does")
 
     def _is_synced(self, position: int, took_all: bool = False) -> None:
         if self._slow_timer is not None:
             self._slow_timer.cancel()
         if self._is_closed:
+            self._durable = max(self._durable, position)
             return
         self._durable, self._pause = position, AGAIN
         if (self._last_fault is not None or self._is_slow) and self.fault is None and not self._is_writing:
             self._last_fault, self._is_slow, self.wrong_since = None, False, None
+            self.turns.follows(self._handed, self._durable)
             self._says(f"{self.path}: all is written")
         self.machine.durable(position)
         for upto, wants_all, one in self._waiting:
@@ -230,6 +233,10 @@ class Shell:
     @property
     def written(self) -> int:
         return self._written
+
+    @property
+    def on_disk(self) -> int:
+        return self._durable
 
     async def runs(self, does: Callable[[], None]) -> None:
         """Something is done on the thread; what it raises is raised here."""
@@ -290,7 +297,7 @@ class Shell:
             is_new, self.fault, self._last_fault = self._last_fault is None, fault, fault
             self._is_wrong_since(self.now())
             if is_new:
-                self._says(f"{self.path}: {self._because()}, and is tried again: nobody is told that it holds until then")
+                self._says(f"{self.path}: {self.because()}, and is tried again: nobody is told that it holds until then")
             self._mending = self._loop.create_task(self._mends())
 
     async def _mends(self) -> None:
@@ -354,9 +361,9 @@ class Shell:
 
     def why(self) -> JournalError:
         """Why something isn't on the disk."""
-        return JournalError(self.path, f"it isn't {self.where} after {DISK:g} s: {self._because()}")
+        return JournalError(self.path, f"it isn't {self.where} after {DISK:g} s: {self.because()}")
 
-    def _because(self) -> str:
+    def because(self) -> str:
         it = self._last_fault
         return f"{self.what} doesn't answer" if it is None else f"a write failed ({getattr(it, 'strerror', None) or it})"
 
@@ -366,10 +373,10 @@ class Shell:
 
     def is_wrong(self) -> str:
         """What is wrong with the disk; mostly nothing."""
-        return self._because() if self._is_slow or self._last_fault is not None else ""
+        return self.because() if self._is_slow or self._last_fault is not None else ""
 
     async def close(self) -> None:
-        """All is on the disk, as far as that can be. Nobody is told anything any more."""
+        """All is on the disk, as far as that can be. Nobody is told anything any more. (The machine is there, for what isn't.)"""
         if self._is_closed:
             return
         try:
@@ -386,7 +393,6 @@ class Shell:
         self._thread.shutdown(wait=False)
         if self._aside is not None:
             self._aside.ends()
-        self.machine.free()
 
     async def has_ended(self) -> bool:
         """Once it is closed: whether its thread has ended, so that nothing is written any more. Else the disk doesn't answer."""

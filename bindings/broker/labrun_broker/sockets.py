@@ -14,10 +14,13 @@ import stat
 from typing import Callable, Iterator, Optional, Union
 
 from .bay import BadAddress
-from .words import reading
+from .credentials import is_certificate
+from .words import NoFile, reading
 
 # its owner and the group, or its owner alone
 THE_GROUP, ITS_USER = 0o117, 0o177
+MOST_PORT = 65535
+NO_CERTIFICATE = "there is no certificate in it (as PEM)"
 
 
 def parsed(text: str) -> Union[str, tuple[str, int]]:
@@ -27,8 +30,8 @@ def parsed(text: str) -> Union[str, tuple[str, int]]:
     host, colon, port = text.rpartition(":")
     if not colon or not port.isascii() or not port.isdigit():
         raise BadAddress(f"{text}: unix:PATH or HOST:PORT is wanted")
-    if int(port) > 65535:
-        raise BadAddress(f"{text}: it can't listen there: a port is 65535 at most")
+    if int(port) > MOST_PORT:
+        raise BadAddress(f"{text}: it can't listen there: a port is {MOST_PORT} at most")
     return host.strip("[]"), int(port)
 
 
@@ -48,16 +51,43 @@ async def listens(at: tuple[str, int], new: Callable[[], asyncio.BaseProtocol], 
 
 
 def tls_of(certificate: str, key: str) -> ssl.SSLContext:
-    """NoFile; BadAddress: these files are no certificate and its key."""
-    for option, path in (("--tls-certificate", certificate), ("--tls-key", key)):
-        with reading(f"{option} {path}"), open(path, "rb"):
-            pass
+    """NoFile: a file can't be read, or hasn't what it should; BadAddress: they don't go together, or aren't strong enough."""
+    with reading(f"--tls-certificate {certificate}"), open(certificate, "rb") as file:
+        is_one = is_certificate(file.read())
+    with reading(f"--tls-key {key}"), open(key, "rb"):
+        pass
+    if not is_one:
+        raise NoFile(f"--tls-certificate {certificate}: {NO_CERTIFICATE}")
     made = ssl.SSLContext(ssl.PROTOCOL_TLS_SERVER)
     try:
         made.load_cert_chain(certificate, key)
     except ssl.SSLError as fault:
-        raise BadAddress(f"{certificate} and {key} are no certificate and its key: {fault.reason or fault}") from None
+        if _is_weak(fault):
+            raise BadAddress(f"--tls-certificate {certificate}: this isn't strong enough: {fault.reason}") from None
+        raise (BadAddress if _is_anothers(fault) else NoFile)(f"--tls-key {key}: {_why_no_key(fault, certificate)}") from None
     return made
+
+
+def why_no_key(certificate: str, key: str) -> str:
+    """Why a file doesn't have the key of a certificate, if it doesn't. (One that isn't strong enough here may be so for whoever asks for it.)"""
+    try:
+        ssl.SSLContext(ssl.PROTOCOL_TLS_CLIENT).load_cert_chain(certificate, key)
+    except ssl.SSLError as fault:
+        return "" if _is_weak(fault) else _why_no_key(fault, certificate)
+    return ""
+
+
+def _is_weak(fault: ssl.SSLError) -> bool:
+    return "TOO_" in (fault.reason or "")
+
+
+def _is_anothers(fault: ssl.SSLError) -> bool:
+    """(The latter of a key of another kind.)"""
+    return "MISMATCH" in (fault.reason or "") or fault.reason == "NO_CERTIFICATE_ASSIGNED"
+
+
+def _why_no_key(fault: ssl.SSLError, certificate: str) -> str:
+    return f"this isn't the key of the certificate {certificate}" if _is_anothers(fault) else "there is no key in it (as PEM)"
 
 
 def family_of(host: str) -> socket.AddressFamily:

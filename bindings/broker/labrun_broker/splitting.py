@@ -98,17 +98,17 @@ def told(folder: str, most: int) -> list[str]:
     if not sessions:
         raise Fault(f"{folder}: nobody held anything yet")
     cut, bays = split(sessions, together, most)
-    lines = [f"{counted(len(bays), 'bay')}: {cut} of {counted(sum(sessions.values()), 'session')} need more than one"]
+    lines = [f"{counted(len(bays), 'bay')}: {cut} of {counted(sum(sessions.values()), 'session')} need{'s' if cut == 1 else ''} more than one"]
     lines += [f"bay {at}: {plain(' '.join(sorted(it)))}" for at, it in enumerate(bays, 1)]
     crossing = sorted(((count, sorted(it)) for it, count in sessions.items() if not any(it <= bay for bay in bays)), key=lambda it: (-it[0], it[1]))
     lines += [f"{count} of them: {plain(' '.join(names))}" for count, names in crossing[:SHOWN]]
-    return lines + ([f"{len(crossing) - SHOWN} other sets of instruments, too"] if len(crossing) > SHOWN else [])
+    return lines + ([f"{counted(len(crossing) - SHOWN, 'other set')} of instruments, too"] if len(crossing) > SHOWN else [])
 
 
 def prints(folder: str, most: int) -> int:
     """The command; its status."""
-    if most < 1:
-        say("--most is 1 or more")
+    if not 1 <= most <= MOST:
+        say(f"--most is from 1 to {MOST}, which a bay may have")
         return USAGE
     print("\n".join(told(folder, most)))
     return 0

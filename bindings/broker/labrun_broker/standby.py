@@ -14,14 +14,17 @@ from typing import TYPE_CHECKING, Any, Callable, NamedTuple, Optional
 
 from labrun import LabrunError
 
-from .bay import BadAddress, Bay, BayFault, read_bay
-from .sockets import parsed
-from .words import NOT_WRITTEN, reading, say, tell_systemd
+from .aside import Aside
+from .bay import Bay, BayFault, read_bay
+from .credentials import is_certificate
+from .sockets import MOST_PORT, NO_CERTIFICATE, parsed, why_no_key
+from .words import NOT_WRITTEN, NoFile, reading, say, tell_systemd
 
 if TYPE_CHECKING:
     from .door import Door
     from .etcd import Etcd
     from .folder import State
+    from .own import Own
 
 # seconds of a lease. (etcd has none that is much shorter; and a broker that etcd doesn't answer ends before it would tell anybody that his wish
 # wasn't written)
@@ -41,6 +44,10 @@ def add_etcd(parser: argparse.ArgumentParser) -> None:
     parser.add_argument("--etcd-password-file", metavar="FILE", help="that user's password")
 
 
+class WrongWords(Exception):
+    """Of the options for etcd."""
+
+
 def lease_of(text: str) -> int:
     if not text.isascii() or not text.isdigit() or not LEAST_LEASE <= int(text) <= MOST_LEASE:
         raise argparse.ArgumentTypeError(f"{text}: whole seconds from {LEAST_LEASE} to {MOST_LEASE} are wanted")
@@ -57,24 +64,48 @@ def content(args: argparse.Namespace, option: str) -> Optional[bytes]:
 
 
 def etcd_of(args: argparse.Namespace) -> Etcd:
+    """WrongWords; NoFile: a file can't be read, or hasn't what it should."""
     import grpc
 
     from .etcd import Etcd
 
     if (args.etcd_cert is None) != (args.etcd_key is None):
-        raise BadAddress("a certificate and its key belong together: --etcd-cert FILE --etcd-key FILE")
+        raise WrongWords("a certificate and its key belong together: --etcd-cert FILE --etcd-key FILE")
     if (args.etcd_user is None) != (args.etcd_password_file is None):
-        raise BadAddress("a user and a password belong together: --etcd-user NAME --etcd-password-file FILE")
-    endpoints = args.etcd.split(",")
-    for it in endpoints:
-        if not re.fullmatch(r"(https?://)?[^/]+:\d+", it) or it.startswith("unix:"):
-            raise BadAddress(f"--etcd {it}: HOST:PORT is wanted")
-        parsed(it.removeprefix("http://").removeprefix("https://"))
-    credentials = None
+        raise WrongWords("a user and a password belong together: --etcd-user NAME --etcd-password-file FILE")
+    endpoints, credentials = endpoints_in(args.etcd), None
     if args.etcd_ca is not None or args.etcd_cert is not None or any(it.startswith("https:") for it in endpoints):
-        credentials = grpc.ssl_channel_credentials(*(content(args, it) for it in ("--etcd-ca", "--etcd-key", "--etcd-cert")))
-    password = (content(args, "--etcd-password-file") or b"").decode().strip()
-    return Etcd(endpoints, credentials, args.etcd_user or "", password)
+        credentials = grpc.ssl_channel_credentials(*tls_files(args))
+    return Etcd(endpoints, credentials, args.etcd_user or "", password_in(args))
+
+
+def endpoints_in(text: str) -> list[str]:
+    for it in (found := text.split(",")):
+        if not re.fullmatch(r"(https?://)?[^/]+:[0-9]+", it) or it.startswith("unix:"):
+            raise WrongWords(f"--etcd {it}: HOST:PORT is wanted")
+        if int(it.rpartition(":")[2]) > MOST_PORT:
+            raise WrongWords(f"--etcd {it}: a port is {MOST_PORT} at most")
+    return found
+
+
+def tls_files(args: argparse.Namespace) -> tuple[Optional[bytes], Optional[bytes], Optional[bytes]]:
+    """The authority's certificate, and this broker's key and certificate. (Of what is no such thing gRPC would say that etcd doesn't answer.)"""
+    authority, key, certificate = (content(args, it) for it in ("--etcd-ca", "--etcd-key", "--etcd-cert"))
+    for option, path, its in (("--etcd-ca", args.etcd_ca, authority), ("--etcd-cert", args.etcd_cert, certificate)):
+        if its is not None and not is_certificate(its):
+            raise NoFile(f"{option} {path}: {NO_CERTIFICATE}")
+    if key is not None and (why := why_no_key(args.etcd_cert, args.etcd_key)):
+        raise NoFile(f"--etcd-key {args.etcd_key}: {why}")
+    return authority, key, certificate
+
+
+def password_in(args: argparse.Namespace) -> str:
+    if (its := content(args, "--etcd-password-file")) is None:
+        return ""
+    with contextlib.suppress(UnicodeDecodeError):
+        if found := its.decode().strip():
+            return found
+    raise NoFile(f"--etcd-password-file {args.etcd_password_file}: a password is one line of text, and this file {'has something else' if its.strip() else 'is empty'}")
 
 
 def listens_at(addresses: tuple[str, ...]) -> str:
@@ -99,8 +130,9 @@ async def until_it_leads(args: argparse.Namespace, bay: Bay, door: Door, end: as
     from .leading import Leading, file_mark
     from .replica import Replica
 
-    file = records_in(args.state, args.sync == "data")
-    leading = Leading(etcd_of(args), bay, listens_at(door.addresses), args.lease, ends)
+    etcd, file = etcd_of(args), records_in(args.state, args.sync == "data")
+    is_read = None if file is None else asyncio.create_task(reads(file))
+    leading = Leading(etcd, bay, listens_at(door.addresses), args.lease, ends)
     leads = asyncio.create_task(asyncio.to_thread(leading.leads, stands_by))
     ended = asyncio.create_task(end.wait())
     await asyncio.wait({leads, ended}, return_when=asyncio.FIRST_COMPLETED)
@@ -109,6 +141,8 @@ async def until_it_leads(args: argparse.Namespace, bay: Bay, door: Door, end: as
     if not await leads:
         return None
     ended.cancel()
+    if is_read is not None:
+        await is_read
     applied = await asyncio.to_thread(leading.applied)
     if applied is None:
         # (who may come is as the file has it by now: it may be long since it was read)
@@ -135,14 +169,20 @@ def ends(why: str) -> None:
     os._exit(NOT_WRITTEN)
 
 
-def records_in(folder: Optional[str], syncs: bool) -> Any:
+async def reads(file: Own) -> None:
+    aside = Aside("records")
+    await aside.given(file.reads)
+    aside.ends()
+
+
+def records_in(folder: Optional[str], syncs: bool) -> Optional[Own]:
     """The file of the records of what this broker does while it leads."""
     from .folder import JOURNAL, RECORDS
-    from .records import Records
+    from .own import Own
 
     if folder is None:
         return None
     if os.path.exists(path := f"{folder}/{JOURNAL}") and os.path.getsize(path):
         raise LabrunError(f"{path}: a broker without --etcd kept it, and etcd doesn't know who holds by it. Once all have let go, move it away")
     os.makedirs(folder, 0o750, exist_ok=True)
-    return Records(f"{folder}/{RECORDS}", syncs)
+    return Own(folder, f"{folder}/{RECORDS}", syncs)

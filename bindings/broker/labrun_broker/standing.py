@@ -13,12 +13,14 @@ from dataclasses import dataclass, field
 from typing import TYPE_CHECKING, Any, Optional, Protocol
 
 from labrun.machine import HOLDS, WAITS
+from labrun.picks import some
 
 from .journals import notes_of
 from .labels import number_last
 from .places import bits_of
 from .rights import to_enable
-from .texts import counted, span
+from .texts import counted, once_safe, span
+from .together import in_which
 from .wishes import Wish
 
 if TYPE_CHECKING:
@@ -30,7 +32,6 @@ if TYPE_CHECKING:
 GONE, ONCE = "gone for", "once that is"
 # the state of a session that is over for its client, while what it had is made safe (making_safe.py)
 ENDING = "ending"
-SHOWN = 8  # guests, or instruments, in a text
 
 
 class Owner(Protocol):
@@ -116,8 +117,7 @@ class Session:
 
     def in_a_new_file(self) -> list[bytes]:
         """What the journal's next file has to say of it, for it holds."""
-        its = [*self.about(), ("note", self.note), ("over", self.ended or None)]
-        return [note for word, text in its if text is not None for note in notes_of(word, text)]
+        return [note for word, text in (*self.about(), ("note", self.note), ("over", self.ended or None)) if text is not None for note in notes_of(word, text)]
 
     def about(self) -> list[tuple[str, str]]:
         """What the journal's notes say of it once it holds: words and texts."""
@@ -253,7 +253,7 @@ class Standings:
         after = f"after session {of.number} of {of.name}" + (f" ({of.by})" if of.by else "")
         if name in of.unsafe:
             return f"{name} is being made safe for {self.span_since(of.unsafe[name])} {after}"
-        return f"{name} is free once {' and '.join(of.unsafe) or 'that is written'} is made safe {after}"
+        return f"{name} is free once {once_safe(of.unsafe)} {after}"
 
     def _once_written(self) -> str:
         return f"{ONCE} {self._shell.where}" + (f" ({self._wrong})" if self._wrong else "")
@@ -261,7 +261,7 @@ class Standings:
     def _is_kept(self, bit: int, other: Session) -> str:
         """Also why, and until when: and for what that one waits, down to the one that holds it."""
         its = self._line(other)
-        first = f"{its['passed']} that asked later went before it" if its["passed"] else "it asked first"
+        first = f"{its['passed']} went before it" if its["passed"] else "it asked first"
         if its["keeps_place"]:
             first = "it is urgent" if its["urgent"] else "an urgent one asked after it"
         text = f"{self._name(bit)} is kept for {self._who(other)} until it holds, since {first}"
@@ -283,20 +283,21 @@ class Standings:
 
     def _is_taken(self, session: Session) -> str:
         of = [other for other, _, _ in self.holders if other.kind == session.kind]
-        if session.kind and of[0].state == ENDING:
-            return f"{session.name} is in one session at a time, and {self._is_made_safe(of[0].instruments[0], of[0])}"
+        if session.kind and (of[0].state == ENDING or self._wrong and self._is_untold(of[0])):
+            until = self._is_made_safe(of[0].instruments[0], of[0]) if of[0].state == ENDING else f"session {of[0].number} holds {self._once_written()}"
+            return f"{session.name} is in one session at a time, and {until}"
         if session.kind:
             return f"{session.name} has been in session {of[0].number} for {self.span_since(of[0].since)}{self._about(of[0])}, and a station is in one at a time"
         # (who has to be seen to stands first)
         of.sort(key=lambda it: it.gone_at is None)
-        its = [f"{it.name} by {it.by or 'somebody'}{self._about(it, is_named=True)}" for it in of[:SHOWN]]
-        more = [f"and {len(of) - SHOWN} more"] if len(of) > SHOWN else []
-        all_of = f"all {len(of)} places for guests are" if len(of) > 1 else "the only place for a guest is"
-        return f"{all_of} taken: {', '.join([*its, *more])} (guests.count says how many hold at once)"
+        its = [f"{it.name} by {it.by or 'somebody'}{self._about(it, is_named=True)}" for it in of]
+        where = in_which(self._keeping)
+        all_of = f"all {len(of)} places for guests{where} are" if len(of) > 1 else f"the only place for a guest{where} is"
+        return f"{all_of} taken: {some(its)} (guests.count says how many hold at once)"
 
     def _about(self, holder: Session, is_named: bool = False) -> str:
         """Who that is, and what somebody has to do if its client is gone."""
-        parts = [] if is_named or not holder.by else [holder.by]
+        parts = [f"until {once_safe(holder.unsafe)}"] if holder.state == ENDING else [] if is_named or not holder.by else [holder.by]
         if holder.crossing is not None and (waits := holder.crossing.waits_where(holder)):
             parts.append(waits)
         if holder.gone_at is not None:
@@ -307,10 +308,9 @@ class Standings:
     def _to_do(self, gone: Session) -> str:
         # (the release lets go of all that it has)
         its = [name for _, it in gone.crossing.its() for name in it.instruments] if gone.crossing else list(gone.instruments)
-        more = f" and {len(its) - SHOWN} more" if len(its) > SHOWN else ""
         people = self._keeping.bay.people
         who = f"; {people.to_ask()}" if people else ""
-        return f"see to {', '.join(its[:SHOWN])}{more}, and then run labrun-broker release {gone.name} --session {gone.number}{who}"
+        return f"see to {some(its)}, and then run labrun-broker release {gone.name} --session {gone.number}{who}"
 
     def span_since(self, moment: int) -> str:
         return span((self._now - moment) / 1000, 1)
@@ -347,7 +347,7 @@ class Standings:
         row |= {"holder": None if holder is None else holder.name, "since": self.when(since), "waiting": waiting.get(bit, [])}
         row["being_made_safe"] = self.when(holder.unsafe.get(name)) if holder is not None else None
         row["to_enable"] = "" if out is None else to_enable(bay, person, name)
-        return {**row, "out": None if out is None else out.why, "out_since": out and out.since, "out_by": out and out.by}
+        return {**row, "out": out and out.why, "out_since": out and round(self._at - out.span, 3), "out_by": out and out.by}
 
     def _rows(self) -> tuple[list[dict[str, Any]], list[dict[str, Any]]]:
         """A row for each station and guest; and those that wait for a place first."""

@@ -16,7 +16,6 @@ if TYPE_CHECKING:
     from .client import Lab
     from .held import Held
 
-GIVING_UP = 0.5
 LATE = 1.0  # seconds without a word once a time limit is over: then the broker is asked whether it is there, and has as many to say so
 # the bytes of a message that a broker takes
 MOST_BYTES = 1 << 16
@@ -51,6 +50,8 @@ class Stream:
         self._words = 0
         self._lost: Optional[Lost] = None
         self._answers: asyncio.Queue[Union[tuple[str, Any], Exception]] = asyncio.Queue()
+        # (asyncio itself keeps no task)
+        self._writes_now = set[asyncio.Task[None]]()
         self._writing, self._asked_at = asyncio.Lock(), -1.0
         self._reader = asyncio.create_task(self._reads())
 
@@ -92,16 +93,23 @@ class Stream:
             asked.cancel()
 
     async def _writes(self, ask: Any) -> None:
-        async with self._writing:
-            try:
+        # (gRPC ends the whole call with a write that is cancelled; and the broker, which may have read it, would keep what nobody holds)
+        task = asyncio.create_task(self._write(ask))
+        self._writes_now.add(task)
+        task.add_done_callback(self._writes_now.discard)
+        await asyncio.shield(task)
+
+    async def _write(self, ask: Any) -> None:
+        try:
+            async with self._writing:
                 await self._call.write(ask)
-            except (grpc.RpcError, asyncio.InvalidStateError):
-                pass  # (whoever reads sees that, too)
-            except asyncio.CancelledError:
-                # (so it ends, too, if the call was cancelled here, and not whoever asks)
-                task = asyncio.current_task()
-                if task is None or task.cancelling():
-                    raise
+        except (grpc.RpcError, asyncio.InvalidStateError):
+            pass  # (whoever reads sees that, too)
+        except asyncio.CancelledError:
+            # (so it ends, too, if the call was cancelled here, or is lost)
+            task = asyncio.current_task()
+            if self._lost is None and (task is None or task.cancelling()):
+                raise
 
     async def pings(self) -> None:
         """Says that the client is there; the session is told of the answer."""
@@ -128,25 +136,6 @@ class Stream:
             raise answer
         return answer
 
-    async def gives_up(self, span: float = GIVING_UP) -> None:
-        """The session waits no longer. If it came to hold just now, or does once a broker goes on that is stopped, it lets go."""
-        self.session = None
-        if not self.has_asked:
-            return self.cancel()
-        leaves = asyncio.create_task(self._leaves())
-        self._lab._leaving.add(leaves)
-        leaves.add_done_callback(self._lab._leaving.discard)
-        await asyncio.wait({leaves}, timeout=span)
-
-    async def _leaves(self) -> None:
-        with contextlib.suppress(Lost):
-            kind, _ = await self.asks(let_go=pb.LetGo())
-            while kind not in ("gone", "fault"):
-                kind, _ = await self._answer()
-            if kind == "gone":
-                return self.is_idle()
-        self.cancel()
-
     def is_idle(self) -> None:
         self.session, self.has_asked = None, False
         self._lab._idle.append(self)
@@ -165,6 +154,9 @@ class Stream:
             pass
         self._call.cancel()
         self._lost = Lost(await self._call.code(), str(await self._call.details()))
+        # (of a connection that was cut gRPC may never end them)
+        for task in set(self._writes_now):
+            task.cancel()
         self.ends(self._lost)
         if self in self._lab._idle:
             self._lab._idle.remove(self)

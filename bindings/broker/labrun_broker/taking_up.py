@@ -34,10 +34,13 @@ def takes_up(keeping: Keeping, it: Opened) -> None:
         of = it.left[number]
         of.station = names[number] or keeping.free_label()
         _takes_up_one(keeping, rows[number], of, gone.get(number))
-    for record in mending.missing(it.left, it.recent, keeping.places):
+    missing = mending.missing(it.left, it.recent, keeping.places)
+    for record in missing:
         # (whoever watches isn't told of tickets)
-        more = {"ticket": record.pop("ticket")} if "ticket" in record else {}
-        keeping._news.add(record, **more)
+        more = {"ticket": record["ticket"]} if "ticket" in record else {}
+        keeping._news.add({key: value for key, value in record.items() if key not in more}, **more)
+    if it.state is not None:
+        it.state.mends(missing, mending.holds(it.left, keeping.places))
     keeping._record("opened", text="as it was left" if it.left else "")
     for number, session in list(keeping.by_number.items()):
         if session.state == ENDING:
@@ -70,6 +73,12 @@ def carries(keeping: Keeping) -> None:
     """What goes on in a new file of the journal: whose each session is, and its last note; the records have the others."""
     turns = keeping._shell.turns
     turns.most, turns.records = keeping.most_bytes, keeping._news.file
-    keeping._news.may_write, turns.stood = lambda: not turns.is_under_way, keeping._news.write
+    keeping._news.may_write, turns.stood = lambda: not turns.is_under_way, lambda: _has_stood(keeping)
     turns.classes = lambda: keeping.places.classes(keeping.bay)
     turns.notes = lambda: [(it.number, note) for it in keeping.by_number.values() if it.holds or it.state == ENDING for note in it.in_a_new_file()]
+
+
+def _has_stood(keeping: Keeping) -> None:
+    keeping._news.write()
+    # (with which the records are as far as the journal)
+    keeping._shell.pump()

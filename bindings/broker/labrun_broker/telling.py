@@ -44,8 +44,10 @@ def holder_of(one: dict[str, Any], status: dict[str, Any]) -> tuple[str, str]:
         return "-" if one.get("out") is None else "(out of order)", ""
     if any(it["name"] == one["holder"] and it["state"] == "waiting" for it in status["stations"]):
         return f"({one['holder']}, once that is written)", ""
-    safe_since = one.get("being_made_safe")
-    return "(being made safe)" if safe_since else one["holder"], span(status["at"] - (safe_since or one["since"]))
+    if safe_since := one.get("being_made_safe"):
+        return "(being made safe)", span(status["at"] - safe_since)
+    ends = next((it for it in status["stations"] if it["name"] == one["holder"] and it["state"] == "ending"), None)
+    return (f"(free soon, after {one['holder']})", span(status["at"] - ends["since"])) if ends else (one["holder"], span(status["at"] - one["since"]))
 
 
 def each_once(names: list[str]) -> str:
@@ -71,7 +73,7 @@ def line_of(it: dict[str, Any], status: dict[str, Any]) -> list[str]:
     said = f"{number and f'{number}, '}number {it['place']} in line{', urgent' if it.get('urgent') else ''}"
     if it.get("keeps_place"):
         return [f"{said}{'' if it['urgent'] else ', and an urgent one asked after it'}: nobody who asks later goes before it"]
-    return [said + (f"; {it['passed']} that asked later went first, and after {status['overtakes']} what it needs is kept for it" if it["passed"] else "")]
+    return [said + (f"; {it['passed']} went before it since it asked, and after {status['overtakes']} what it needs is kept for it" if it["passed"] else "")]
 
 
 def out_of(it: dict[str, Any], at: float) -> str:

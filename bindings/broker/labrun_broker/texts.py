@@ -6,7 +6,9 @@ import argparse
 import math
 import os
 import re
-from typing import Optional
+from typing import Iterable, Optional
+
+from .credentials import Address, usual_address
 
 
 def plain(text: object) -> str:
@@ -27,6 +29,12 @@ def span(seconds: float, places: int = 0) -> str:
 
 def counted(number: int, what: str) -> str:
     return f"{number} {what}" if number == 1 else f"{number} {what}s"
+
+
+def once_safe(names: Iterable[str]) -> str:
+    """Once what is so the instruments of a session that is over are free: those whose commands still run."""
+    its = list(names)
+    return f"{' and '.join(its)} {'is' if len(its) == 1 else 'are'} made safe" if its else "that is written"
 
 
 def called(what: str, name: str) -> str:
@@ -55,10 +63,19 @@ def seconds(text: str) -> float:
     return value
 
 
+def whole_name(text: str) -> str:
+    """As the shell gives it: a byte that is no UTF-8 would stand for something else on its way."""
+    try:
+        text.encode()
+    except UnicodeEncodeError:
+        raise argparse.ArgumentTypeError(f"{os.fsencode(text).decode(errors='backslashreplace')} isn't UTF-8") from None
+    return text
+
+
 def station_name(text: str) -> str:
     if not text:
         raise argparse.ArgumentTypeError("an empty name is no station; a guest says none")
-    return text
+    return whole_name(text)
 
 
 def mebibytes(text: str) -> int:
@@ -126,15 +143,27 @@ def unreached(address: str, why: str) -> str:
     return f"the broker at {address} can't be reached: {why}{more}"
 
 
-def may_hold(station: str) -> str:
+def typed(address: str, *words: str) -> str:
+    """A command that asks the broker at this address: it names that, unless it asks there anyway, and the files that whoever asks was given."""
+    import shlex
+
+    at = () if address == usual_address() else ("--broker", address)
+    files = address.files if isinstance(address, Address) else ()
+    return f"`{shlex.join(('labrun-broker', *words, *at, *files))}`"
+
+
+def may_hold(address: str, station: str) -> str:
     """Of a session whose client waited, and gave up without the broker's word: it may have come to hold just before, or do so later. A guest's name
     isn't known."""
     what, name, more = (station, station, "") if station else ("it", "NAME", ", with the name that stands there")
-    return f"the session may hold all the same: if `labrun-broker status` shows {what} as gone, end it by `labrun-broker release {name}`{more}"
+    return f"the session may hold all the same: if {typed(address, 'status')} shows {what} as gone, end it by {typed(address, 'release', name)}{more}"
 
 
-# of one whose client held, and couldn't tell the broker that it lets go
-MAY_GO_ON = "the session may go on holding, as `labrun-broker status` says"
+def may_go_on(address: str, station: str, number: int, is_released_if_gone: bool) -> str:
+    """Of a session whose client held, and couldn't tell the broker that it lets go."""
+    release = typed(address, "release", station, "--session", str(number))
+    until = f'the broker releases it (gone = "release"), or {release} does' if is_released_if_gone else f"it is released by {release}"
+    return f"the session may go on holding, as {typed(address, 'status')} says, until {until}"
 
 
 def no_word(address: str, tries: str) -> str:

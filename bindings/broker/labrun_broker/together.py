@@ -2,11 +2,15 @@
 
 from __future__ import annotations
 
-from typing import Any, Iterable, Mapping, Optional, Sequence
+from typing import TYPE_CHECKING, Any, Iterable, Mapping, Optional, Sequence
 
 from labrun.picks import near
 
 from .errors import BadWish
+from .texts import called
+
+if TYPE_CHECKING:
+    from .keeping import Keeping
 
 ROWS = ("instruments", "stations", "in_line")
 OF_EACH = ("since", "sessions", "refusals", "disk", "disk_since", "overtakes")
@@ -16,6 +20,11 @@ Status = dict[str, Any]
 
 def all_of(names: Sequence[str]) -> str:
     return " and ".join([", ".join(names[:-1]), names[-1]] if len(names) > 1 else names)
+
+
+def in_which(keeping: Keeping) -> str:
+    """As ` in bay north`, where it is one of several."""
+    return f" in {called('bay', keeping.bay.name)}" if len(keeping.peers) > 1 else ""
 
 
 def no_bay(name: str, bays: Sequence[str]) -> BadWish:

@@ -62,6 +62,17 @@ class Turns:
         """The machine has turned, and the new file doesn't stand yet."""
         return self._text is not None
 
+    @property
+    def text(self) -> bytes:
+        """That of a new file, until it stands: it says the same as the old one."""
+        return self._text or b""
+
+    def follows(self, at: int, has: int) -> None:
+        """The machine has handed out all until `at`, and it outlives the broker until `has`: so far may the records be written. (At a disk that
+        fails, and in etcd, it does only once it is durable.)"""
+        if self.records is not None and not self.is_under_way:
+            self.records.follows(at, has)
+
     # ---- for whoever comes meanwhile
 
     async def may_go_on(self) -> None:
@@ -116,7 +127,8 @@ class Turns:
 
     def _gives_up(self, gate: asyncio.Event) -> None:
         if self._gate is gate:
-            self._opens(f"there was always something to be written, or {self._shell.what} doesn't answer: nothing has changed; try again")
+            why = self._shell.is_wrong() or f"there was always something to be written, or {self._shell.what} doesn't answer"
+            self._opens(f"{why}: nothing has changed; try again")
 
     def _opens(self, why: str = "") -> None:
         gate, self._gate = self._gate, None

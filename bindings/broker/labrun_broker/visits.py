@@ -10,16 +10,20 @@ from __future__ import annotations
 
 import asyncio
 import contextlib
-from typing import Any, Callable, Iterator, Optional
+from typing import TYPE_CHECKING, Any, Callable, Iterator, Optional
 
-from labrun import LabrunError, NotHeld, Stopped
+from labrun import JournalError, LabrunError, NotHeld, Stopped
 
 from . import lasting
 from .bays import Kept
+from .ending import has_let_go
 from .entrance import UNKNOWN, Caller, Entrance, NotLetIn
 from .rights import check_same
 from .standing import Session
-from .wishes import Ended, Wish, check_asked_again, owner_of
+from .wishes import Ended, Wish, asked_again, owner_of
+
+if TYPE_CHECKING:
+    from .keeping import Keeping
 
 QUIET, CUT = 15.0, 2.0  # seconds
 # how often a client is to say that it is there: so often in that time, and so often in its lease
@@ -58,6 +62,9 @@ class Visit:
         self._visits, self._keeping, self._open = visits, visits.keeping, 0
         self._quiet: Optional[asyncio.TimerHandle] = None
         self._changed = asyncio.Event()
+        self._letting_go: Optional[asyncio.Task[None]] = None
+        # the bay in which it let go, while that isn't written
+        self._unkept: Optional[Keeping] = None
         self._holding = asyncio.create_task(self._holds())
 
     async def _holds(self) -> None:
@@ -201,15 +208,34 @@ class Visit:
         return self.session
 
     async def lets_go(self, failed: Optional[str]) -> None:
-        """One that waits gives up."""
+        """One that waits gives up. Whoever asks again, because no answer came, waits for the same."""
         if self.state == WAITING:
             self._holding.cancel()
             await asyncio.wait({self._holding})
         if self.state == HOLDING:
-            limit = self._keeping.bay.limits.note
-            with self._as_it_ended():
-                await self._keeping.let_go(self._held(), self, None if failed is None else failed[:limit])
-            self._ends(Ended("LetGo", "the session has let go"))
+            if self._letting_go is None or self._letting_go.done():
+                self._letting_go = asyncio.create_task(self._lets_go(failed))
+                # (if nobody waits any more, nobody is told why it couldn't be written)
+                self._letting_go.add_done_callback(lambda it: it.cancelled() or it.exception())
+            await asyncio.shield(self._letting_go)
+
+    async def _lets_go(self, failed: Optional[str]) -> None:
+        session = self._held()
+        with self._as_it_ended():
+            if self._unkept is not None:
+                await has_let_go(self._unkept)
+            else:
+                await self._lets_go_first(session, failed)
+        self._ends(Ended("LetGo", "the session has let go"))
+
+    async def _lets_go_first(self, session: Session, failed: Optional[str]) -> None:
+        limit = self._keeping.bay.limits.note
+        try:
+            await self._keeping.let_go(session, self, None if failed is None else failed[:limit])
+        except JournalError:
+            # (it is over all the same)
+            self._unkept = session.home
+            raise
 
     def raises(self) -> None:
         if self.fault is not None:
@@ -238,6 +264,9 @@ class Visit:
         about |= {"token": it.token if it is not None and self.state == HOLDING else None, "warning": self._warning()}
         about |= {"instruments": list(it.instruments) if it else [], "text": why, "waits_for": keepers}
         beat = QUIET / BEATS_OF_QUIET if lease is None else lease / BEATS_OF_LEASE
+        if waits and (shortest := self._keeping.lease) is not None:
+            # (it may come to hold, and be released, before it asks again)
+            beat = min(beat, shortest / BEATS_OF_LEASE)
         return {**about, "grace": None if lease is None or it is None else self._keeping.grace_of(it), "lease": lease, "ping": round(beat, 3)}
 
 
@@ -262,7 +291,7 @@ class Visits:
         key = owner_of(wish.ticket)
         visit = self._visit(key, caller)
         if visit is not None and visit.state == HOLDING and visit.session is not None:
-            check_asked_again(wish, visit.session.instruments, self.keeping.bay)
+            asked_again(wish, visit.session.instruments, self.keeping.bay)
         if visit is None or visit.state == WAITING and visit.wish != wish:
             visit = self._comes(key, wish, caller)
         await visit.begins()

@@ -181,7 +181,7 @@ async def token_by_host(guard: Guard, caller: Caller) -> int:
 def is_of_this_session(guard: Guard, caller: Caller, is_answered: bool, is_last: bool) -> bool:
     """Whether it came since the session began. Unknown: it didn't, or may not have. False: that isn't sure yet."""
     began, held = guard._began, "" if guard.holder is None else f"the session of {guard.holder.who}"
-    its = f"{guard.way.instrument}: a connection from {plainly(str(caller.transport.get_extra_info('peername')[0]))}"
+    its = arrival(guard, caller)
     if not is_answered and (not guard.is_sure or caller.at.last < began.last):
         raise Unknown(f"{its} isn't let through, because the broker doesn't say whether {held} still holds, and began before it came")
     spoke_at, is_gone, within = spoke(caller.socket), has_left(caller.socket), began.last - began.first
@@ -192,6 +192,10 @@ def is_of_this_session(guard: Guard, caller: Caller, is_answered: bool, is_last:
     if is_early or is_gone and is_last and (spoke_at is None or within > BEST):
         raise Unknown(f"{its} came before {held} began, and isn't let through")
     return is_last or within < (BEST if is_gone else WELL) and not (is_gone and spoke_at is None)
+
+
+def arrival(guard: Guard, caller: Caller) -> str:
+    return f"{guard.way.instrument}: a connection from {plainly(str(caller.transport.get_extra_info('peername')[0]))}"
 
 
 def plainly(host: str) -> str:

@@ -168,17 +168,18 @@ def resolved(wish: Wish, bay: Bay) -> Wish:
     return replace(wish, instruments=(), any_of=tuple(choices))
 
 
-def check_asked_again(wish: Wish, held: Sequence[str], bay: Bay) -> None:
-    """Whether who comes again with a ticket asks for what its session holds. BadWish: it wouldn't get what it asks for."""
+def asked_again(wish: Wish, held: tuple[str, ...], bay: Bay) -> tuple[str, ...]:
+    """What a session holds, in the order in which who comes again with its ticket asks for it. BadWish: it wouldn't get what it asks for."""
     if wish.comes_back or not wish.names:
-        return
+        return held
     try:
         check(wish, bay)
         choices = resolved(wish, bay).choices
     except LabrunError:
-        return  # (the bay isn't as it was when that was asked for)
-    if all(set(it) != set(held) for it in choices):
+        return held  # (the bay isn't as it was when that was asked for)
+    if (found := next((it for it in choices if set(it) == set(held)), None)) is None:
         raise BadWish(f"this ticket is that of a session that holds {' '.join(held)}: ask with another one")
+    return tuple(dict.fromkeys(found))
 
 
 def _sets(words: Sequence[str], wish: Wish, bay: Bay) -> tuple[tuple[str, ...], ...]:
@@ -235,7 +236,7 @@ def no_station(name: str, bay: Bay, sessions: Iterable[Session]) -> BadWish:
     """Of those that hold, guests too. The sessions are all that there are."""
     its = list(sessions)
     if name in bay.instruments:
-        holder = next((it.name for it in its if it.is_at_work and name in it.instruments), None)
+        holder = next((it.name for it in its if it.holds and name in it.instruments), None)
         held = f": {holder} holds it" if holder else ": nobody holds it"
         return BadWish(f"{name} is an instrument of this {bay.what}, and no station{held}")
     # (who waits has a name, too)

@@ -9,7 +9,7 @@ import socket
 import sys
 from typing import TYPE_CHECKING, Any, Callable, Iterator, NamedTuple, Optional
 
-from .credentials import CERTIFICATE_FILE, DEFAULT, TOKEN_FILE, certificate_in, token_in
+from .credentials import CERTIFICATE_FILE, DEFAULT, TOKEN_FILE, Address, address_with, certificate_in, token_in, usual_address
 from .texts import address
 
 if TYPE_CHECKING:
@@ -34,22 +34,32 @@ USAGE, NO_FILE, UNREACHABLE, NOT_WRITTEN, TIMED_OUT, TAKEN, MAY_NOT, NO_BAY, CAN
 
 STATUSES = (
     ("0", "done; `hold` gives the status of what it ran, or 128 and the number of the signal that ended it"),
-    ("1", "the broker said no, as to a station that the bay doesn't have, or a release of one that holds nothing; `bay check` or `bay apply` found faults"),
+    (
+        "1",
+        "the broker said no, as to a station that the bay doesn't have, or a release of one that holds nothing; `bay check` or `bay apply` found "
+        "faults; another broker has the state folder; a folder has no records; or what this was to write can't be written",
+    ),
     (str(USAGE), "the words aren't right, or the bay has no instrument of that name"),
     (str(NO_FILE), "a file can't be read, of a bay, guards, a token, a certificate, a key or a password, or that isn't in it; nor a state folder"),
     (str(UNREACHABLE), "the broker can't be reached, or doesn't let this client in; of `hold`, the command may have run"),
-    (str(NOT_WRITTEN), "the broker couldn't write down what it did; of `hold`, the command may have run; `serve` can't read its own journal"),
+    (
+        str(NOT_WRITTEN),
+        "the broker couldn't write down what it did; of `hold`, the command may have run; `serve` can't read its own journal, ended before all was "
+        "written, or leads no more (at etcd)",
+    ),
     (str(TIMED_OUT), "the time limit passed; nothing was run"),
-    (str(TAKEN), "the session was taken away while the command ran, which got SIGTERM"),
+    (str(TAKEN), "the session was taken away; if the command ran already, it got SIGTERM"),
     (str(MAY_NOT), "the station, a guest or you may not use one of the instruments, or only operators may do that"),
-    (str(NO_BAY), "the bay's file has faults, or lacks what somebody holds; or the broker may not listen there"),
+    (str(NO_BAY), "the file of the bay, or of guards, has faults, or lacks what somebody holds; or the broker may not listen there"),
     (f"{CANT_RUN}, {NOT_FOUND}", "what `hold` was to run can't be run, or isn't there"),
     (str(INTERRUPTED), "Ctrl-C"),
 )
 
 
 def say(text: str) -> None:
-    print(f"{PROGRAM}: {text}", file=sys.stderr, flush=True)
+    # (in one piece: others say something at the same time)
+    sys.stderr.write(f"{PROGRAM}: {text}\n")
+    sys.stderr.flush()
 
 
 def tell_systemd(text: str) -> None:
@@ -100,12 +110,16 @@ def _read(option: str, path: Optional[str], variable: str, reads: Callable[[Opti
         raise NoFile(f"{name} {fault}") from None
 
 
+def address_of(args: argparse.Namespace) -> Address:
+    return address_with(args.broker or usual_address(), args.token_file, args.certificate)
+
+
 def lab_of(args: argparse.Namespace, station: str = "", by: Optional[str] = None) -> Lab:
     token, certificate = files_of(args)
     # (what a `hold` does without. A command is begun in the midst of gRPC's threads; and nothing of gRPC goes on in it)
     os.environ.setdefault("GRPC_ENABLE_FORK_SUPPORT", "0")
     from .client import lab_at
 
-    lab = lab_at(args.broker, station, by, token, certificate)
+    lab = lab_at(address_of(args), station, by, token, certificate)
     lab._on_wait = lambda text: say(f"waits: {text}")
     return lab

@@ -36,6 +36,10 @@ count = 4
 
 COMMAND = [sys.executable, "-m", "labrun_broker"]
 
+# what is behind it is started to ignore these, as by nohup
+IGNORED = (signal.SIGHUP, signal.SIGINT, signal.SIGQUIT)
+IGNORES = ["sh", "-c", "trap '' HUP INT QUIT; exec \"$@\"", "sh"]
+
 
 def until(is_so: Callable[[], Any], what: str = "it") -> Any:
     """Waits until something is so, and gives it."""
@@ -110,7 +114,12 @@ class Broker:
         self.process = subprocess.Popen(words, stderr=subprocess.PIPE, text=True)
         assert self.process.stderr is not None
         self.first = self.process.stderr.readline()
+        if re.match(self.opens, self.first) is None and "isn't open after" in self.first:
+            # (on a busy machine it may take that long)
+            self.first = self.process.stderr.readline()
         if re.match(self.opens, self.first) is None:
+            # (else it may go on, and say nothing more)
+            self.process.kill()
             raise AssertionError(self.first + self.process.stderr.read())
 
     def kill(self) -> None:

@@ -43,11 +43,11 @@ def takes_up(day: Day) -> None:
             # (whose client wasn't told yet is in the records alone)
             session.by = row["by"]
         moment, before = it.now - round(1000 * (status["at"] - row["gone_since"])), gone_before(day.before, session.number)
-        if before is not None and it.grace is None and abs(moment - it.now + max(0, 1000 * (day.clock() - before))) < 3:
+        if before is not None and it.grace_of(session.number) is None and abs(moment - it.now + max(0, 1000 * (day.clock() - before))) < 3:
             session.gone_at = moment
         if session.number in recorded:
             it.records.append(("gone", session.number, None, None, None))
-        elif before is None or it.grace is not None:
+        elif before is None or it.grace_of(session.number) is not None:
             raise Wrong(5, f"{session.number} is gone, and no record says so")
 
 

@@ -71,7 +71,7 @@ class Life:
         self.loop = Loop(day.disk, day.halves)
         self.streams: list[Stream] = []
         self.keeping = self.done(self.new)
-        self.service = Service(self.keeping, Entrance(self.keeping, None))
+        self.service = Service(self.keeping, Entrance(self.keeping))
 
     def new(self) -> Keeping:
         keeping = Keeping(bay_of(self.file.text()), FOLDER, 60.0 if self.file.grace is None else self.file.grace / 1000)

@@ -6,7 +6,6 @@ from __future__ import annotations
 import asyncio
 import contextlib
 import copy
-import json
 import math
 from collections import Counter, defaultdict
 from typing import Any, Callable, Iterator, Optional
@@ -23,7 +22,7 @@ from tests.day_checks import Wrong
 from tests.day_journal import ENDS, Left, ends_in, given_in, left_in, notes_in, records_in, wrong_records
 from tests.day_life import Life, Stream
 from tests.day_model import Rules, Wish, model
-from tests.day_world import PLACES, Disk, Killed, lines_of
+from tests.day_world import Disk, Killed, lines_of
 
 LEASE = 0.75  # of the grace
 
@@ -54,7 +53,8 @@ class Day:
         self.has_bad_disk = False
         self.wrong: Optional[Wrong] = None
         self.before: list[dict[str, Any]] = []
-        self.kept_grace: Optional[int] = 0
+        # the graces of the brokers under which each session held, as far as the disk had it
+        self.words: dict[int, set[Optional[int]]] = defaultdict(set)
         self.read_to, self.read_of = 0, b""
         self.applying: Optional[tuple[Any, rules.File]] = None
         self.counts: Counter[str] = Counter()
@@ -118,13 +118,7 @@ class Day:
 
     def _takes_up(self, left: dict[int, Left]) -> None:
         now, stands = self.life.keeping.now(), [it for it in left.values() if not it.how]
-        grace = self.file.grace
-        if stands:
-            kept = [grace, *(self.told_holds[it.number][1] for it in stands if it.number in self.told_holds), self.kept_grace]
-            grace = None if None in kept else max(it for it in kept if it is not None)
-        if not math.isclose(self.life.keeping.grace, math.inf if grace is None else grace / 1000):
-            raise Wrong(1, f"it keeps for {self.life.keeping.grace} s; by the rules for {grace} ms")
-        it = self.rules = Rules(self.file, now, grace)
+        it = self.rules = Rules(self.file, now, *self._keeps({it.number for it in stands}))
         self.began_at = now, self.halves
         it.ends |= ends_in(self.before)
         for one in left.values():
@@ -134,7 +128,8 @@ class Day:
                 it.ends[one.ticket] = "let_go" if one.how == "let_go" else "taken"
         for one in sorted(stands, key=lambda one: one.number):
             it.sessions[one.number] = self._taken_up(one, now)
-            its = one.number, one.kind, rules.owner_of(one.ticket), None, None, one.asked, one.since, one.needs, now, model.HOLDS, "", "holds", "durable"
+            gone = None if one.number in it.kept else now
+            its = one.number, one.kind, rules.owner_of(one.ticket), None, None, one.asked, one.since, one.needs, gone, model.HOLDS, "", "holds", "durable"
             it.line.asks.append(model.Ask(*its, token=one.token))
         number, token = given_in(self.disk)
         it.line.granted = max([token, *(one.token for one in left.values())])
@@ -144,6 +139,27 @@ class Day:
         it.follows()
         self.same()
         self._checks_records(left)
+
+    def _keeps(self, stands: set[int]) -> tuple[Optional[int], frozenset[int]]:
+        """For how long it keeps those that hold, and which of them without an end. Nobody is released who was told otherwise, nor sooner than was
+        told. Whoever wasn't told, as far as is known here, may have been told by any broker since the hold stands on the disk."""
+        grace, kept = self.file.grace, frozenset(self.life.keeping._opened.kept)
+        for number in stands:
+            self.words[number].add(grace)
+        if grace is not None:
+            if wrong := {it for it in stands if self.told_holds.get(it, ((), 0))[1] is None} - kept:
+                raise Wrong(1, f"{wrong} were told that they are kept, and aren't")
+            if wrong := {it for it in kept if None not in self.words[it]}:
+                raise Wrong(1, f"{wrong} are kept, and nobody can have been told so")
+            told = [self.told_holds[it][1] for it in stands - kept if it in self.told_holds]
+            wanted = max([grace, *(it for it in told if it is not None)])
+            most = max([wanted, *(it for number in stands for it in self.words[number] if it is not None)])
+            grace = round(1000 * self.life.keeping.grace) if not math.isinf(self.life.keeping.grace) else None
+            if grace is None or not wanted <= grace <= most:
+                raise Wrong(1, f"it keeps for {self.life.keeping.grace} s; by the rules for {wanted} ms, or {most} at most")
+        elif not math.isinf(self.life.keeping.grace) or kept:
+            raise Wrong(1, f"it keeps for {self.life.keeping.grace} s, and {set(kept)} for ever; by the rules all")
+        return grace, kept
 
     def _taken_up(self, one: Left, now: int) -> rules.Session:
         """A session as it has to come back; its name is known if its client was told so, or a record is left."""
@@ -161,7 +177,8 @@ class Day:
         self.life.ends()
         if (it := self.rules) is not None:
             now = self.began_at[0] + self.halves // 2 - self.began_at[1] // 2
-            late = {one.number for one in it.sessions.values() if it.grace is not None and one.gone_at is not None and one.gone_at + it.grace <= now}
+            graces = {number: grace for number in it.sessions if (grace := it.grace_of(number)) is not None}
+            late = {one.number for one in it.sessions.values() if one.number in graces and one.gone_at is not None and one.gone_at + graces[one.number] <= now}
             self.may_be_over |= late | (set(self.told_holds) - set(it.sessions))
         has_power, share = self.power
         durable = self.disk.durable | lines_of(self.disk.acked)
@@ -199,10 +216,9 @@ class Day:
         self.is_over |= self.may_be_over
         for number in self.is_over:
             self.believes.pop(number, None)
-        try:
-            self.kept_grace = json.loads(self.disk.names[PLACES].cache)["grace"] if PLACES in self.disk.names else 0
-        except ValueError:
-            raise Wrong(2, "bay.json is torn") from None
+        for number in left:
+            if self.rules is not None:
+                self.words[number].add(self.rules.grace)
         self.has_failed, self.releases = False, []
 
     def _keeps_notes(self, it: Left) -> None:
@@ -361,8 +377,9 @@ class Day:
             stream.is_cut = True
             stream.sends(grpc.aio.EOF) if says_so else stream.task.cancel()
             # (a client that never said that it is there holds for the grace from when its stream ended; whoever pings once has a lease)
-            if self.rules.grace is not None and (it := stream.rules.session) is not None and not it.pings and it.heard_at is None:
-                self.believes[it.number] = self.halves / 2 + self.rules.grace
+            it = stream.rules.session
+            if it is not None and (grace := self.rules.grace_of(it.number)) is not None and not it.pings and it.heard_at is None:
+                self.believes[it.number] = self.halves / 2 + grace
 
         self.goes(does, lambda: self.rules.is_cut(stream.rules, says_so))
 
@@ -424,7 +441,7 @@ class Day:
         elif session is not None and kind == "gone":
             self._has_let_go(session.number)
         elif session is not None and (kind == "noted" or kind == "pong" and its.holds) and (session.pings or session.heard_at is not None):
-            self.believes[session.number] = stream.sent[kind] + LEASE * (self.rules.grace or math.inf)
+            self.believes[session.number] = stream.sent[kind] + LEASE * (self.rules.grace_of(session.number) or math.inf)
         elif kind == "gone" and stream.rules.leaving is not None:
             self._has_let_go(stream.rules.leaving[0])
         if kind == "noted":

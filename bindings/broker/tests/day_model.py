@@ -100,9 +100,10 @@ class Released(NamedTuple):
 
 
 class Rules:
-    def __init__(self, file: File, now: int, grace: Optional[int]) -> None:
-        """`grace`: that of the file, or a longer one that somebody was told."""
-        self.file, self.now, self.grace = file, now, grace
+    def __init__(self, file: File, now: int, grace: Optional[int], kept: frozenset[int] = frozenset()) -> None:
+        """`grace`: that of the file, or a longer one that somebody was told; `kept` are the sessions that go on without an end, because their
+        clients were told so."""
+        self.file, self.now, self.grace, self.kept = file, now, grace, kept
         self.line = Line(model.Rules(file.classes(), file.passes(), 10000, grace, DISK))
         self.sessions: dict[int, Session] = {}
         self.ends: dict[str, str] = {}
@@ -118,7 +119,11 @@ class Rules:
         return min([it for it in (self.line.due(), *silent, *(it[0] for it in self.later)) if it is not None], default=None)
 
     def _silent_at(self, it: Session) -> int:
-        return math.inf if self.grace is None else math.ceil((it.heard_at or 0) + self.grace / 3)  # type: ignore[return-value]
+        grace = self.grace_of(it.number)
+        return math.inf if grace is None else math.ceil((it.heard_at or 0) + grace / 3)  # type: ignore[return-value]
+
+    def grace_of(self, number: int) -> Optional[int]:
+        return None if number in self.kept else self.grace
 
     def passes(self, now: int) -> None:
         self.now = now
@@ -174,13 +179,17 @@ class Rules:
 
     def _asks(self, stream: Stream, wish: Wish) -> None:
         held = next((it for it in self.sessions.values() if it.ticket == wish.ticket), None)
-        wait = min(BACK, math.inf if self.grace is None else math.ceil(self.grace / 8))
+        grace = None if held is None else self.grace_of(held.number)
+        wait = min(BACK, math.inf if grace is None else math.ceil(grace / 8))
         if held is not None and held.back_at + wait > self.now:
             self.later.append((held.back_at + wait, stream, wish))
         elif held is not None and held.holds and self._is_anothers(held, wish):
             stream.waits = False
             stream.told.append(("fault", "BadWish"))
         elif held is not None and held.holds:
+            if not wish.comes_back and self._fault(wish) is None:
+                # (whoever asks again has them in the order in which it asks)
+                held.instruments = next(it for it in wish.choices if set(it) == set(held.instruments))
             self._comes_back(stream, held, wish)
         elif (fault := self._fault(wish)) is not None:
             stream.waits = False
@@ -230,7 +239,7 @@ class Rules:
         stream.told.append(self._held(session))
 
     def _held(self, it: Session) -> tuple[Any, ...]:
-        return ("held", it.name, it.number, it.instruments, it.ticket, self.grace)
+        return ("held", it.name, it.number, it.instruments, it.ticket, self.grace_of(it.number))
 
     def heard(self, stream: Stream, says_so: bool = False) -> bool:
         session = stream.session
@@ -257,7 +266,7 @@ class Rules:
     def lets_go(self, stream: Stream, failed: Optional[str] = None) -> None:
         self.heard(stream)
         if stream.waits:
-            self._gives_up(stream, "the client is gone")
+            self._gives_up(stream, "its client waits no longer")
             stream.told.append(("gone",))
         elif stream.session is None:
             stream.told.append(("fault", "NotHeld"))
@@ -300,7 +309,7 @@ class Rules:
         """Its stream is gone; `says_so`: it has ended it."""
         stream.is_open, stream.note, stream.leaving = False, None, None
         if stream.waits:
-            self._gives_up(stream, "the client is gone")
+            self._gives_up(stream, "its client waits no longer")
             if says_so:
                 stream.told.append(("gone",))
         session, stream.session = stream.session, None
@@ -312,7 +321,8 @@ class Rules:
     def _is_gone(self, session: Session) -> None:
         if session.state == "holding":
             session.state, session.gone_at = "gone", self.now
-            self.line.gone(session.number, self.now)
+            if session.number not in self.kept:
+                self.line.gone(session.number, self.now)
             self._record("gone", session)
             self.follows()
 

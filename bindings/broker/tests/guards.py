@@ -20,14 +20,14 @@ REFUSED = (Busy, ConnectionError)
 class Guarded:
     """A broker whose instruments have a guard each, and the guards' process."""
 
-    def __init__(self, folder: str, to: dict[str, int], words: tuple[str, ...] = (), how: str = "", bay: str = f"{BAY}[guards]\n") -> None:
+    def __init__(self, folder: str, to: dict[str, int], words: tuple[str, ...] = (), how: str = "", bay: str = f"{BAY}[guards]\n", listen: str = "127.0.0.1") -> None:
         self.folder, self.words = folder, words
         self.ports = {name: free_port() for name in to}
         rows = "".join(f'{name} = "127.0.0.1:{port} {how}"\n' for name, port in self.ports.items())
         self.broker = Broker(folder, f"{bay}{rows}", ("--state", f"{folder}/state"))
         with open(f"{folder}/guards.toml", "w", encoding="utf-8") as file:
             for name, port in to.items():
-                file.write(f'[{name}]\nlisten = "127.0.0.1:{self.ports[name]}"\ninstrument = "127.0.0.1:{port}"\n')
+                file.write(f'[{name}]\nlisten = "{listen}:{self.ports[name]}"\ninstrument = "127.0.0.1:{port}"\n')
         self.process: Optional[subprocess.Popen[str]] = None
         self.begin()
 

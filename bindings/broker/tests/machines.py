@@ -123,7 +123,7 @@ class Machine:
         cluster = ",".join(f"m{it}=http://{NET}.{it}:2380" for it in range(1, MACHINES + 1))
         mine, peer = f"http://{NET}.{at}:2379", f"http://{NET}.{at}:2380"
         self._etcd = ["etcd", "--name", f"m{at}", "--data-dir", f"{folder}/etcd-{at}", "--listen-client-urls", mine, "--advertise-client-urls", mine]
-        self._etcd += ["--listen-peer-urls", peer, "--initial-advertise-peer-urls", peer, "--initial-cluster", cluster]
+        self._etcd += ["--listen-peer-urls", peer, "--initial-advertise-peer-urls", peer, "--initial-cluster", cluster, "--pre-vote"]
         tls = ["--tls-certificate", f"{folder}/certificate", "--tls-key", f"{folder}/key", "--token-file", f"{folder}/token"]
         where = ",".join(f"{NET}.{it}:2379" for it in range(1, MACHINES + 1))
         self._serve = [*COMMAND, "serve", f"{folder}/bay.toml", "--listen", f"{NET}.{at}:7443", *tls, "--etcd", where, "--lease", str(lease), *more]

@@ -10,12 +10,14 @@ import tempfile
 import threading
 import time
 import unittest
-from typing import Optional
+from types import SimpleNamespace
+from typing import Any, Optional
 from unittest import mock
 
 from labrun import JournalError
 from labrun.store import FileStore
-from labrun_broker import places
+from labrun_broker import places, serve
+from labrun_broker.aside import Aside
 from labrun_broker.applying import apply, changes
 from labrun_broker.bay import BayFault, bay_of
 from labrun_broker.errors import BadWish, CantChange, NoInstrument
@@ -24,7 +26,7 @@ from labrun_broker.keeping import Keeping
 from labrun_broker.outage import disable, enable
 from labrun_broker.places import Places
 from labrun_broker.wishes import Wish
-from tests.brokers import BAY, SOON, TOP, Broker, OnBroker, station, until
+from tests.brokers import BAY, LIMIT, SOON, TOP, Broker, OnBroker, station, until
 from tests.test_keeping import TICKET, OnFolder, Owner, how
 
 MORE = """
@@ -59,7 +61,7 @@ class OfAWholeLife(unittest.TestCase):
 
         most = [f"load-{it}" for it in range(64)]
         full = Places().with_bay(bay_of(bay(*most)))
-        with self.assertRaisesRegex(BayFault, r"^instruments: 64 in the file and 1 taken out before; a state folder, or etcd, has places for 64 of both in all its life: use the name of one that was taken out \(load-0\), or begin anew"):
+        with self.assertRaisesRegex(BayFault, r"^instruments: 64 in the file and 1 no longer in it; a state folder, or etcd, has places for 64 of both in all its life: use the name of one that is no longer in it \(load-0\), or begin anew"):
             full.with_bay(bay_of(bay(*most[1:], "oven")))
         again = full.with_bay(bay_of(bay(*most[2:]))).with_bay(bay_of(bay(*most[1:])))
         self.assertEqual((again.instruments, again.stations), (full.instruments, full.stations))
@@ -277,6 +279,16 @@ class Applied(OnApplied):
         self.assertIs(keeping.bay, before)
         self.assertEqual(await apply(keeping, BAY, "eve", False), [])
 
+    async def test_a_command_that_is_not_there(self) -> None:
+        """The first session would leave its instrument out of order. It is said once, and is no part of what has changed."""
+        keeping = await self.opened(None)
+        text = BAY + '[on_release]\nscope = "/nothere/safe 5"\nsupply = "true"\n'
+        said = "on_release.scope: the broker's machine has no command /nothere/safe"
+        self.assertEqual((await apply(keeping, text, "eve", True))[-1], said)
+        self.assertEqual((await apply(keeping, text, "eve", False)).count(said), 1)
+        self.assertNotIn("has no command", keeping.history[-1]["text"])
+        self.assertEqual(await apply(keeping, text, "eve", False), [])
+
     async def test_two_at_once(self) -> None:
         """One after another, each as a whole."""
         keeping = await self.opened(self.folder())
@@ -333,6 +345,8 @@ class Texts(unittest.TestCase):
         before, after = bay_of(BAY), bay_of("overtakes = 3\n" + BAY + "may_use = [\"load-1\", \"load-2\"]\n")
         self.assertEqual(changes(before, after), ["guests: may no longer use scope supply", "overtakes (with the next start of the broker): 3, instead of what it is without a line"])
         self.assertEqual(changes(after, after), [])
+        for count, told in ((1, "1 holds"), (2, "2 hold")):
+            self.assertEqual(changes(before, bay_of(BAY.replace("count = 4", f"count = {count}"))), [f"guests: {told} at once, instead of 4"])
 
 
 class Commands(OnBroker):
@@ -340,7 +354,7 @@ class Commands(OnBroker):
 
     def unless_busy(self, done: "subprocess.CompletedProcess[str]") -> "Optional[subprocess.CompletedProcess[str]]":
         """None: the disk wasn't quiet within a second, as it may be on a busy machine, and nothing has changed."""
-        return None if "there was always something to be written" in done.stderr else done
+        return None if "nothing has changed; try again" in done.stderr else done
 
     def test_applied(self) -> None:
         folder = self.enterContext(tempfile.TemporaryDirectory())
@@ -362,6 +376,13 @@ class Commands(OnBroker):
             refused = broker.ran("bay", "apply", f"{folder}/bay.toml")
             self.assertEqual((refused.returncode, refused.stdout), (1, ""))
             self.assertRegex(refused.stderr, r"labrun-broker: nothing has changed:\nlabrun-broker: scope is taken out, and board \(tester\) has held it for")
+        # (more than a message may have: what is said then to do is done below)
+        with open(f"{folder}/bay.toml", "w", encoding="utf-8") as file:
+            file.write(f"#{'-' * 70000}\n{LESS}")
+        refused = broker.ran("bay", "apply", f"{folder}/bay.toml")
+        why = r"doesn't take so much at once \(Received message larger than max \(\d+ vs\. 65536\)\): a bay's file that is so long it reads by SIGHUP\n$"
+        self.assertEqual((refused.returncode, refused.stdout), (1, ""))
+        self.assertRegex(refused.stderr, rf"^labrun-broker: the broker at \S+ {why}")
         assert broker.process is not None
         process = broker.process.pid
         until(lambda: os.kill(process, signal.SIGHUP) or len(lab.status()["instruments"]) == 3)
@@ -372,6 +393,46 @@ class Commands(OnBroker):
         lab.close()
         self.assertEqual(broker.end(), 0)
         self.assertRegex(broker.said, "the bay was changed by a signal: instrument scope: taken out")
+
+    def test_a_pipe_in_the_place_of_the_file(self) -> None:
+        """The broker waits for nobody who might write into it."""
+        broker = self.broker()
+        path = f"{broker.folder}/bay.toml"
+        os.unlink(path)
+        os.mkfifo(path)
+        assert broker.process is not None
+        broker.process.send_signal(signal.SIGHUP)
+        with broker.lab() as lab:
+            lab.status()
+        self.assertEqual(broker.end(), 0)
+        self.assertIn(f"labrun-broker: {path}: it is no file\n", broker.said)
+
+    def test_a_disk_that_hangs(self) -> None:
+        """The broker goes on meanwhile, and what it read is applied in the order of the signals."""
+        goes_on, read, applied = threading.Event(), list[str](), list[str]()
+
+        def reads(path: str, _: bool) -> "tuple[str, dict[str, str]]":
+            read.append(path)
+            self.assertTrue(path == "second" or goes_on.wait(LIMIT))
+            return path, {}
+
+        async def applies(_: Any, text: str, *__: Any) -> "list[str]":
+            applied.append(text)
+            return ["a change"]
+
+        async def signals() -> None:
+            keeping: Any = SimpleNamespace(tasks=set(), says=applied.append)
+            files = Aside("files")
+            for path in ("first", "second"):
+                serve.hears(keeping, path, files)
+            await asyncio.sleep(0.3)
+            self.assertEqual((read, applied), (["first"], []))
+            goes_on.set()
+            await asyncio.gather(*keeping.tasks)
+
+        with mock.patch.object(serve, "its_texts", reads), mock.patch("labrun_broker.applying.apply", applies):
+            asyncio.run(asyncio.wait_for(signals(), LIMIT))
+        self.assertEqual(applied, ["first", "second"])
 
 
 COMMAND = [sys.executable, f"{TOP}/checks/bay/simulated.py"]

@@ -23,6 +23,8 @@ FAULTY = (
     ),
     ("instruments = [\n1,\n", ["the last line: "]),
     ('bay = 5\nbay = 6\n', ["line 2, column 8: "]),
+    (ONE + f"x = {4000 * '['}", ["it is nested too deeply"]),
+    (ONE + f"x = {5000 * '9'}\n", ["Exceeds the limit (4300 digits)"]),
     (ONE + "colour = 3\n", ["guests.colour: there is no such key; there are count, may_use"]),
     ("colour = 3\n" + ONE, ["colour: there is no such key"]),
     ("bay = 7\n" + ONE, ["bay: a name of up to 64"]),

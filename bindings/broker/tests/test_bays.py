@@ -22,7 +22,7 @@ from labrun_broker.people import digest_of
 from labrun_broker.standing import Session
 from labrun_broker.wishes import Ended, Wish
 from tests import asking
-from tests.brokers import TOP
+from tests.brokers import LIMIT, TOP
 
 NORTH = """
 bay = "north"
@@ -134,6 +134,23 @@ class Holds(OnBays):
         with self.assertRaises(labrun.MayNotUse):
             await bays.hold(Wish(("oven",), station="board"), self.owner)
 
+    async def test_which_bay_has_no_place(self) -> None:
+        """Others may have one."""
+        bays = await self.bays(LAB, NORTH.replace("count = 2", "count = 1"), SOUTH, state=False)
+        for name, whole, its in (
+            ("north", "the only place for a guest in bay north is", ("scope", "supply")),
+            ("south", "all 2 places for guests in bay south are", ("oven", "load-2", "load-3")),
+        ):
+            held = [await self.holds(bays, it) for it in its[:-1]]
+            found: list[Session] = []
+            task = asyncio.create_task(bays.hold(Wish((its[-1],)), self.owner, found.append))
+            async with asyncio.timeout(LIMIT):
+                while not found:
+                    await asyncio.sleep(0)
+            who = ", ".join(f"{it.name} by somebody" for it in held)
+            self.assertEqual(bays.for_whom(found[0])[1], f"{whole} taken: {who} (guests.count says how many hold at once)", name)
+            task.cancel()
+
     async def test_numbers_and_names_of_guests_are_of_the_whole_lab(self) -> None:
         bays = await self.bays(state=False)
         its = [await self.holds(bays, name) for name in ("scope", "oven", "load-1", "load-2")]
@@ -211,12 +228,20 @@ class Restarts(OnBays):
         with self.assertRaisesRegex(labrun.LabrunError, "the journal of one bay is there"):
             await self.bays()
 
+    async def test_a_bay_that_was_taken_out_while_two_hold(self) -> None:
+        bays = await self.bays()
+        await self.holds(bays, "oven", station="heat")
+        await self.holds(bays, "load-2")
+        await bays.close()
+        with self.assertRaisesRegex(labrun.LabrunError, "south: heat, guest-1 still hold there, and the lab has no bay south"):
+            await self.bays(LAB.replace('south = "more/south.toml"', ""))
+
     async def test_a_bay_that_was_taken_out_while_somebody_holds_is_missed(self) -> None:
         bays = await self.bays()
         oven = await self.holds(bays, "oven")
         await bays.close()
         only_north = LAB.replace('south = "more/south.toml"', "")
-        with self.assertRaisesRegex(labrun.LabrunError, "south: guest-1 still hold there, and the lab has no bay south"):
+        with self.assertRaisesRegex(labrun.LabrunError, "south: guest-1 still holds there, and the lab has no bay south"):
             await self.bays(only_north, NORTH.replace('"load-1"', '"oven"'))
         again = await self.bays()
         await again.release("guest-1", "me", oven.number)
@@ -239,6 +264,21 @@ class Restarts(OnBays):
             await self.bays()
         os.unlink(f"{self.state}/south/bay.journal")
         await self.bays()
+
+
+    async def test_a_journal_that_has_lost_its_lines(self) -> None:
+        """The bay that has it is named, and the other one is no part of it: its folder is as it was."""
+        bays = await self.bays()
+        await self.holds(bays, "scope", ticket=TICKET)
+        await self.holds(bays, "oven", station="heat")
+        await bays.close()
+        os.truncate(f"{self.state}/south/bay.journal", 0)
+        with self.assertRaisesRegex(labrun.JournalError, f"^{self.state}/south/bay.journal: it has no whole line, and by the records somebody holds: heat oven "):
+            await self.bays()
+        os.unlink(f"{self.state}/south/bay.journal")
+        bays = await self.bays()
+        self.assertEqual((await self.holds(bays, ticket=TICKET, comes_back=True)).instruments, ("scope",))
+        self.assertEqual((await self.holds(bays, "oven", station="heat")).instruments, ("oven",))
 
 
 class LooksAfter(OnBays):
@@ -323,6 +363,20 @@ class LooksAfter(OnBays):
         await told.aclose()  # type: ignore[attr-defined]
         self.assertIs(bays.with_all(["oven", "load-2"]), bays.of["south"])
 
+    async def test_a_guard_is_told_of_each_for_how_long_it_holds(self) -> None:
+        """Each bay counts its own tokens, so those of two that hold may be the same."""
+        bays = await self.bays()
+        scope = await self.holds(bays, "scope")
+        oven = await self.holds(bays, "oven", station="heat")
+        self.assertEqual(scope.token, oven.token)
+        scope.since -= 7000
+        told = guarding.holders(bays, ("scope", "oven"))
+        first = await asyncio.wait_for(anext(told), 10)
+        its = {it.instrument: it.held_us / 1e6 for it in first.holders}
+        # (it came to hold before the other one did, by milliseconds that each bay rounds by itself)
+        self.assertGreater(its["scope"] - its["oven"], 6.99)
+        await told.aclose()  # type: ignore[attr-defined]
+
 
 class Changes(OnBays):
     async def applies(self, bays: Bays, text: str, of: str = "", check: bool = False, **its: str) -> list[str]:
@@ -371,7 +425,7 @@ class Changes(OnBays):
         self.assertEqual([it.bay.guests for it in bays.peers], [2, 2])
         # (the bay that is changed last, too)
         await self.holds(bays, "load-2")
-        with self.assertRaisesRegex(CantChange, "2 guests hold, and by the file only 1 may"):
+        with self.assertRaisesRegex(CantChange, "^nothing has changed:\n2 guests hold in bay south, and by the file only 1 may$"):
             await self.applies(bays, LAB, north=NORTH.replace("count = 2", "count = 1"), south=SOUTH.replace("count = 2", "count = 1"))
         self.assertEqual([it.bay.guests for it in bays.peers], [2, 2])
 
@@ -389,7 +443,7 @@ class Changes(OnBays):
     async def test_who_is_taken_out_of_the_lab_is_let_in_no_more(self) -> None:
         ana, bob = (f'{name} = {{token = "sha256:{digest_of(name)}"}}\n' for name in ("ana", "bob"))
         bays = await self.bays(f"{LAB}[people]\n{ana}{bob}", state=False)
-        entrance = Entrance(bays, None)
+        entrance = Entrance(bays)
         self.assertEqual(entrance.caller("Bearer ana", False).person, "ana")
         self.assertEqual((await self.holds(bays, "oven", person="ana")).person, "ana")
         await self.applies(bays, f"{LAB}[people]\n{bob}", north=NORTH, south=SOUTH)

@@ -62,7 +62,7 @@ class Doors(OnLab):
         at.end()
         for lab_file, south, told in (
             (LAB, SOUTH.replace('"oven"', '"stove"'), "guest-1 holds oven, which by the bay it may not use: begin with the bay as it was until that is over\n"),
-            (LAB.replace('south = "more/south.toml"', ""), SOUTH, "guest-1 still hold there, and the lab has no bay south: begin with it once more, until that is over\n"),
+            (LAB.replace('south = "more/south.toml"', ""), SOUTH, "guest-1 still holds there, and the lab has no bay south: begin with it once more, until that is over\n"),
         ):
             with self.subTest(told):
                 written(self.folder, lab_file, NORTH, south)
@@ -147,6 +147,7 @@ class Doors(OnLab):
         picture = self.ran(at, "gantt", state)
         self.assertTrue(">scope<" in picture and ">oven<" in picture)
         self.assertIn("there is no bay east in it: there are north, south", self.ran(at, "report", state, "--bay", "east", status=1))
+        self.assertIn("it is the folder of one bay, whose name isn't in it: leave --bay out", self.ran(at, "report", f"{state}/north", "--bay", "north", status=1))
 
     def test_after_a_kill_all_goes_on(self) -> None:
         at = self.broker()

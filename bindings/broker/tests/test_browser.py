@@ -2,17 +2,27 @@
 
 from __future__ import annotations
 
+import asyncio
 import re
 import shutil
+import tempfile
 import time
 import unittest
 from typing import Any, Callable
+from unittest import mock
+
+from labrun_broker.bays import Bays
+from labrun_broker.labs import Lab, read_any
+from labrun_broker.standing import Session
+from labrun_broker.wishes import Wish
 
 from .brokers import LIMIT
 from .fake import Keeping
+from .test_bays import Owner, written
 from .webs import Web
 
 try:
+    from labrun_broker import page
     from labrun_broker.page import serve_page
 except ImportError as lacking:
     raise unittest.SkipTest(str(lacking)) from None
@@ -40,29 +50,17 @@ def started() -> Any:
 
 
 @unittest.skipIf(LACKS, f"there is no {LACKS}")
-class Browser(unittest.TestCase):
+class OnBrowser(unittest.TestCase):
+    web: Web
+
     @classmethod
     def setUpClass(cls) -> None:
         cls.browser = started()
         cls.addClassCleanup(cls.browser.quit)
 
-    def setUp(self) -> None:
-        self.web = Web(serve_page, lambda: Keeping(BAY))
-        self.addCleanup(self.close)
-        self.is_open = True
-        self.browser.get(f"http://127.0.0.1:{self.web.port}/")
-        self.seen("h1", lambda text: text == "bay-3")
-
-    def close(self) -> None:
-        if self.is_open:
-            self.is_open = False
-            self.web.close()
-
-    def do(self, name: str, *given: Any, **more: Any) -> None:
-        self.web.do(lambda: getattr(self.web.keeping, name)(*given, **more))
-
-    def at(self, ago: float) -> None:
-        self.web.keeping.now = None if not ago else time.time() - ago
+    def opens(self, where: str, bay: str) -> None:
+        self.browser.get(f"http://127.0.0.1:{self.web.port}/{where}")
+        self.seen("h1", lambda text: text == bay)
 
     def text(self, where: str) -> str:
         return str(self.browser.execute_script("const it = document.querySelector(arguments[0]); return it ? it.innerText ?? it.textContent : ''", where))
@@ -78,6 +76,25 @@ class Browser(unittest.TestCase):
 
     def row(self, name: str) -> str:
         return f'[data-instrument="{name}"]'
+
+
+class Browser(OnBrowser):
+    def setUp(self) -> None:
+        self.web = Web(serve_page, lambda: Keeping(BAY))
+        self.addCleanup(self.close)
+        self.is_open = True
+        self.opens("", "bay-3")
+
+    def close(self) -> None:
+        if self.is_open:
+            self.is_open = False
+            self.web.close()
+
+    def do(self, name: str, *given: Any, **more: Any) -> None:
+        self.web.do(lambda: getattr(self.web.keeping, name)(*given, **more))
+
+    def at(self, ago: float) -> None:
+        self.web.keeping.now = None if not ago else time.time() - ago
 
     def test_a_session_is_seen_within_a_second(self) -> None:
         # (of several, because the machine may do something else)
@@ -173,7 +190,7 @@ class Browser(unittest.TestCase):
         words = lambda: " ".join(self.text("#waits").split())
         self.seen("#waits", lambda text: "cem@bench-4" in text)
         self.assertRegex(words(), r"^radio \(session 2, ann@bench-3 4711 sh\) waits for oven: 3\d s radio → oven: night has held for 1 min cem@bench-4 815 python \(session 3\) waits as radio for oven: \d+ s, ")
-        self.assertIn(f", number 2 in line; 1 that asked later went first, and after 4 what it needs is kept for it radio → oven: night has held for 1 min {text}", words())
+        self.assertIn(f", number 2 in line; 1 went before it since it asked, and after 4 what it needs is kept for it radio → oven: night has held for 1 min {text}", words())
         self.assertIn("2 wait: radio (2 sessions)", self.text(self.row("oven")))
         taken = "radio has been in session 2 for 3.0 s (ann@bench-3 4711 sh), and a station is in one at a time"
         more |= {"waits_for": [], "text": taken}
@@ -398,8 +415,12 @@ class Browser(unittest.TestCase):
         self.seen("#instruments", lambda text: "oven" in text)
         order = "return [...document.querySelectorAll('#instruments > *')].map(it => it.dataset.instrument || it.textContent)"
         self.assertEqual(self.browser.execute_script(order), ["north", "scope", "supply", "south", "oven"])
+        # (a disk that fails in one bay is nothing to the others)
+        web.keeping.disk = "north: a write failed (No space left on device)"
+        web.do(lambda: web.keeping.hold("board", "scope"))
+        self.seen("#disk", lambda text: text == f"The broker can't write: {web.keeping.disk}. Nobody comes to hold there until it can.")
         passed = "return [{bay: 'south', place: 1, passed: 2}, {bay: '', place: 1, passed: 2}].map(lineOf)"
-        self.assertEqual([it.split("; ")[1] for it in self.browser.execute_script(passed)], [f"2 that asked later went first, and after {most} what it needs is kept for it" for most in (8, 9)])
+        self.assertEqual([it.split("; ")[1] for it in self.browser.execute_script(passed)], [f"2 went before it since it asked, and after {most} what it needs is kept for it" for most in (8, 9)])
         keeps = "return [[1, false, true], [2, true, true], [3, true, false]].map(([place, urgent, keeps_place]) => lineOf({place, urgent, keeps_place}))"
         said = [", number 1 in line, and an urgent one asked after it", ", number 2 in line, urgent", ", number 3 in line, urgent"]
         self.assertEqual(self.browser.execute_script(keeps), [*(f"{it}: nobody who asks later goes before it" for it in said[:2]), said[2]])
@@ -419,12 +440,150 @@ class Browser(unittest.TestCase):
         self.close()
         self.seen("#lost", lambda text: "What is shown is old." in text)
 
+    @mock.patch.object(page, "BEAT", 4 * LIMIT)
+    def test_since_when_there_is_no_answer(self) -> None:
+        """Since the last one, if the broker only says nothing, or did so for long before it ended the connection; else since that end."""
+        at = int(time.time()) - 7200
+        # (for how many seconds nothing was said, whether it ends then, and how many after the last answer it is said to be)
+        for where in ("", "?wall"):
+            for silent, ends, more in ((16, False, 0), (16, True, 0), (8, True, 0), (3, True, 3)):
+                with self.subTest(where, silent=silent, ends=ends):
+                    self.close()
+                    self.is_open, self.web = True, Web(serve_page, lambda: Keeping(BAY, now=at + 0.5))
+                    self.opens(where, "bay-3")
+                    self.browser.execute_script("const at = heard + 1000 * arguments[0]; Date.now = () => at;", silent)
+                    if ends:
+                        self.close()
+                    self.seen("#lost", bool)
+                    since = time.strftime("%H:%M:%S", time.localtime(at + more))
+                    self.assertEqual(self.text("#lost"), f"No answer from the broker since {since}. What is shown is old.")
+
+    @mock.patch.object(page, "BEAT", 4 * LIMIT)
+    def test_what_is_shown_is_as_old_as_the_last_answer(self) -> None:
+        self.close()
+        at = time.time() - 7200
+        self.is_open, self.web = True, Web(serve_page, lambda: Keeping(BAY, now=at))
+        self.do("hold", "board", "scope")
+        self.web.keeping.now = at + 50
+        self.opens("", "bay-3")
+        for silent, is_lost, span in ((0, False, "50 s"), (14, False, "1 min"), (16, True, "50 s")):
+            self.browser.execute_script("Date.now = () => heard + 1000 * arguments[0];", silent)
+            self.seen(f"{self.row('scope')} .since", lambda text: text == span)
+            self.assertEqual(bool(self.text("#lost")), is_lost)
+
     def test_nothing_is_complained_of(self) -> None:
         self.browser.get_log("browser")
         self.browser.refresh()
         self.do("hold", "board", "scope")
         self.seen(self.row("scope"), lambda text: "board" in text)
         self.assertEqual([it for it in self.browser.get_log("browser") if "ERR_" not in it["message"]], [])
+
+
+def without_spans(text: str) -> str:
+    return re.sub(r"\b\d+ (s|min)\b", "a while", " ".join(text.split()))
+
+
+async def serve_lab(bays: Bays, address: str) -> Any:
+    await bays.open()
+    return await serve_page(bays, address)
+
+
+class OfALab(OnBrowser):
+    """Two bays as they are: a session over both of them has a part in each."""
+
+    def setUp(self) -> None:
+        lab = read_any(written(self.enterContext(tempfile.TemporaryDirectory())))
+        assert isinstance(lab, Lab)
+        self.web, self.owner = Web(serve_lab, lambda: Bays(lab)), Owner()
+        self.addCleanup(self.web.close)
+        self.addCleanup(lambda: self.web.waits_for(self.web.keeping.close()))
+        self.opens("", "physics")
+
+    def holds(self, *instruments: str, **more: Any) -> Session:
+        it: Session = self.web.waits_for(self.web.keeping.hold(Wish(instruments, **more), self.owner))
+        return it
+
+    def asks(self, *instruments: str, **more: Any) -> None:
+        task = self.web.do(lambda: asyncio.ensure_future(self.web.keeping.hold(Wish(instruments, **more), self.owner)))
+        self.addCleanup(self.web.do, lambda: task.cancel() and None)
+
+    def bars(self) -> set[tuple[str, str]]:
+        """Those of who is stuck, without their seconds; and what stands below."""
+        its = self.browser.execute_script("return [...document.querySelectorAll('.alarm:not(.fine)')].map(it => [it.textContent, it.querySelector('small').textContent])")
+        return {(without_spans(text.removesuffix(small)), small) for text, small in its}
+
+    def test_who_waits_for_one_part_of_a_session(self) -> None:
+        """Nobody waits for the other one."""
+        held = self.holds("scope", "oven", by="ana")
+        self.asks("oven", by="bob")
+        for where in ("", "?wall"):
+            self.opens(where, "physics")
+            self.seen("#stuck", lambda text: "has held for" in text)
+            self.assertEqual(self.bars(), {("guest-1 has held for a while: oven", "guest-2 waits for it · begun by ana")})
+            self.assertEqual(self.text("#told"), "guest-1 holds for long, and is waited for: oven")
+            self.assertEqual(self.browser.execute_script("return [...document.querySelectorAll('.row.worst')].map(it => it.dataset.instrument)"), ["oven"])
+            self.assertRegex(self.text("#about"), "^1 hold, 1 wait · since ")
+        self.web.do(self.web.keeping.gone, held, self.owner)
+        of_scope = ("guest-1 has been gone for a while, and still holds scope", "nobody waits for it · begun by ana")
+        of_oven = ("guest-1 has been gone for a while, and still holds oven", "guest-2 waits for it · begun by ana")
+        for where in ("?wall", ""):
+            self.opens(where, "physics")
+            self.seen("#stuck", lambda text: "scope" in text and "oven" in text)
+            self.assertEqual(self.bars(), {of_scope, of_oven})
+            self.assertRegex(self.text("#about"), "^0 hold, 1 wait, 1 gone · since ")
+
+    def test_who_is_waited_for_in_one_bay_and_waits_in_the_other(self) -> None:
+        self.holds("oven", by="ana")
+        self.asks("scope", "oven", by="bob")
+        self.seen(self.row("scope"), lambda text: "guest-2" in text)
+        self.asks("scope", by="cem")
+        self.seen("#waits", lambda text: "guest-3" in text)
+        # (the longest that is waited for)
+        self.seen("#told", lambda text: text == "guest-1 holds for long, and is waited for: oven")
+        self.assertEqual(self.bars(), {("guest-1 has held for a while: oven", "guest-2 waits for it · begun by ana")})
+        self.assertRegex(self.text("#about"), "^2 hold, 2 wait · since ")
+        chain = "guest-3 → scope: guest-2 has held for a while, and waits in the bay south → oven: guest-1 has held for a while"
+        self.assertIn(chain, without_spans(self.text("#waits")))
+
+    def test_a_chain_goes_on_in_its_bay(self) -> None:
+        """To one for whom something is kept there, though that one holds in another bay."""
+        self.holds("oven", by="ana")
+        self.asks("scope", "oven", "load-2", by="bob", urgent=True)
+        self.seen("#waits", lambda text: "oven: guest-1" in text)
+        self.asks("load-2", by="cem")
+        self.seen("#waits", lambda text: "guest-3" in text)
+        self.assertIn("guest-3 → load-2: guest-2 → oven: guest-1 has held for a while", without_spans(self.text("#waits")))
+
+    def rows(self, **north_and_south: Any) -> Any:
+        """How scope and oven are shown, which are held by a guest-1 in each bay: each way, its words, and its note."""
+        usual = {"name": "guest-1", "since": 0, "by": "ana", "note": None, "gone_since": None, "state": "holding"}
+        stations = [{**usual, "bay": bay, **its} for bay, its in north_and_south.items()]
+        instruments = [{"name": name, "bay": bay, "holder": "guest-1", "since": 0, "waiting": []} for name, bay in (("scope", "north"), ("oven", "south"))]
+        return self.browser.execute_script(
+            "status = {...status, stations: arguments[0], instruments: arguments[1]};"
+            "return status.instruments.map(it => rowOf(it)).map(it => [it.className, it.querySelector('.state').textContent, it.querySelector('.of-note')?.textContent ?? ''])",
+            stations, instruments,
+        )  # fmt: skip
+
+    def test_rows_of_one_name_in_two_bays(self) -> None:
+        """What is said of an instrument is that of its own bay; but a note, which stands in the first one, is that of the whole session."""
+        use = lambda said, note="": ["row use held", said, note]
+        self.assertEqual(self.rows(north={"note": "V = 5"}, south={}), [use("guest-1 by ana", "V = 5")] * 2)
+        # (the disk of one bay is slow)
+        self.assertEqual(self.rows(north={"state": "waiting"}, south={}), [use("guest-1, once that is written by ana"), use("guest-1 by ana")])
+        self.assertEqual(self.rows(north={"state": "ending"}, south={}), [use("free soon, after guest-1 by ana"), use("guest-1 by ana")])
+        # (two guests, who have one name of two brokers)
+        of_two = self.rows(north={"note": "V = 5"}, south={"state": "gone", "gone_since": 0, "by": "bob"})
+        self.assertEqual(of_two, [use("guest-1 by ana", "V = 5"), ["row gone held", "guest-1 is gone by bob", ""]])
+
+    def test_the_disk_of_one_bay(self) -> None:
+        """Who waits in another doesn't wait for it."""
+        waits = [{"name": "guest-1", "bay": bay, "instruments": [], "since": 0, "waits_for": []} for bay in ("north", "south")]
+        said = self.browser.execute_script(
+            "status = {...status, disk: 'north: full', bays: [{bay: 'north', disk: 'full'}, {bay: 'south', disk: ''}]};"
+            "return arguments[0].map(it => chainOf(it).querySelector('.links').textContent)", waits
+        )  # fmt: skip
+        self.assertEqual(said, ["it waits for the disk", "nobody keeps it waiting at this moment"])
 
 
 if __name__ == "__main__":

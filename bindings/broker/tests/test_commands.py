@@ -26,7 +26,7 @@ from labrun_broker.client import _who
 from labrun_broker.command import main
 from labrun_broker.run import Signals
 from labrun_broker.telling import lines_of
-from tests.brokers import BAY, COMMAND, LIMIT, SOON, TOP, UNHEARD, Broker, OnBroker, heard, station, stopped, until
+from tests.brokers import BAY, COMMAND, IGNORED, IGNORES, LIMIT, SOON, TOP, UNHEARD, Broker, OnBroker, free_port, heard, station, stopped, until
 
 # (two runs of these tests at once look for the sleeps of their own)
 SPAN = os.getpid()
@@ -137,6 +137,7 @@ class WithoutBroker(unittest.TestCase):
             (["fly"], 2, "", "labrun-broker: error: there is no word fly: there are serve, hold, guard, status, top, release, disable, enable, token, report, gantt, table, bay, manual; labrun-broker --help\n"),
             (["oven"], 2, "", "gantt, table, bay, manual; labrun-broker --help\n"),
             (["scope", "-n", "--", "true"], 2, "", "there is no word scope: to hold what is called so, labrun-broker hold scope -n -- ..; labrun-broker --help\n"),
+            (["2 of load-*", "--by", "night run", "--", "true"], 2, "", "to hold what is called so, labrun-broker hold '2 of load-*' --by 'night run' -- ..; labrun-broker --help\n"),
             (["hodl", "scope", "--", "true"], 2, "", "bay, manual (did you mean hold?); labrun-broker --help\n"),
             (["relese", "board"], 2, "", "bay, manual (did you mean release?); labrun-broker --help\n"),
             (["hold", "scope"], 2, "", "say what to run, behind `--`"),
@@ -154,14 +155,15 @@ class WithoutBroker(unittest.TestCase):
             (["serve", bay, "--listen", "scope"], 78, "", "scope: unix:PATH or HOST:PORT is wanted"),
             (["serve", bay, "--listen", "127.0.0.1:99999"], 78, "", "127.0.0.1:99999: it can't listen there"),
             (["serve", bay, "--listen", f"127.0.0.1:{self.taken()}"], 78, "", "it can't listen there: Address already in use"),
-            (["serve", bay, "--listen", "unix:" + bay + ".sock", "--state", bay], 1, "", f"labrun-broker: {bay}: it isn't a folder, and the broker keeps its state in one\n"),
+            (["serve", bay, "--listen", "unix:" + bay + ".sock", "--state", bay], 66, "", f"labrun-broker: {bay}: it isn't a folder, and the broker keeps its state in one\n"),
+            (["serve", bay, "--listen", "unix:" + bay + ".sock", "--state", f"{bay}/state"], 66, "", f"labrun-broker: {bay}/state: Not a directory\n"),
             (["serve", bay, "--listen", "unix:/no/where"], 78, "", "unix:/no/where: no socket can be made in /no"),
             (["serve", bay, "--listen", f"unix:{bay}"], 78, "", "bay.toml: that is there, and is no socket"),
             (["serve", bay, "--listen", nowhere, "--group", "no-such-group"], 78, "", "--group no-such-group: there is no such group"),
             (outside, 78, "", "0.0.0.0:0 is seen by other machines: that takes a certificate and a token"),
             ([*outside, "--token-file", f"{self.folder}/short"], 78, "", "takes a certificate and a token"),
             ([*outside, "--tls-key", "key"], 78, "", "a certificate and its key belong together"),
-            (["serve", bay, "--listen", "127.0.0.1:0", "--token-file", f"{self.folder}/short"], 78, "", "a token is one line of letters, digits and signs, 16 or more"),
+            (["serve", bay, "--listen", "127.0.0.1:0", "--token-file", f"{self.folder}/short"], 66, "", "a token is one line of letters, digits and signs, 16 or more"),
             (["serve", bay, "--listen", "127.0.0.1:0", "--token-file", f"{self.folder}/open"], 78, "", "everybody on this machine may read it"),
         )
         for words, status, out, fault in rows:
@@ -234,7 +236,7 @@ class WithoutBroker(unittest.TestCase):
         said = [it.split("  ")[-1].strip() for it in lines[-5:]]
         full = "all places for guests are taken (guests.count says how many hold at once)"
         # (of one for which there is no place nothing bounds who goes first)
-        self.assertEqual(said, ["ann", "number 3 in line; 2 that asked later went first, and after 16 what it needs is kept for it", "ann", "number 4 in line", full])
+        self.assertEqual(said, ["ann", "number 3 in line; 2 went before it since it asked, and after 16 what it needs is kept for it", "ann", "number 4 in line", full])
 
     def test_ctrl_c_while_it_begins(self) -> None:
         """Also before anything of its own is there: by each program that begins it. Nothing else is read before it minds that."""
@@ -316,6 +318,9 @@ class WithBroker(OnBroker):
                 (["--any", "0 of load-*"], 2, "", "labrun-broker: 0 of load-*: ask for 1 or more; there are 2: load-1, load-2\n"),
                 (["--any", "lamp-*"], 2, "", "labrun-broker: no instrument is like lamp-*: there are scope, supply, load-1, load-2\n"),
                 (["tag:lamps"], 2, "", "labrun-broker: lamps is no tag; there are none\n"),
+                (["tag:"], 2, "", "labrun-broker: tag: is no tag; there are none\n"),
+                ([b"sc\xf6pe".decode("utf-8", "surrogateescape")], 2, "", "argument INSTRUMENT: sc\\xf6pe isn't UTF-8"),
+                (["scope", "--station", b"b\xf6".decode("utf-8", "surrogateescape")], 2, "", "argument --station: b\\xf6 isn't UTF-8"),
                 (["-n", "load-1"], 75, "", "refused, because it doesn't wait (hold -n, or a timeout of 0): load-1 has been held by guest-1 for"),
                 (["--timeout", "0.1", "load-1"], 75, "", "given up when its time was over: load-1 has been held by guest-1 for"),
                 (["--no-wait", "scope"], 0, "scope\n", ""),
@@ -457,6 +462,26 @@ class WithBroker(OnBroker):
             pass
         self.assertEqual((runs.communicate(timeout=LIMIT), runs.returncode), (("", ""), 0))
         self.assertRegex(said, r"^labrun-broker: waits until the command has ended, which goes on after the signal: \d+ sh(, \d+ sleep)?$")
+
+    def test_signals_that_it_is_started_to_ignore(self) -> None:
+        """As by nohup: it goes on waiting, and then neither it nor its command minds them."""
+        broker = self.broker()
+        command = f"echo runs; while ! [ -e {broker.folder}/go ]; do sleep 0.1; done; exit 3"
+        with self.lab(broker).hold("scope"):
+            line = [*IGNORES, *COMMAND, "hold", "scope", "--broker", broker.address, "--", "sh", "-c", command]
+            one = subprocess.Popen(line, stdout=subprocess.PIPE, stderr=subprocess.PIPE, text=True)
+            self.addCleanup(one.communicate)
+            self.addCleanup(one.kill)
+            assert one.stdout is not None and one.stderr is not None
+            self.assertIn(" waits: ", heard(one.stderr))
+            for number in IGNORED:
+                one.send_signal(number)
+        self.assertEqual(one.stdout.readline(), "runs\n")
+        for number in IGNORED:
+            one.send_signal(number)
+        made(f"{broker.folder}/go")
+        out, said = one.communicate(timeout=LIMIT)
+        self.assertEqual((out, BUSY.sub("", UNHEARD.sub("", said)), one.returncode), ("", "", 3))
 
     def test_what_is_left_in_the_background_on_purpose(self) -> None:
         """A command that ends by itself may leave something: that goes on, and keeps nobody waiting."""
@@ -603,6 +628,31 @@ class WithBroker(OnBroker):
 
         broker.end()
         self.assertRegex(broker.said, "^labrun-broker: session 1 of board with scope was taken away by .*@.*\n$")
+
+    def test_what_is_lost_is_lost_alike(self) -> None:
+        """By the socket and by a port: why is said once, the command is ended, and the status is that of a session that was taken away."""
+        port = f"127.0.0.1:{free_port()}"
+        broker = self.broker(BAY, "--listen", port)
+
+        def holds(name: str, address: str, *more: str) -> "subprocess.Popen[str]":
+            path = f"{broker.folder}/{name}"
+            one = broker.started("hold", name, "--quiet", "--broker", address, *more, "--", "sh", "-c", f"echo > {path}; exec sleep 600")
+            until(lambda: os.path.exists(path), "its command")
+            return one
+
+        def said(one: "subprocess.Popen[str]") -> str:
+            _, text = one.communicate(timeout=LIMIT)
+            self.assertEqual(one.returncode, 76, text)
+            return BUSY.sub("", UNHEARD.sub("", text))
+
+        taken = holds("supply", port, "--station", "board")
+        broker.ran("release", "board")
+        self.assertRegex(said(taken), r"^labrun-broker: board: the session with supply was taken away by \S+; the command is being ended\n$")
+        its = [holds("load-1", broker.address), holds("load-2", port)]
+        broker.kill()
+        broker.begin()
+        why = "no session has this ticket: it is over, or was never told that it holds"
+        self.assertEqual([said(one) for one in its], [f"labrun-broker: {why}; the command is being ended\n"] * 2)
 
     def test_nobody_reads_what_is_told(self) -> None:
         """The pipe of its standard error is full: the broker goes on."""

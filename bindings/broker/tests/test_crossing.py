@@ -108,6 +108,8 @@ class Holds(OnCrossings):
         self.assertEqual([rows[bay, "guest-2"]["state"] for bay in ("north", "south")], ["holding", "waiting"])
         # who waits for what it holds is told for whom in the end
         one, others = await self.waits_for(bays, "scope")
+        with self.assertRaisesRegex(BadWish, "^scope is an instrument of this lab, and no station: guest-2 holds it$"):
+            await bays.release("scope", "me")
         self.assertRegex(others[0].home.for_whom(others[0])[1], r"^scope has been held by guest-2 for .*which waits in the bay south, too: oven has been held by guest-1")  # type: ignore[union-attr]
         one.cancel()
         await bays.let_go(oven, self.owner)

@@ -283,6 +283,12 @@ class Restarts(OnCrossings):
         await again.let_go(back, self.owner)
         await self.eventually(lambda: not self.stands(again))
 
+    async def test_who_was_not_told_has_it_in_the_order_of_asking(self) -> None:
+        bays = await self.bays()
+        await self.crosses(bays, "oven", "scope", ticket=TICKET)
+        await bays.close()
+        self.assertEqual((await self.crosses(await self.bays(), "oven", "scope", ticket=TICKET)).instruments, ("oven", "scope"))
+
     async def test_a_release_of_one_that_is_back(self) -> None:
         bays = await self.bays()
         it = await self.crosses(bays, "oven", "scope", ticket=TICKET)

@@ -3,6 +3,7 @@ tests.cuts); and when a program is told."""
 
 from __future__ import annotations
 
+import asyncio
 import os
 import signal
 import subprocess
@@ -10,13 +11,17 @@ import sys
 import threading
 import time
 import unittest
+from types import SimpleNamespace
+from typing import Any
 
+import grpc
 import labrun
 import labrun_broker
 from labrun_broker import broker_pb2 as pb
 from labrun_broker.bay import bay_of
 from labrun_broker.held import Held
 from labrun_broker.keeping import Keeping
+from labrun_broker.stream import Lost, Stream
 from labrun_broker.work import clock
 from tests.brokers import BAY, LIMIT, SOON, Broker, OnBroker, free_port, station, until
 from tests.cuts import cuts
@@ -225,3 +230,34 @@ def is_there(number: int) -> bool:
 
 if __name__ == "__main__":
     unittest.main()
+
+
+class Writes(unittest.IsolatedAsyncioTestCase):
+    async def test_one_that_never_ends(self) -> None:
+        """As gRPC may leave it on a connection that was cut: whoever asks hears all the same that the stream is lost."""
+        over = asyncio.Event()
+
+        class Call:
+            async def write(self, _: object) -> None:
+                await asyncio.Event().wait()
+
+            async def read(self) -> object:
+                await over.wait()
+                return grpc.aio.EOF
+
+            async def code(self) -> grpc.StatusCode:
+                return grpc.StatusCode.UNAVAILABLE
+
+            async def details(self) -> str:
+                return "cut"
+
+            def cancel(self) -> None: ...
+
+        lab: Any = SimpleNamespace(_methods={"Hold": lambda metadata: Call()}, _metadata=(), _idle=[])
+        stream = Stream(lab)
+        asks = [asyncio.create_task(stream.asks(ping=pb.Ping(at=at))) for at in (1.0, 2.0)]
+        await asyncio.sleep(0.01)
+        over.set()
+        for it in asks:
+            with self.assertRaisesRegex(Lost, "cut"):
+                await asyncio.wait_for(it, LIMIT)

@@ -4,9 +4,11 @@ from __future__ import annotations
 
 import asyncio
 import contextlib
+import csv
 import json
 import os
 import random
+import re
 import shlex
 import signal
 import subprocess
@@ -17,6 +19,7 @@ import unittest
 from typing import Any
 from unittest import mock
 
+import labrun_broker
 from labrun import JournalError
 from labrun_broker import leading, shell
 from labrun_broker.applying import apply
@@ -24,6 +27,7 @@ from labrun_broker.bay import bay_of
 from labrun_broker.errors import CantChange, OutOfOrder
 from labrun_broker.etcd import EtcdError, get, put
 from labrun_broker.leading import Leading, file_mark
+from labrun_broker.past import read_past
 from labrun_broker.wishes import Wish
 from tests.brokers import BAY, COMMAND, LIMIT, free_port, until
 from tests.etcds import OnEtcd
@@ -93,12 +97,13 @@ class Command:
 class OnPair(OnEtcd):
     """Two brokers, of which the first leads."""
 
-    def pair(self, bay: str = BAY, *words: str, command: list[str] = COMMAND, other: str = "") -> None:
-        """`other` is the bay's file of the second one, if it isn't the same."""
+    def pair(self, bay: str = BAY, *words: str, command: list[str] = COMMAND, other: str = "", states: str = "") -> None:
+        """`other` is the bay's file of the second one, if it isn't the same; `states` has the folder of each, if they have one."""
         ports = [free_port(), free_port()]
         self.addresses = ",".join(f"127.0.0.1:{it}" for it in ports)
-        self.serves = lambda at: Serving(self, ports[at], *words, bay=other if at and other else bay, lease=LEASE)
-        self.brokers = [Serving(self, ports[0], *words, bay=bay, command=command, lease=LEASE)]
+        its = lambda at: (*words, "--state", f"{states}/{at}") if states else words
+        self.serves = lambda at: Serving(self, ports[at], *its(at), bay=other if at and other else bay, lease=LEASE)
+        self.brokers = [Serving(self, ports[0], *its(0), bay=bay, command=command, lease=LEASE)]
         self.brokers[0].says("4 instruments, at ")
         self.brokers.append(self.serves(1))
         self.brokers[1].says("stands by: ")
@@ -259,6 +264,79 @@ class MadeSafe(OnPair):
         self.assertIn("supply has been out of order", said)
 
 
+class OfEachMachine(OnPair):
+    """What `table`, `report` and `table --notes` say of the folder of each machine, once the other one has led."""
+
+    def setUp(self) -> None:
+        super().setUp()
+        self.states = self.enterContext(tempfile.TemporaryDirectory())
+
+    def shown(self, at: int, *words: str) -> list[str]:
+        done = subprocess.run([*COMMAND, words[0], f"{self.states}/{at}", *words[1:]], capture_output=True, text=True, timeout=LIMIT)
+        self.assertEqual((done.returncode, done.stderr), (0, ""))
+        return done.stdout.splitlines()
+
+    def sessions(self, at: int) -> list[tuple[str, str, str, str]]:
+        """The station, number, end and notes of each."""
+        return [(it["station"], it["session"], it["end"], it["notes"]) for it in csv.DictReader(self.shown(at, "table", "--csv"))]
+
+    def has(self, at: int, its: list[tuple[str, str, str, str]]) -> None:
+        """What was answered is in the file soon."""
+        until(lambda: self.sessions(at) == its, f"{its}, and not {self.sessions(at)}")
+
+    def test_a_session_that_ends_while_the_other_one_leads(self) -> None:
+        self.pair(states=self.states)
+        lab = self.enterContext(labrun_broker.connect(self.addresses))
+        with lab.hold("load-1") as other:
+            with lab.hold("scope", "supply") as held:
+                held.note("by the first")
+                self.has(0, [("guest-1", "1", "holds", ""), ("guest-2", "2", "holds", "by the first")])
+                self.kills(0)
+                held.note("by the second")
+                other.note("that goes on")
+            self.has(1, last := [("guest-1", "1", "holds", "that goes on"), ("guest-2", "2", "done", "by the second")])
+            self.kills(1)
+            with lab.hold("scope"):
+                other.note("by the first again")
+                its = [("guest-1", "1", "holds", "by the first again"), ("guest-2", "2", "done", "by the first"), ("guest-2", "3", "holds", "")]
+                self.has(0, its)
+                report = self.shown(0, "report")
+        self.assertEqual([it.partition(" holds")[0] for it in report if " since " in it], ["guest-1", "guest-2"])
+        use = {it.split()[0]: int(re.findall(r"(\d+) %", it)[0]) for it in report if re.match("(scope|supply|load-1) ", it)}
+        # (two held it, one after the other, from when the first began to lead)
+        self.assertTrue(0 < use["scope"] <= 100 and 0 < use["supply"] < 100 and 0 < use["load-1"] <= 100, report)
+        self.assertEqual(self.sessions(1), last)
+        notes = lambda at: [(it["station"], it["session"], it["note"]) for it in csv.DictReader(self.shown(at, "table", "--notes"))]
+        self.assertEqual(notes(0), [("guest-2", "2", "by the first"), ("guest-1", "1", "by the first again")])
+        self.assertEqual(notes(1), [("guest-2", "2", "by the second"), ("guest-1", "1", "that goes on")])
+
+
+    def test_killed_at_any_moment(self) -> None:
+        """Once each has led again its file has no session that is open, none twice, and no moment at which two held the scope."""
+        dice = random.Random(2)
+        self.pair(f'gone = "release"\n{BAY}', "--grace", "20", states=self.states)
+        hold = f"{shlex.join(COMMAND)} hold scope --quiet -- sleep 0.05"
+        script = f"while [ ! -e {self.states}/end ]; do {hold} || [ $? = 69 ] || exit 1; done"
+        clients = [subprocess.Popen(["sh", "-c", script], env=self.environment, start_new_session=True) for _ in range(4)]
+        self.addCleanup(ended, clients)
+        for at in (0, 1, 0, 1):
+            time.sleep(dice.uniform(0.3, 0.9))
+            self.kills(at)
+        with open(f"{self.states}/end", "w", encoding="ascii"):
+            pass
+        self.assertEqual([client.wait(LIMIT * 5) for client in clients], [0] * 4)
+        until(lambda: "nobody holds or waits" in self.ran("status").stdout, "all is over")
+        self.kills(0)
+        self.kills(1)
+        for at in (0, 1):
+            its, _ = read_past(f"{self.states}/{at}")
+            held = sorted((it.held, it.ended, it.number) for it in its.ended if it.held is not None and it.ended is not None)
+            self.assertGreater(len(held), 1)
+            self.assertEqual((list(its.now), len(held)), ([], len({number for *_, number in held})), held)
+            # (the journal's moments are whole milliseconds)
+            self.assertFalse([(one, two) for one, two in zip(held, held[1:]) if two[0] < one[1] - 0.002], held)
+
+
 class Stopped(Brokers):
     """One that leads no more, and doesn't know it, while its command goes on."""
 
@@ -309,7 +387,7 @@ class Applied(OnPair):
         def tries() -> bool:
             ran = self.by(ANA, "bay", "apply", f"{self.brokers[0].folder}/other.toml")
             # (on a busy machine etcd may not be quiet within a second)
-            if "there was always something to be written" in ran.stderr:
+            if "nothing has changed; try again" in ran.stderr:
                 return False
             self.assertEqual(ran.returncode, 0, ran.stderr)
             return True

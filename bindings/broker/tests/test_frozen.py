@@ -40,6 +40,19 @@ sys.exit(command.main())
 SILENT = "doesn't answer\n"
 
 
+class Unopened(Broker):
+    opens = "labrun-broker: .*/state isn't open after 10 s, as where a disk doesn't answer; nobody is let in before it is\n"
+
+
+class Begins(unittest.TestCase):
+    def test_where_the_disk_hangs(self) -> None:
+        """It is told by the broker that begins there: it can do nothing else. (Whoever opens a pipe to read waits for somebody who writes.)"""
+        folder = self.enterContext(tempfile.TemporaryDirectory())
+        os.mkdir(f"{folder}/state")
+        os.mkfifo(f"{folder}/state/bay.journal")
+        Unopened(folder, BAY, ("--state", f"{folder}/state")).kill()
+
+
 class StandsStill(OnBroker):
     """A time limit is kept to within some two seconds. (More is left here to a busy machine; without the limit it would be for ever.)"""
 

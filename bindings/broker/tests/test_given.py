@@ -10,6 +10,7 @@ import unittest
 from typing import Any
 
 import labrun_broker
+from labrun_broker import errors
 
 
 class Given(unittest.TestCase):
@@ -90,6 +91,15 @@ class Given(unittest.TestCase):
             self.assertEqual(held.timeout, None if seconds is None else float(seconds))
         for any_of in (["scope", ["scope", "supply"]], iter(("scope",)), {"scope": 1}, (it for it in [("scope", "supply")])):
             self.lab.hold(any_of=any_of)
+
+
+class Names(unittest.TestCase):
+    def test_each_error_of_the_broker_has_one(self) -> None:
+        """By which a program catches it."""
+        for it in (*errors.KINDS.values(), errors.BrokerError, errors.Unreachable, errors.AnswerLost):
+            name = getattr(it, "__name__", "")
+            with self.subTest(name):
+                self.assertIs(getattr(labrun_broker, name), it)
 
 
 if __name__ == "__main__":

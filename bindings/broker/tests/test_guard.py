@@ -15,7 +15,7 @@ import unittest
 from typing import Any, Callable
 
 import labrun
-from tests.brokers import LIMIT, free_port, is_stopped, station, until
+from tests.brokers import COMMAND, LIMIT, free_port, is_stopped, station, until
 from tests.guards import REFUSED, BeforeInstruments, program, talk
 
 
@@ -123,6 +123,21 @@ class Commands(BeforeInstruments):
                 if not it.ask("*IDN?"):
                     raise ConnectionError
 
+    def test_a_guard_that_is_killed(self) -> None:
+        with self.lab().hold("scope") as held:
+            is_reset_by_its_death(self, held.address("scope"))
+
+    def test_a_hold_that_is_killed(self) -> None:
+        """Its command, which led by it, is told that its connection was cut."""
+        program = "import os, socket\none = socket.create_connection(('127.0.0.1', int(os.environ['LABRUN_SCOPE'].rpartition(':')[2])))\n"
+        program += "print(one.recv(64), flush=True)\ntry: print(one.recv(64))\nexcept OSError as fault: print(type(fault).__name__)"
+        words = [*COMMAND, "hold", "scope", "--broker", self.at.broker.address, "--", sys.executable, "-c", program]
+        with subprocess.Popen(words, stdout=subprocess.PIPE, text=True) as hold:
+            assert hold.stdout is not None
+            self.assertEqual(hold.stdout.readline(), "b'READY\\n'\n")
+            hold.kill()
+            self.assertEqual(hold.stdout.read(), "ConnectionResetError\n")
+
     def test_a_guard_of_several_brokers(self) -> None:
         """The first of its list isn't there: it hears the one that is."""
         self.at.end()
@@ -167,6 +182,18 @@ class Commands(BeforeInstruments):
             self.assertEqual(talk(held.address("scope")).ask("ADD 1"), "OK")
         process.kill()
         self.assertEqual(process.stderr.read(), "")
+
+
+def is_reset_by_its_death(test: BeforeInstruments, at: tuple[str, int]) -> None:
+    """A connection, as its guard is killed: what was cut doesn't look whole."""
+    assert test.at.process is not None
+    with socket.create_connection(at, LIMIT) as one:
+        test.assertEqual(one.recv(64), b"READY\n")
+        one.sendall(b"*IDN?\n")
+        test.assertEqual(one.recv(64), b"scope\n")
+        test.at.process.kill()
+        with test.assertRaises(ConnectionResetError):
+            one.recv(64)
 
 
 def connections(path: str) -> int:
@@ -308,6 +335,10 @@ class ByHost(BeforeInstruments):
             raise ConnectionError
         done = self.at.broker.ran("hold", "scope", "--", "sh", "-c", "echo $LABRUN_SCOPE")
         self.assertEqual(done.stdout, f"127.0.0.1:{port}\n")
+
+    def test_a_guard_that_is_killed(self) -> None:
+        with self.lab().hold("scope"):
+            is_reset_by_its_death(self, ("127.0.0.1", self.at.ports["scope"]))
 
     def test_nobody_holds(self) -> None:
         with self.assertRaises(REFUSED):

@@ -7,6 +7,7 @@ import asyncio.selector_events
 import contextlib
 import hashlib
 import os
+import socket
 import ssl
 import subprocess
 import tempfile
@@ -140,7 +141,7 @@ class Exclusion(Inside):
         self.assertEqual(await client.asks("*IDN?"), "")
         guard.told(holder(4))
         with mock.patch.object(guards, "PATIENCE", 0.1):
-            self.assertEqual(await (await self.client()).asks(f"labrun {TICKETS[4]}"), "no: the broker can't be reached, and when it last was, scope is held by nobody")
+            self.assertEqual(await (await self.client()).asks(f"labrun {TICKETS[4]}"), "no: the broker can't be reached, and when it last was, scope was held by nobody")
         # (what wasn't written down when the broker was killed holds again)
         guard.told(holder(5))
         await self.through(5)
@@ -236,6 +237,36 @@ class Between(Inside):
         self.assertEqual(await client.reader.read(), b"1\n1\n")
         await eventually(lambda: (self.instrument.open, len(guard.through)) == (0, 0))
 
+    async def test_a_long_answer_is_whole(self) -> None:
+        """Though its connection is one that would be reset if the guard died: whoever says first that it is all, and however late it is read."""
+        length = 1 << 24
+
+        async def answers(reader: asyncio.StreamReader, writer: asyncio.StreamWriter) -> None:
+            line = await reader.readline()
+            if line == b"all\n":
+                self.assertEqual(await reader.read(), b"")
+            writer.write(bytes(length))
+            writer.close()
+
+        self.instrument.server.close()
+        server = await asyncio.start_server(answers, "127.0.0.1", 0)
+        self.addCleanup(server.close)
+        self.port = server.sockets[0].getsockname()[1]
+        guard = await self.guard()
+        guard.told(holder(1))
+        for line in (b"all\n", b"more\n"):
+            with self.subTest(line), mock.patch.object(guards, "PATIENCE", 2 * LIMIT):
+                client = await self.through(1)
+                client.writer.write(line)
+                if line == b"all\n":
+                    client.writer.write_eof()
+                [one] = guard.through
+                await eventually(lambda: one.caller.transport.get_write_buffer_size())
+                async with asyncio.timeout(LIMIT):
+                    self.assertEqual(len(await client.reader.read()), length)
+                client.writer.close()
+                await eventually(lambda: not guard.through)
+
     async def test_bytes_that_another_guard_had(self) -> None:
         """One that was started again waits for them only as long as a connection of the session is open."""
         guard = await self.guard()
@@ -282,7 +313,7 @@ class ByHost(Inside):
         """The client comes from 127.0.0.1; the holder from there, from elsewhere, from the broker's machine, or it is gone."""
         guard = await self.guard(by_host=True)
         for token, (host, is_let) in enumerate((("127.0.0.1", True), ("10.1.2.3", False), ("::ffff:127.0.0.1", True), (None, False), ("here", True)), 1):
-            with self.subTest(host), mock.patch.object(guards, "PATIENCE", 0.1):
+            with self.subTest(host), mock.patch.object(guards, "PATIENCE", LIMIT if is_let else 0.1):
                 guard.told(holder(token)._replace(host=host))
                 self.assertEqual(bool(await (await self.client()).asks("*IDN?")), is_let)
         # its client is gone, and was here
@@ -293,20 +324,74 @@ class ByHost(Inside):
         guard = await self.guard(by_host=True)
         for where, is_let in ((frozenset({"10.1.2.3"}), False), (frozenset({"127.0.0.1"}), True)):
             guard._where = lambda: where
-            with mock.patch.object(guards, "PATIENCE", 0.1):
+            with mock.patch.object(guards, "PATIENCE", LIMIT if is_let else 0.1):
                 guard.told(holder(1)._replace(host="here"))
                 self.assertEqual(bool(await (await self.client()).asks("*IDN?")), is_let)
 
 
+    async def test_why_not(self) -> None:
+        """A client that says nothing can't be told why it isn't let through: the guard says it."""
+        guard, said = await self.guard(by_host=True), list[str]()
+        guard._says = said.append
+        with mock.patch.object(guards, "PATIENCE", 0.1):
+            self.assertEqual(await (await self.client()).asks("*IDN?"), "")
+            guard.told(holder(2)._replace(host="10.1.2.3"))
+            self.assertEqual(await (await self.client()).asks("*IDN?"), "")
+            guard.is_told = True
+            guard.told(None)
+            self.assertEqual(await (await self.client()).asks("*IDN?"), "")
+            guard.told(holder(3)._replace(host="10.1.2.3"))
+            self.assertEqual(await (await self.client()).asks("*IDN?"), "")
+        because = "scope: a connection from 127.0.0.1 isn't let through, because"
+        away = "the broker can't be reached, and"
+        whys = [f"{away} hasn't been since this guard began", f"{away} when it last was, scope was held by guest-2", "scope is held by nobody", "scope is held by guest-3"]
+        self.assertEqual(said, [f"{because} {why}" for why in whys])
+
+
 class WithTls(Inside):
-    async def test_by_its_certificate(self) -> None:
-        folder = self.enterContext(tempfile.TemporaryDirectory())
+    def context(self, folder: str) -> ssl.SSLContext:
         for name in ("one", "other"):
             words = ["openssl", "req", "-x509", "-newkey", "ec", "-pkeyopt", "ec_paramgen_curve:prime256v1", "-nodes", "-days", "2", "-subj", "/CN=it"]
             words += ["-addext", "subjectAltName=IP:127.0.0.1", "-keyout", f"{folder}/{name}.key", "-out", f"{folder}/{name}"]
             subprocess.run(words, check=True, capture_output=True)
         context = ssl.SSLContext(ssl.PROTOCOL_TLS_SERVER)
         context.load_cert_chain(f"{folder}/one", f"{folder}/one.key")
+        return context
+
+    async def test_an_end_that_tls_does_not_say(self) -> None:
+        """What a guard that is cut off, or dead, has begun to answer doesn't look whole."""
+        folder, is_orderly = self.enterContext(tempfile.TemporaryDirectory()), False
+
+        async def answers(reader: asyncio.StreamReader, writer: asyncio.StreamWriter) -> None:
+            await reader.readline()
+            writer.write(b"ok\nhal")
+            if is_orderly:
+                writer.close()
+            else:
+                with socket.socket(fileno=os.dup(writer.get_extra_info("socket").fileno())) as one:
+                    one.shutdown(socket.SHUT_WR)
+
+        server = await asyncio.start_server(answers, "127.0.0.1", 0, ssl=self.context(folder))
+        self.addCleanup(server.close)
+        at = "{}:{}".format(*server.sockets[0].getsockname())
+        with open(f"{folder}/one", "rb") as file:
+            known = file.read()
+        with mock.patch("labrun_broker.forward.is_here", return_value=False):
+            for is_orderly in (True, False):
+                ways = Ways({"scope": at}, TICKETS[1], known)
+                reader, writer = await asyncio.open_connection(*await ways.address("scope"))
+                self.addCleanup(writer.close)
+                async with asyncio.timeout(LIMIT):
+                    if is_orderly:
+                        self.assertEqual(await reader.read(), b"hal")
+                    else:
+                        with self.assertRaises(ConnectionResetError):
+                            await reader.read()
+                ways.close()
+
+    async def test_by_its_certificate(self) -> None:
+        folder = self.enterContext(tempfile.TemporaryDirectory())
+        context = self.context(folder)
         guard = self.its = Guard(Way("scope", "127.0.0.1", self.port))
         self.server = await asyncio.get_running_loop().create_server(lambda: Caller(guard), "127.0.0.1", 0, ssl=context)
         self.addCleanup(self.server.close)

@@ -65,7 +65,7 @@ class Races(unittest.IsolatedAsyncioTestCase):
         keeping = Keeping(bay_of(BAY), None)
         await keeping.open()
         self.addAsyncCleanup(keeping.close)
-        visits = Visits(keeping, Entrance(keeping, None))
+        visits = Visits(keeping, Entrance(keeping))
         for asks in (lambda it: it.lets_go(None), lambda it: it.notes("5 V")):
             visit = await visits.asks(Wish(("scope",), ticket=secrets.token_hex()), Caller())
             await visit.outlasts(WAITING, LIMIT, lambda: True)
@@ -363,6 +363,16 @@ class Gone(OnHttp):
         self.assertEqual(answer[0], 200)
         self.told((410, "TakenAway", "its client was gone for 4 s"), one.of(ticket))
 
+    def test_who_waits_asks_as_often_as_one_that_holds(self) -> None:
+        """Else it would be released before it has heard that it holds: six times in three quarters of the grace, and each five seconds in any case."""
+        for grace, ping in (("1", 0.125), ("60", 5.0)):
+            with self.subTest(grace):
+                # (the board's is kept, however slow this is)
+                _, one = self.http(f'{RELEASES}[station_gone]\nboard = "keep"\n', "--grace", grace)
+                one.holds("scope", station="board")
+                status, told = one.asks("scope")
+                self.assertEqual((status, told["state"], told["ping"]), (202, "waiting", ping))
+
     def test_no_answer_is_older_than_a_part_of_the_lease(self) -> None:
         _, one = self.http(RELEASES, "--grace", "8")
         ticket, began = one.holds("scope"), time.monotonic()
@@ -507,6 +517,21 @@ class Refused(OnHttp):
             self.told((429, "Unreachable", "3 clients are here"), one.asks("load-1"))
             one.lets_go(first)
             one.holds("load-1")
+        broker.end()
+        # (as of clients of the other kind)
+        self.assertEqual(broker.said, "labrun-broker: a client of the Unix socket (HTTP) isn't let in, and is told: 3 clients are here, and no more may come\n")
+
+    def test_more_may_come_once_the_bay_says_so(self) -> None:
+        """Each with a connection of its own: as many as the bay had clients, and 64."""
+        broker, _ = self.http(BAY + "[limits]\nclients = 1\n")
+        self.lab(broker).apply(BAY + "[limits]\nclients = 9\n")
+        for number in range(1 + 64 + 2):
+            one = socket.socket(socket.AF_UNIX)
+            self.addCleanup(one.close)
+            one.settimeout(LIMIT)
+            one.connect(f"{broker.folder}/bay.sock.http")
+            one.sendall(b"GET /v1/openapi.json HTTP/1.1\r\nHost: localhost\r\n\r\n")
+            self.assertEqual(one.recv(15), b"HTTP/1.1 200 OK", number)
 
     def test_too_fast(self) -> None:
         """What isn't of a session counts as twenty requests."""

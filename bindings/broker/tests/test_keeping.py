@@ -143,7 +143,7 @@ class Sessions(OnKeeping):
             await keeping.let_go(await self.holds(keeping, "load-2"), self.owner)
         last = await self.asks(keeping, "load-2")
         text = how(keeping, "guest-3")["waits_for"][0]["text"]
-        self.assertRegex(text, r"^load-2 is kept for guest-2 until it holds, since 2 that asked later went before it and it waits for load-1, held by guest-1 for \d+\.\d s$")
+        self.assertRegex(text, r"^load-2 is kept for guest-2 until it holds, since 2 went before it and it waits for load-1, held by guest-1 for \d+\.\d s$")
         await keeping.let_go(holds, self.owner)
         for one in (board, last):
             await keeping.let_go(await one, self.owner)
@@ -284,6 +284,8 @@ class Sessions(OnKeeping):
         self.assertEqual([it["place"] for it in keeping.status()["stations"] if it["state"] == "holding"], [None])
         await keeping.let_go(holder, self.owner)
         self.assertEqual(((await first).state, rows()), ("holding", [(1, 1)]))
+        # (the one that went before it had asked before)
+        self.assertIn("number 1 in line; 1 went before it since it asked, and after 2 what it needs is kept for it", "\n".join(lines_of(keeping.status())))
         await keeping.let_go(await first, self.owner)
         self.assertEqual((await second).state, "holding")
 
@@ -703,7 +705,7 @@ class Jumps(OnFolder):
 class Memory:
     """A bay's state that is no folder: all that another store has to be."""
 
-    path, lets_wait = "memory", False
+    path, lets_wait, is_written, is_under_way = "memory", False, True, False
 
     def __init__(self) -> None:
         self.store, self.records, self._text, self._places, self.told = self, self, b"", Places(), list[dict[str, Any]]()
@@ -733,6 +735,10 @@ class Memory:
     def add(self, record: dict[str, Any]) -> None:
         self.told.append(record)
 
+    def follows(self, at: int, has: int) -> None: ...
+
+    def ends(self, has: int) -> None: ...
+
     def has_file(self, bay: Any) -> None: ...
 
     def recent(self) -> list[dict[str, Any]]:
@@ -741,8 +747,13 @@ class Memory:
     def places(self, is_needed: bool) -> Places:
         return self._places
 
+    def lost(self, known: Any, recent: list[dict[str, Any]]) -> list[str]:
+        return []
+
     def keeps(self, places: Places) -> None:
         self._places = places
+
+    def mends(self, missing: Any, holds: Any) -> None: ...
 
 
 class Seam(OnKeeping):

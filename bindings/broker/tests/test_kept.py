@@ -1,22 +1,34 @@
 """What becomes of the session of a client that is gone, by its instruments and its station."""
 
 import asyncio
+import itertools
 import json
 import math
+import signal
+import tempfile
 import unittest
-from typing import Optional
+from dataclasses import replace
+from typing import Any, Optional
+from unittest import mock
 
+from labrun import JournalError
+from labrun_broker import applying
 from labrun_broker.applying import apply
 from labrun_broker.bay import BayFault, bay_of
 from labrun_broker.keeping import Keeping
-from labrun_broker.kept import Gone
+from labrun_broker.kept import Gone, Told
+from labrun_broker.places import Places, places_of
 from labrun_broker.standing import Standings
 from labrun_broker.wishes import Ended, Wish
-from tests.brokers import BAY, OnBroker
-from tests.test_keeping import TICKET, OnFolder, Owner, how
+from tests.brokers import BAY, LIMIT, OnBroker, until
+from tests.test_keeping import TICKET, OnFolder, Owner, eventually, how
 
 # of a bay that keeps: both loads, and whoever is the radio, let go
 MIXED = BAY + 'gone = "keep"\n[instrument_gone]\nload-1 = "release"\nload-2 = "release"\n[station_gone]\nradio = "release"\n'
+
+# of a bay that keeps all else
+LOADS = BAY + '[instrument_gone]\nload-1 = "release"\nload-2 = "release"\n'
+KEPT = "who holds now may have been told that a session whose client is gone is kept until somebody releases it. That goes for those sessions until they have ended"
 
 
 class Words(unittest.TestCase):
@@ -36,6 +48,30 @@ class Words(unittest.TestCase):
         other = Gone("release", {"": "keep"}, {"oven": "keep"})
         found = [other.keeps(station, its) for station, its in (("", ("scope",)), ("radio", ("scope",)), ("radio", ("scope", "oven")))]
         self.assertEqual(found, [True, False, True])
+
+    def test_by_which_somebody_was_told(self) -> None:
+        """Whose token is in its span. A part of a session over several bays goes by the words of others, too: so any count."""
+        keeps, frees, load = Gone(), Gone("keep", {}, {"load": "release"}), ("", ["load"])
+        before = Places(grace=None).with_words(keeps, (), {}, True)
+        self.assertEqual((before.gone, before.words), ((), (Told(keeps),)))
+        # (of the tokens up to 4 somebody holds by 2 and 4)
+        its = replace(before, grace=200).with_words(frees, before.words, {2: False, 4: False}, False)
+        self.assertEqual(its.gone, (Told(keeps, 0, 5), Told(frees, 5)))
+        self.assertEqual([its.told(*load, token) for token in (2, 4, 5, 9, None)], [{True}, {True}, {False}, {False}, {True, False}])
+        self.assertEqual(places_of(its.text()), its)
+        # a third word, once nobody holds any more who was told by the first; or a part does
+        self.assertEqual(its.with_words(keeps, its.words, {7: False}, False).gone, (Told(frees, 5, 8), Told(keeps, 8)))
+        self.assertEqual(its.with_words(keeps, its.words, {7: True}, False).gone, (Told(keeps, 0, 5), Told(frees, 5, 8), Told(keeps, 8)))
+        # a broker that begins tells those that hold, too, as they come back
+        begun = replace(its, grace=None).with_words(keeps, its.words, {4: False, 7: False}, True)
+        self.assertEqual((begun.gone, begun.told(*load, 7)), ((Told(frees, 5, 8), Told(keeps)), {True, False}))
+        self.assertEqual(its.with_words(frees, its.words, {}, True).gone, (Told(frees),))
+
+    def test_what_isnt_so_in_the_file(self) -> None:
+        for more in ({"from": "2"}, {"until": True}, {"from": None}):
+            text = json.dumps({"instruments": [], "stations": [], "grace": 0, "gone": [{**vars(Gone()), **more}]})
+            with self.subTest(more), self.assertRaisesRegex(ValueError, "^of which tokens somebody was told"):
+                places_of(text)
 
     def test_read(self) -> None:
         bay = bay_of(MIXED)
@@ -59,6 +95,18 @@ class Sessions(OnFolder):
         await keeping.open()
         self.addAsyncCleanup(keeping.close)
         return keeping
+
+    async def test_nobody_was_told_by_words_of_before(self) -> None:
+        """Nobody held as the bay changed and changed back: the next broker releases whoever was told so since then."""
+        folder, releases = self.enterContext(tempfile.TemporaryDirectory()), BAY + 'gone = "release"\n'
+        keeping, owner = await self.opened(releases, folder), Owner()
+        for text in (MIXED, releases):
+            await apply(keeping, text, "eve", False)
+        load = await keeping.hold(Wish(("load-1",)), owner)
+        self.assertEqual(keeping.lease_of(load), 0.2 * 0.75)
+        await keeping.close()
+        again = await self.opened(releases, folder)
+        self.assertEqual((again.complaints, again.grace), ([], 0.2))
 
     async def test_each_as_its_words_say(self) -> None:
         """Who waits is told what is to be done, or that it is released; its client has a lease only then."""
@@ -93,7 +141,7 @@ class Sessions(OnFolder):
         await asyncio.sleep(0.5)
         self.assertEqual((how(again, "board")["state"], how(again, "guest-1")["state"]), ("gone", "gone"))
         [complaint] = again.complaints
-        self.assertRegex(complaint, "^who holds now was told that a session whose client is gone is kept until somebody releases it. That goes for all")
+        self.assertEqual(complaint, KEPT)
         await again.release("guest-1", "eve")
         await again.close()
         third = await self.opened(free, folder)
@@ -132,16 +180,121 @@ class Sessions(OnFolder):
                 await asyncio.sleep(0.4)
                 self.assertEqual(second.state, "over" if was else "gone")
                 with open(f"{folder}/bay.json", encoding="utf-8") as file:
-                    self.assertIn({"bay": "keep" if was else "release", "stations": {}, "instruments": {"scope": new}}, json.load(file)["gone"])
+                    # (the first one, of the token 1, held as the bay changed)
+                    self.assertIn({"bay": "keep" if was else "release", "stations": {}, "instruments": {"scope": new}, "from": 2}, json.load(file)["gone"])
                 await keeping.close()
                 again = await self.opened(before, folder)
                 await asyncio.sleep(0.4)
-                self.assertEqual((how(again, "board")["state"], again.keeps_all), ("idle", False) if was else ("gone", True))
-                self.assertEqual(math.isinf(again.grace), True)
+                self.assertEqual((how(again, "board")["state"], again.complaints), ("idle", []) if was else ("gone", [KEPT]))
+                self.assertEqual(again.grace, math.inf if was else 0.2)
                 await again.close()
+
+    async def both(self, folder: str) -> Keeping:
+        """A bay that kept all, and then not the loads: guest-1 with load-1 came to hold before, and the board with the supply; guest-2 with load-2
+        since."""
+        keeping, owner = await self.opened(BAY, folder), Owner()
+        first = [await keeping.hold(Wish(("supply",), station="board"), owner), await keeping.hold(Wish(("load-1",)), owner)]
+        await apply(keeping, LOADS, "eve", False)
+        second = await keeping.hold(Wish(("load-2",)), owner)
+        self.assertEqual([keeping.lease_of(it) for it in (*first, second)], [None, None, 0.2 * 0.75])
+        await keeping.close()
+        return keeping
+
+    async def test_a_change_and_then_a_restart(self) -> None:
+        """Who came to hold before the change is kept, as he was told; who did since then isn't, and of him alone nothing is said."""
+        folder, owner = self.folder(), Owner()
+        await self.both(folder)
+        for _ in range(2):
+            again = await self.opened(LOADS, folder)
+            self.assertEqual((again.complaints, again.grace), ([KEPT], 0.2))
+            await eventually(lambda: how(again, "load-2")["holder"] is None, "load-2 is let go")
+            third = await again.hold(Wish(("load-2",)), owner)
+            self.assertEqual(again.lease_of(third), 0.2 * 0.75)
+            await asyncio.sleep(0.4)
+            self.assertEqual([how(again, name)["state"] for name in ("guest-1", "board")], ["gone", "gone"])
+            await again.close()
+        again = await self.opened(LOADS, folder)
+        await again.release("guest-1", "eve")
+        await again.close()
+        again = await self.opened(LOADS, folder)
+        await eventually(lambda: how(again, "load-2")["holder"] is None, "load-2 is let go")
+        self.assertEqual((again.complaints, how(again, "board")["state"]), ([], "gone"))
+
+    async def test_where_it_isnt_known(self) -> None:
+        """An older broker's file says of no word whose it was: the careful one counts. So it does if the broker couldn't write it down."""
+        one, other = self.folder(), self.folder()
+        await self.both(one)
+        with open(f"{one}/bay.json", encoding="utf-8") as file:
+            its = json.load(file)
+        for it in its["gone"]:
+            it.pop("from", 0), it.pop("until", 0)
+        with open(f"{one}/bay.json", "w", encoding="utf-8") as file:
+            json.dump(its, file)
+        writes, count = applying.keeps, itertools.count()
+
+        async def once(*given: Any) -> None:
+            if next(count):
+                raise JournalError("bay.json", "the disk is full")
+            await writes(*given)
+
+        with mock.patch.object(applying, "keeps", once):
+            await self.both(other)
+        for folder in (one, other):
+            again = await self.opened(LOADS, folder)
+            await asyncio.sleep(0.4)
+            self.assertEqual([how(again, name)["state"] for name in ("guest-1", "guest-2", "board")], ["gone"] * 3)
+            self.assertEqual(again.complaints, [KEPT])
+
+    async def test_a_change_that_fails(self) -> None:
+        """Nobody is told by its words, and so no broker goes by them."""
+        folder = self.folder()
+        keeping = await self.opened(LOADS, folder)
+        await keeping.hold(Wish(("load-1",)), Owner())
+        fails = mock.patch.object(keeping._shell.turns, "turn", side_effect=JournalError("bay.journal", "nothing has changed; try again"))
+        with fails, self.assertRaisesRegex(JournalError, "nothing has changed; try again"):
+            await apply(keeping, BAY, "eve", False)
+        await keeping.close()
+        again = await self.opened(LOADS, folder)
+        await eventually(lambda: how(again, "load-1")["holder"] is None, "load-1 is let go")
+        self.assertEqual(again.complaints, [])
+
+    async def test_all_are_kept_since_a_change(self) -> None:
+        """The next broker knows it, also if nobody held as the bay changed."""
+        folder = self.folder()
+        keeping = await self.opened(LOADS, folder)
+        await apply(keeping, BAY, "eve", False)
+        load = await keeping.hold(Wish(("load-1",)), Owner())
+        self.assertEqual(keeping.lease_of(load), None)
+        await keeping.close()
+        again = await self.opened(LOADS, folder)
+        await asyncio.sleep(0.4)
+        self.assertEqual((how(again, "guest-1")["state"], again.complaints), ("gone", [KEPT]))
 
 
 class Commands(OnBroker):
+    def test_a_broker_that_is_killed_after_a_change(self) -> None:
+        broker = self.broker(BAY, "--state", "FOLDER/state", "--grace", "2")
+        path = f"{broker.folder}/bay.toml"
+        with open(path, "w", encoding="utf-8") as file:
+            file.write(LOADS)
+
+        def is_changed() -> bool:
+            # (on a busy machine the disk may not be quiet within a second)
+            return broker.ran("bay", "apply", path).returncode == 0
+
+        until(is_changed, "the change")
+        holds = broker.started("hold", "load-1", "--quiet", "--", "sleep", "600")
+        with broker.lab() as lab:
+            until(lambda: lab.status()["instruments"][2]["holder"], "it holds")
+        holds.send_signal(signal.SIGKILL)
+        broker.kill()
+        holds.communicate(timeout=LIMIT)
+        broker.begin()
+        with broker.lab() as lab:
+            until(lambda: lab.status()["instruments"][2]["holder"] is None, "load-1 is let go")
+        broker.end()
+        self.assertNotIn("may have been told", broker.first + broker.said)
+
     def test_short_graces_and_the_check(self) -> None:
         broker = self.broker()
         with open(f"{broker.folder}/mixed.toml", "w", encoding="utf-8") as file:

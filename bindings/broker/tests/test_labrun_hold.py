@@ -4,6 +4,7 @@ compiler has them, and without a warning."""
 from __future__ import annotations
 
 import contextlib
+import fcntl
 import json
 import os
 import select
@@ -19,7 +20,7 @@ from importlib.util import find_spec
 
 import labrun_broker
 from tests.asking import Asking
-from tests.brokers import BAY, COMMAND, LIMIT, TOP, UNHEARD, Broker, OnBroker, Turns, broker, free_port, heard, station, stopped, until
+from tests.brokers import BAY, COMMAND, IGNORED, IGNORES, LIMIT, SOON, TOP, UNHEARD, Broker, OnBroker, Turns, broker, free_port, heard, is_stopped, station, stopped, until
 from tests.proxies import OfSockets, Ways
 from tests.test_people import ANA, BOB, PEOPLE, WITHOUT_BOB
 from tests.test_warned import LONG, SOONER, THEN
@@ -38,6 +39,17 @@ sys.exit(command.main())
 """
 # what writes when it got SIGTERM, and ends
 MINDS = "trap 'date +%s.%N > FOLDER/ended; exit 0' TERM; echo > FOLDER/begun; while :; do sleep 0.05; done"
+# the same, and it writes nothing, and ends by itself some day
+MINDS_SILENTLY = "exec 2> /dev/null; trap ': > FOLDER/ended; exit 0' TERM; : > FOLDER/begun; n=0; while [ $((n += 1)) -lt 1500 ]; do sleep 0.05; done"
+
+
+def fill(end: int) -> None:
+    """Whoever writes to this end later has to wait."""
+    os.set_blocking(end, False)
+    with contextlib.suppress(BlockingIOError):
+        while True:
+            os.write(end, bytes(4096))
+    os.set_blocking(end, True)
 
 
 @unittest.skipUnless(find_spec("aiohttp"), "there is no aiohttp")
@@ -88,6 +100,17 @@ class Held(OnBroker):
         self.assertEqual([(it["what"], it["text"]) for it in records if it["what"] in ("held", "failed", "let_go")], [("held", ""), ("failed", "status 3")])
         self.assertRegex(records[1]["by"], r"^ann@\S+ \d+ sh$")
 
+    def test_a_broker_that_has_forgotten_it_as_the_command_ends(self) -> None:
+        broker, _ = self.at()
+        one = self.started(broker, "scope", "--", "sh", "-c", "echo > FOLDER/begun; until [ -e FOLDER/go ]; do sleep 0.05; done; exit 5")
+        broker.kill()
+        with open(f"{broker.folder}/go", "w", encoding="ascii"):
+            pass
+        self.assertIn("the command has ended with status 5; the broker hasn't answered yet", heard(one.stderr))
+        broker.begin()
+        said = self.ends(one, 76)
+        self.assertRegex(said, "^labrun-hold: the command ran, and ended with status 5, but:\nlabrun-hold: no session has this ticket: .*\n$")
+
     def test_it_asks_urgently(self) -> None:
         broker, _ = self.at(BAY, "--state", "FOLDER/state")
         for words in (("scope", "--urgent"), ("scope",)):
@@ -129,11 +152,11 @@ class Held(OnBroker):
         one = self.started(broker, "load-1", *his, "--by", "night", "--", "sh", "-c", MINDS)
         lab = labrun_broker.connect(broker.address, token_file=f"{broker.folder}/ana")
         self.addCleanup(lab.close)
-        self.assertEqual(station(lab, "guest-1")["by"], "bob: night")
+        self.assertEqual((its := station(lab, "guest-1"))["by"], "bob: night")
         lab.apply(WITHOUT_BOB)
         said = self.ends(one, 69)
         self.assertIn("this is nobody's token, or not any more; operators: ana; the command is being ended", said)
-        kept = "the session may go on holding, as `labrun-broker status` says, until an operator releases it\n"
+        kept = f"the session may go on holding, as `labrun-broker status` says, until it is released by `labrun-broker release guest-1 --session {its['session']}`\n"
         self.assertRegex(said, rf"labrun-hold: the command ran, and ended with status \d+, but:\nlabrun-hold: {kept}$")
         self.assertEqual((os.path.exists(f"{broker.folder}/ended"), station(lab, "guest-1")["state"]), (True, "gone"))
 
@@ -204,12 +227,57 @@ class Held(OnBroker):
         ran = subprocess.run(["sh", "-c", f"cp /bin/true {broker.folder}/{'n' * 100}; exec {self.program} scope -- {broker.folder}/{'n' * 100}"], env=self.environment(broker))
         self.assertEqual(ran.returncode, 0)
 
+    def test_a_name_that_is_no_utf8(self) -> None:
+        """It isn't taken for a pattern."""
+        broker, one = self.at()
+        name = b"sc\xf6pe".decode("utf-8", "surrogateescape")
+        for words in ((name,), ("scope", name), ("--any", "supply", name), ("scope", "--station", name)):
+            ran = self.ran(broker, *words, "--", "true")
+            self.assertEqual((ran.returncode, ran.stderr), (2, "labrun-hold: this isn't UTF-8: sc\\xf6pe; labrun-hold --help\n"))
+        self.assertEqual(one.status("guest-1")["state"], "idle")
+
     def test_another_broker_socket(self) -> None:
         """One of gRPC alone is told from a broker that is away."""
         broker = self.broker(BAY)
         ran = self.ran(broker, "scope", "--", "true")
         self.assertEqual(ran.returncode, 69, ran.stderr)
         self.assertIn("takes no HTTP", ran.stderr)
+        # (so is one that stands where HTTP's would)
+        broker = self.broker(BAY, "--listen", "unix:FOLDER/bay.sock.http")
+        at = f"unix:{broker.folder}/bay.sock"
+        told = f"labrun-hold: {at}.http takes no HTTP: labrun-broker serve BAY --listen {at} --http {at}.http\n"
+        self.assertEqual(self.ran(broker, "scope", "--", "true").stderr, told)
+
+    def test_a_broker_that_says_nothing_at_the_end(self) -> None:
+        """It is there: so it isn't said that nobody can reach it. (By a program whose minute is a second.)"""
+        with open(SOURCE, encoding="utf-8") as file:
+            text = file.read()
+        soon = f"{self.room}/soon"
+        with open(f"{soon}.c", "w", encoding="utf-8") as file:
+            for long, short in (("AWAY = 60,", "AWAY = 1,"), ("LATE = 10,", "LATE = 1,")):
+                self.assertIn(long, text)
+                text = text.replace(long, short)
+            file.write(text)
+        subprocess.run([str(COMPILER), *STRICT, f"{soon}.c", "-lm", "-o", soon], check=True)
+        broker, one = self.at()
+        waits = f"echo > {broker.folder}/begun; until [ -e {broker.folder}/ends ]; do sleep 0.05; done"
+        # (what it says to type names the broker, and the file of the token, as these were named here)
+        token_file = f"{broker.folder}/a token"
+        with open(token_file, "w", encoding="ascii") as file:
+            file.write(ANA)
+        words = [soon, "scope", "--broker", broker.address, "--token-file", token_file, "--", "sh", "-c", waits]
+        elsewhere = {**self.environment(broker), "LABRUN_BROKER": "unix:/elsewhere"}
+        with subprocess.Popen(words, env=elsewhere, stderr=subprocess.PIPE, text=True) as hold:
+            until(lambda: os.path.exists(f"{broker.folder}/begun"), "the command runs")
+            number = one.status("guest-1")["session"]
+            with stopped(broker):
+                with open(f"{broker.folder}/ends", "w", encoding="utf-8"):
+                    pass
+                said = hold.communicate(timeout=LIMIT)[1]
+        its, at = f"labrun-hold: the broker at unix:{broker.folder}/bay.sock.http doesn't answer any more\n", f"--broker {broker.address} --token-file '{token_file}'"
+        self.assertEqual(hold.returncode, 69, said)
+        kept = f"as `labrun-broker status {at}` says, until it is released by `labrun-broker release guest-1 --session {number} {at}`\n"
+        self.assertTrue(said.endswith(f"{its}labrun-hold: the session may go on holding, {kept}"), said)
 
     def test_it_waits_and_says_for_whom(self) -> None:
         broker, one = self.at()
@@ -264,6 +332,25 @@ class Held(OnBroker):
             pass
         self.assertEqual(self.ends(hold, 0), "")
         self.assertRegex(said, r"^labrun-hold: waits until the command has ended, which goes on after the signal: \d+ sh(, \d+ sleep)?$")
+
+    def test_signals_that_it_is_started_to_ignore(self) -> None:
+        """As by nohup: it goes on waiting, and then neither it nor its command minds them."""
+        broker, other = self.at()
+        ticket = other.holds("scope")
+        command = f"echo > {broker.folder}/begun; while ! [ -e {broker.folder}/go ]; do sleep 0.1; done; exit 3"
+        line = [*IGNORES, self.program, "scope", "--quiet", "--", "sh", "-c", command]
+        one = subprocess.Popen(line, env=self.environment(broker), stderr=subprocess.PIPE, text=True)
+        self.addCleanup(one.kill)
+        until(lambda: other.status("guest-2")["state"] == "waiting")
+        for number in IGNORED:
+            one.send_signal(number)
+        other.lets_go(ticket)
+        until(lambda: os.path.exists(f"{broker.folder}/begun"), "the command runs")
+        for number in IGNORED:
+            one.send_signal(number)
+        with open(f"{broker.folder}/go", "w", encoding="utf-8"):
+            pass
+        self.assertEqual(self.ends(one, 3), "")
 
     def test_ctrl_c_while_it_waits(self) -> None:
         broker, one = self.at()
@@ -340,6 +427,155 @@ class Held(OnBroker):
         self.assertIn("the session with scope was taken away by ben; the command is being ended", self.ends(hold, 76))
         self.assertTrue(os.path.exists(f"{broker.folder}/ended"))
 
+    def nowhere(self) -> "dict[str, tuple[int, str]]":
+        """Standard errors that take nothing: each as a number, and what a shell does about it."""
+        broken, full, (master, terminal) = os.pipe(), os.pipe(), os.openpty()
+        talks = [it.detach() for it in socket.socketpair()]
+        for it in (broken[1], *full, master, terminal, *talks):
+            self.addCleanup(os.close, it)
+        os.close(broken[0])
+        fill(full[1])
+        fill(talks[0])
+        os.write(master, b"\x13")
+        until(lambda: not select.select([], [terminal], [], 0)[1], "the terminal is stopped, by Ctrl-S")
+        runs = 'exec "$@"'
+        return {
+            "a broken pipe": (broken[1], runs),
+            "a full pipe": (full[1], runs),
+            "a full socket": (talks[0], runs),
+            "a terminal that is stopped": (terminal, runs),
+            "a full disk": (subprocess.DEVNULL, f"{runs} 2> /dev/full"),
+            "a file that may not grow": (subprocess.DEVNULL, f"ulimit -f 0; {runs} 2> {self.room}/limited"),
+            "none": (subprocess.DEVNULL, f"{runs} 2>&-"),
+            "no stream at all": (subprocess.DEVNULL, f"{runs} <&- >&- 2>&-"),
+        }
+
+    def unheard(self, broker: Broker, errors: int, shell: str, *words: str, **more: bool) -> "subprocess.Popen[bytes]":
+        words = tuple(it.replace("FOLDER", broker.folder) for it in words)
+        one = subprocess.Popen(["sh", "-c", shell, "sh", self.program, *words], env=self.environment(broker), stderr=errors, **more)
+        self.addCleanup(one.wait)
+        self.addCleanup(one.kill)
+        return one
+
+    def test_nobody_hears_that_it_is_taken_away(self) -> None:
+        """Its command gets SIGTERM all the same, and at once; and wrong words are wrong words."""
+        for name, (errors, shell) in self.nowhere().items():
+            with self.subTest(name), broker(BAY, "--http", "unix:FOLDER/bay.sock.http") as at:
+                hold = self.unheard(at, errors, shell, "scope", "--", "sh", "-c", MINDS_SILENTLY)
+                until(lambda: os.path.exists(f"{at.folder}/begun"), "the command runs")
+                begun = time.monotonic()
+                Asking(f"{at.folder}/bay.sock.http").ask("POST", "/v1/release", {"station": "guest-1", "by": "ben"})
+                until(lambda: os.path.exists(f"{at.folder}/ended"), "the command has got SIGTERM")
+                self.assertLess(time.monotonic() - begun, SOON)
+                self.assertEqual(hold.wait(LIMIT), 76)
+                self.assertEqual(self.unheard(at, errors, shell, "scope", "--nothing").wait(LIMIT), 2)
+
+    def test_nobody_hears_for_whom_it_waits(self) -> None:
+        """Then it runs its command, to which SIGPIPE is what it was to this."""
+        nowhere = self.nowhere()
+        for name, default in (*((name, True) for name in nowhere), ("a broken pipe", False)):
+            with self.subTest(name, default=default), broker(BAY, "--http", "unix:FOLDER/bay.sock.http") as at:
+                one = Asking(f"{at.folder}/bay.sock.http")
+                ticket = one.holds("scope", station="board")
+                waits = self.unheard(at, *nowhere[name], "scope", "--", "sh", "-c", "kill -PIPE $$; exit 7", restore_signals=default)
+                until(lambda: waits.poll() is not None or one.status("guest-1")["state"] == "waiting")
+                # (by then it says for whom)
+                time.sleep(1)
+                one.lets_go(ticket)
+                self.assertEqual(waits.wait(LIMIT), 128 + signal.SIGPIPE if default else 7)
+
+    def test_nobody_hears_for_what_it_waits(self) -> None:
+        """After a signal: it lets go once that has ended."""
+        broker, one = self.at()
+        lags = "exec 2> /dev/null; (trap 'sleep 3; exit' TERM; : > FOLDER/begun; n=0; while [ $((n += 1)) -lt 1500 ]; do sleep 0.05; done) & wait"
+        nowhere = self.nowhere()
+        for name in ("a broken pipe", "a full pipe"):
+            with self.subTest(name):
+                hold = self.unheard(broker, *nowhere[name], "scope", "--", "sh", "-c", lags)
+                until(lambda: os.path.exists(f"{broker.folder}/begun"), "the command runs")
+                hold.terminate()
+                self.assertEqual(hold.wait(LIMIT), 128 + signal.SIGTERM)
+                self.assertEqual(one.status("guest-1")["state"], "idle")
+                os.unlink(f"{broker.folder}/begun")
+
+    def test_streams_that_are_closed(self) -> None:
+        """The command has /dev/null, and no socket gets the number of standard error: what is said doesn't go to the broker."""
+        broker, _ = self.at()
+        shows = "(for n in 0 1 2; do readlink /proc/$$/fd/$n; done) > FOLDER/streams; true"
+        self.assertEqual(self.unheard(broker, subprocess.DEVNULL, 'exec "$@" <&- >&- 2>&-', "scope", "--", "sh", "-c", shows).wait(LIMIT), 0)
+        with open(f"{broker.folder}/streams", encoding="ascii") as file:
+            self.assertEqual(file.read(), "/dev/null\n" * 3)
+        path = f"{self.room}/silent.sock"
+        with socket.socket(socket.AF_UNIX) as listens:
+            listens.bind(path)
+            listens.listen()
+            listens.settimeout(LIMIT)
+            one = self.unheard(broker, subprocess.DEVNULL, 'exec "$@" <&- 2>&-', "scope", "--broker", f"unix:{path}", "--", "true")
+            wish, _ = listens.accept()
+            with wish:
+                self.assertTrue(wish.recv(4096).startswith(b"POST /v1/sessions?"))
+                # (after a second and a half it says that it isn't answered)
+                one.terminate()
+                self.assertEqual(select.select([wish], [], [], 4)[0], [])
+                one.terminate()
+                self.assertEqual(one.wait(LIMIT), 128 + signal.SIGTERM)
+
+    def test_its_help_can_t_be_written(self) -> None:
+        for to, why in ((">/dev/full", "No space left on device"), (">&-", "Bad file descriptor")):
+            done = subprocess.run(["sh", "-c", f'exec "$@" {to}', "sh", self.program, "--help"], stderr=subprocess.PIPE, text=True, timeout=LIMIT)
+            self.assertEqual((done.returncode, done.stderr), (1, f"labrun-hold: standard output: {why}\n"))
+
+    def test_the_signal_goes_before_the_line(self) -> None:
+        """A command that is stopped has it when the line is read."""
+        broker, one = self.at()
+        hold = self.started(broker, "scope", "--", "sh", "-c", "echo $$ > FOLDER/number; mv FOLDER/number FOLDER/begun; kill -STOP $$")
+        with open(f"{broker.folder}/begun", encoding="ascii") as file:
+            command = int(file.read())
+        self.addCleanup(subprocess.run, ["sh", "-c", f"kill -9 {command}"], stderr=subprocess.DEVNULL)
+        until(lambda: is_stopped(command), "that it is stopped")
+        one.ask("POST", "/v1/release", {"station": "guest-1", "by": "ben"})
+        self.assertIn("the command is being ended", heard(hold.stderr))
+        with open(f"/proc/{command}/status", encoding="ascii") as file:
+            waiting = next(int(line.split()[1], 16) for line in file if line.startswith("ShdPnd:"))
+        self.assertTrue(waiting & 1 << signal.SIGTERM - 1)
+        os.kill(command, signal.SIGCONT)
+        self.ends(hold, 76)
+
+    def test_a_line_that_is_cut(self) -> None:
+        """By a pipe that has no room for more: the next one has a line of its own. It has let go before it says why the command can't be run."""
+        path = f"{self.room}/long.sock"
+        reads, writes = os.pipe()
+        self.addCleanup(os.close, reads)
+        fcntl.fcntl(writes, fcntl.F_SETPIPE_SZ, 4096)
+        with socket.socket(socket.AF_UNIX) as listens:
+            listens.bind(path)
+            listens.listen()
+            listens.settimeout(LIMIT)
+            one = subprocess.Popen([self.program, "scope", "--broker", f"unix:{path}", "--", "x" * 6000], stderr=writes)
+            self.addCleanup(one.wait)
+            self.addCleanup(one.kill)
+            os.close(writes)
+            wish, _ = listens.accept()
+            with wish:
+                wish.recv(4096)
+                body = b'{"state": "holding", "station": "guest-1", "instruments": ["scope"], "token": 1}'
+                wish.sendall(b"HTTP/1.1 200 OK\r\nContent-Length: %d\r\n\r\n%s" % (len(body), body))
+            self.assertTrue(select.select([reads], [], [], LIMIT)[0], "it says something")
+            self.assertTrue(select.select([listens], [], [], 0)[0], "it has let go")
+            # (longer than it waits for somebody to read)
+            time.sleep(1)
+            tells, _ = listens.accept()
+            with tells:
+                self.assertTrue(tells.recv(4096).startswith(b"DELETE /v1/sessions/"))
+                said = b""
+                while b"hasn't answered" not in said:
+                    self.assertTrue(select.select([reads], [], [], LIMIT)[0], said)
+                    self.assertTrue(some := os.read(reads, 8192), said)
+                    said += some
+                tells.sendall(b"HTTP/1.1 200 OK\r\nContent-Length: 2\r\n\r\n{}")
+            self.assertEqual(one.wait(LIMIT), 126)
+        self.assertRegex(said.decode(), "^labrun-hold: x{4000}.*\nlabrun-hold: the command has ended with status 126; the broker hasn't answered yet")
+
     def test_it_is_killed(self) -> None:
         """Where nothing is released its command goes on, and its session holds."""
         broker, one = self.at()
@@ -394,10 +630,24 @@ class Held(OnBroker):
         with open(f"{broker.folder}/over", "w", encoding="ascii"):
             pass
         assert hold.stderr is not None
-        self.assertIn("ended with status 0; the broker doesn't answer", heard(hold.stderr))
+        self.assertIn("ended with status 0; the broker hasn't answered yet", heard(hold.stderr))
         broker.begin()
         self.assertEqual(self.ends(hold, 0), "")
         self.assertEqual(one.status("guest-1")["state"], "idle")
+
+    def test_it_tells_soon_after_the_broker_is_back(self) -> None:
+        """Its command has ended meanwhile. It asks three times a second."""
+        broker, _ = self.at(BAY, "--state", "FOLDER/state")
+        runs = self.started(broker, "scope", "--", "sh", "-c", "echo > FOLDER/begun; while [ ! -e FOLDER/end ]; do sleep 0.05; done")
+        broker.kill()
+        with open(f"{broker.folder}/end", "w", encoding="utf-8"):
+            pass
+        assert runs.stderr is not None
+        self.assertIn("the broker hasn't answered yet; labrun-hold keeps trying to tell it, and Ctrl-C ends that", runs.stderr.readline())
+        broker.begin()
+        back = time.monotonic()
+        self.ends(runs, 0)
+        self.assertLess(time.monotonic() - back, 5)
 
     def test_a_stopped_broker_is_told_of(self) -> None:
         """To who asks without a limit, and to who waits in the line; both come to hold once the broker goes on."""
@@ -511,15 +761,15 @@ class Held(OnBroker):
         with open(f"{broker.folder}/state/records.jsonl", encoding="utf-8") as file:
             self.assertNotIn("gone", [it["what"] for it in map(json.loads, file)])
 
-    def answers(self, *answers: bytes) -> str:
+    def answers(self, *answers: bytes, name: str = "dies.sock", usual: str = "") -> str:
         """What it says at a broker that hears each request, and answers so; then there is none."""
-        path = f"{self.room}/dies.sock"
+        path = f"{self.room}/{name}"
         with socket.socket(socket.AF_UNIX) as listens:
             listens.bind(path)
             listens.listen()
             listens.settimeout(LIMIT)
             words = [self.program, "scope", "--quiet", "--timeout", "2", "--broker", f"unix:{path}", "--", "true"]
-            one = subprocess.Popen(words, stderr=subprocess.PIPE, text=True)
+            one = subprocess.Popen(words, env={**os.environ, "LABRUN_BROKER": usual}, stderr=subprocess.PIPE, text=True)
             self.addCleanup(one.kill)
             for answer in answers:
                 came, _ = listens.accept()
@@ -535,17 +785,33 @@ class Held(OnBroker):
         """Then the session may hold: its name is said if it is known."""
         waits = b'{"state": "waiting", "station": "guest-7", "text": "", "waits_for": []}'
         waits = b"HTTP/1.1 202 Accepted\r\nContent-Length: %d\r\n\r\n%s" % (len(waits), waits)
+        may, at = "; the session may hold all the same: if ", f" --broker unix:{self.room}/dies.sock"
         said = self.answers(b"")
-        self.assertIn("; the session may hold all the same: if `labrun-broker status` shows it as gone, end it by `labrun-broker release NAME`, with the name that stands there\n", said)
+        end = f"end it by `labrun-broker release NAME{at}`, with the name that stands there\n"
+        self.assertIn(f"{may}`labrun-broker status{at}` shows it as gone, {end}", said)
         said = self.answers(waits, b"")
-        self.assertIn("; the session may hold all the same: if `labrun-broker status` shows guest-7 as gone, end it by `labrun-broker release guest-7`\n", said)
+        self.assertIn(f"{may}`labrun-broker status{at}` shows guest-7 as gone, end it by `labrun-broker release guest-7{at}`\n", said)
+
+    def test_which_broker_it_says_to_ask(self) -> None:
+        """That which it asks itself, by the socket that isn't curl's, and as a shell wants it; it isn't named where labrun-broker asks it anyway."""
+        for name, usual, at in (
+            ("dies.sock", f"unix:{self.room}/dies.sock", ""),
+            ("dies.sock", "unix:/elsewhere", f" --broker unix:{self.room}/dies.sock"),
+            ("it's one.sock", "", f""" --broker 'unix:{self.room}/it'"'"'s one.sock'"""),
+            ("dies.sock.http", "", f" --broker unix:{self.room}/dies.sock"),
+            ("dies.sock.http", f"unix:{self.room}/dies.sock.http", f" --broker unix:{self.room}/dies.sock"),
+            ("dies.sock.http", f"unix:{self.room}/dies.sock", ""),
+        ):
+            with self.subTest(name, usual=usual):
+                may = f"if `labrun-broker status{at}` shows it as gone, end it by `labrun-broker release NAME{at}`, with the name that stands there\n"
+                self.assertIn(may, self.answers(b"", name=name, usual=usual))
 
     def test_a_broker_that_is_full(self) -> None:
         broker, one = self.at(BAY + "[limits]\nclients = 1\n")
         one.holds("scope")
         for words in ((), ("-n",), ("--timeout", "2")):
             ran = self.ran(broker, "supply", *words, "--", "true")
-            self.assertEqual((ran.returncode, ran.stderr), (69, "labrun-hold: 1 clients are here, and no more may come\n"))
+            self.assertEqual((ran.returncode, ran.stderr), (69, "labrun-hold: 1 client is here, and no more may come\n"))
 
     def test_it_is_told_at_once(self) -> None:
         """When whoever holds is gone, and who asks next; as `labrun-broker hold` is. Also at an older broker, which doesn't know that word, later."""
@@ -634,6 +900,44 @@ class Held(OnBroker):
             wish.close()
             self.ends(one, 128 + signal.SIGTERM)
 
+    def test_an_answer_that_came_while_it_was_stopped(self) -> None:
+        """It isn't told as of now: it is asked again, and the answer to that is told. So it is as it waits, as it waits on, and as it is warned."""
+        path = f"{self.room}/fake.sock"
+        waits = {"state": "waiting", "station": "guest-2", "waits_for": []}
+        holds = {"state": "holding", "station": "guest-2", "session": 2, "instruments": ["scope"], "token": 2}
+        with socket.socket(socket.AF_UNIX) as listens:
+            listens.bind(path)
+            listens.listen()
+            listens.settimeout(LIMIT)
+            words = [self.program, "scope", "--broker", f"unix:{path}", "--", "sh", "-c", "exec sleep 60 2> /dev/null"]
+            one = subprocess.Popen(words, stderr=subprocess.PIPE, text=True)
+            self.addCleanup(one.communicate)
+            self.addCleanup(one.kill)
+
+            def answers(asked: str, status: int, told: object, stands_still: bool = False) -> None:
+                came, _ = listens.accept()
+                with came:
+                    self.assertRegex(came.recv(4096).decode(), f"^{asked} HTTP/1.1\r\n")
+                    if stands_still:
+                        one.send_signal(signal.SIGSTOP)
+                        until(lambda: is_stopped(one.pid), "that it is stopped")
+                    body = json.dumps(told).encode()
+                    came.sendall(b"HTTP/1.1 %d OK\r\nContent-Length: %d\r\n\r\n%s" % (status, len(body), body))
+                if stands_still:
+                    time.sleep(1.5)
+                    one.send_signal(signal.SIGCONT)
+
+            now, later = r"GET /v1/sessions/\w+(\?wait=0\.000)?", r"GET /v1/sessions/\w+\?wait=5\.000&while=unchanged"
+            for asked, whom in ((r"POST /v1/sessions\?wait=0\.300", "guest-1"), (later, "board")):
+                answers(asked, 202, {**waits, "text": f"scope has been held by {whom} for 1.0 s"}, stands_still=True)
+                answers(now, 202, {**waits, "text": f"scope has been held by {whom} for 2.5 s"})
+                self.assertEqual(heard(one.stderr), f"labrun-hold: waits: scope has been held by {whom} for 2.5 s\n")
+            answers(later, 200, holds)
+            answers(r"GET /v1/sessions/\w+\?while=holding&wait=30\.000", 200, {**holds, "warning": "it is over in 10 s"}, stands_still=True)
+            answers(now, 200, {**holds, "warning": "it is over in 8 s"})
+            self.assertEqual(heard(one.stderr), "labrun-hold: it is over in 8 s\n")
+            one.send_signal(signal.SIGTERM)
+
     def waits(self, broker: Broker, *words: str) -> "subprocess.Popen[str]":
         one = subprocess.Popen([self.program, *words], env=self.environment(broker), stderr=subprocess.PIPE, text=True)
         self.addCleanup(one.kill)
@@ -651,7 +955,7 @@ class Held(OnBroker):
                 with open(f"{one.folder}/over", "w", encoding="ascii"):
                     pass
                 assert hold.stderr is not None
-                self.assertIn("ended with status 0; the broker doesn't answer", heard(hold.stderr))
+                self.assertIn("ended with status 0; the broker hasn't answered yet", heard(hold.stderr))
                 self.assertIn(asking.status("guest-1")["state"], ("holding", "gone"))
                 way.mend()
                 self.assertEqual(self.ends(hold, 0), "")

@@ -20,6 +20,8 @@ from labrun_broker.errors import CantChange, OutOfOrder
 from labrun_broker.errors import TimeoutError as TimedOut
 from labrun_broker.keeping import Keeping
 from labrun_broker.outage import disable, enable
+from labrun_broker.standing import Standings
+from labrun_broker.telling import lines_of
 from labrun_broker.wishes import Ended, Wish
 from tests.brokers import BAY, COMMAND, LIMIT, SOON, OnBroker, until
 from tests.test_keeping import TICKET, OnFolder, Owner, eventually, how, whats
@@ -132,6 +134,8 @@ class AfterASession(OnScript):
                 texts = [how(keeping, name)["waits_for"][0]["text"] for name in ("guest-1", "guest-2")]
                 self.assertRegex(texts[0], rf"^scope is being made safe for \d\.\d s after session {number} of board \(ann smith\)$")
                 self.assertRegex(texts[1], rf"^supply is free once scope is made safe after session {number} of board \(ann smith\)$")
+                rows = "\n".join(lines_of(keeping.status()))
+                self.assertRegex(rows, r"(?m)^scope +\(being made safe\) +\d\.?\d* s .*\nsupply +\(free soon, after board\) +\d\.?\d* s ")
                 with self.assertRaisesRegex(NotHeld, "board holds nothing: what it had is being made safe"):
                     await keeping.release("board", "eve")
                 self.ends()
@@ -140,6 +144,29 @@ class AfterASession(OnScript):
                 [text] = [it["text"] for it in keeping.history if it["what"] == "made_safe"]
                 self.assertRegex(text, rf"^{self.at}/safe 5 ended well after .* s: {self.at} says: 5$")
                 self.assertEqual((how(keeping, "board")["state"], self.said), ("idle", []))
+                await keeping.close()
+                os.unlink(f"{self.at}/begun"), os.unlink(f"{self.at}/ended")
+
+    async def test_what_is_told_of_several(self) -> None:
+        """Of two commands, and of the place; and of the moment in which both have ended, and that is only to be written."""
+        whole = f'{BAY}[on_release]\nscope = "{self.at}/safe 5"\nsupply = "{self.at}/safe 6"\n'
+        for guests, begins, ends in (
+            (4, "load-1 is free once {} after session 1 of guest-1 (ann)", ""),
+            (1, "the only place for a guest is taken: guest-1 by ann (until {})", " (guests.count says how many hold at once)"),
+        ):
+            with self.subTest(guests):
+                keeping = await self.opened(whole.replace("count = 4", f"count = {guests}"), state=None)
+                held = await keeping.hold(Wish(("scope", "supply", "load-1"), by="ann"), self.owner)
+                await keeping.let_go(held, self.owner)
+                await eventually(lambda: len(self.begun()) == 2)
+                waits = await self.asks(keeping, "load-1")
+                (waiter,) = [it for it in keeping.by_number.values() if it.state == "waiting"]
+                self.assertEqual(Standings(keeping).why(waiter), begins.format("scope and supply are made safe") + ends)
+                held.unsafe, unsafe = {}, held.unsafe
+                self.assertEqual(Standings(keeping).why(waiter), begins.format("that is written") + ends)
+                held.unsafe = unsafe
+                self.ends()
+                self.assertEqual((await waits).instruments, ("load-1",))
                 await keeping.close()
                 os.unlink(f"{self.at}/begun"), os.unlink(f"{self.at}/ended")
 
@@ -258,7 +285,7 @@ class AfterASession(OnScript):
         keeping = await self.opened()
         held = await keeping.hold(Wish(("scope",), ticket=TICKET), self.owner)
         await keeping.let_go(held, self.owner)
-        with self.assertRaisesRegex(TimedOut, "the last session with this ticket isn't over: scope is being made safe"):
+        with self.assertRaisesRegex(TimedOut, "the last session with this ticket isn't over until scope is made safe$"):
             await keeping.hold(Wish(("load-1",), ticket=TICKET, timeout=0.05), self.owner)
         with self.assertRaisesRegex(TimedOut, "scope is being made safe"):
             await keeping.hold(Wish(("scope",), ticket=OTHER, timeout=0.0), self.owner)
@@ -284,14 +311,20 @@ class WhenTheBayChanges(OnScript):
         held = await keeping.hold(Wish(("scope",), station="radio"), self.owner)
         await keeping.let_go(held, self.owner)
         await eventually(self.begun)
+        for what, bay in (
+            ("radio may no longer use scope", self.bay().replace('radio = ["scope"]', 'radio = ["load-1"]')),
+            ("radio is taken out", self.bay().replace('radio = ["scope"]', "")),
+        ):
+            with self.assertRaisesRegex(CantChange, f"\n{what}, and what session 1 of radio had is being made safe$"):
+                await apply(keeping, bay, "eve", False)
         with self.assertRaisesRegex(CantChange, "scope is taken out, and what session 1 of radio had is being made safe"):
-            await apply(keeping, self.bay().replace('"scope", ', "").replace('radio = ["scope"]', "").split("[on_release]")[0], "eve", False)
+            await apply(keeping, self.bay().replace('"scope", ', "").replace('radio = ["scope"]', 'radio = ["load-1"]').split("[on_release]")[0], "eve", False)
         other = BAY + "[on_release]\nscope = \"false\"\nsupply = \"true\"\n"
         told = await apply(keeping, "on_release_limit = 5\n" + other, "eve", False)
         self.assertEqual(
             told,
             [
-                f"on_release.scope (for whoever asks from now on): false, instead of {self.at}/safe 5",
+                f"on_release.scope (for sessions that end from now on): false, instead of {self.at}/safe 5",
                 "on_release.supply (for whoever asks from now on): true, instead of no command",
                 "on_release_limit: 5 s, instead of 30 s",
             ],
@@ -302,6 +335,17 @@ class WhenTheBayChanges(OnScript):
         await keeping.let_go(await waits, self.owner)
         with self.assertRaisesRegex(OutOfOrder, "false failed with status 1"):
             await keeping.hold(Wish(("scope",), timeout=LIMIT), self.owner)
+
+    async def test_another_command(self) -> None:
+        """It is run of who holds, too, and that is said."""
+        keeping = await self.opened()
+        held = await keeping.hold(Wish(("scope",), station="radio"), self.owner)
+        told = await apply(keeping, BAY + '[on_release]\nscope = "false"\n', "eve", False)
+        self.assertEqual(told, [f"on_release.scope (for sessions that end from now on): false, instead of {self.at}/safe 5"])
+        await keeping.let_go(held, self.owner)
+        with self.assertRaisesRegex(OutOfOrder, "false failed with status 1"):
+            await keeping.hold(Wish(("scope",), timeout=LIMIT), self.owner)
+        self.assertEqual(self.begun(), [])
 
     async def test_a_command_less(self) -> None:
         """Who holds what has none any more lets go as ever; and its limit counts all the same."""

@@ -6,6 +6,7 @@ import json
 import tempfile
 import time
 import unittest
+from types import SimpleNamespace
 from typing import Any
 
 from .brokers import until
@@ -13,7 +14,7 @@ from .fake import Keeping
 from .webs import Web
 
 try:
-    from labrun_broker.metrics import serve_metrics
+    from labrun_broker.metrics import Now, serve_metrics
     from labrun_broker.page import serve_page
 except ImportError as lacking:
     raise unittest.SkipTest(str(lacking)) from None
@@ -66,6 +67,13 @@ class Numbers(unittest.TestCase):
             self.assertEqual(waits['labrun_wait_seconds_count{instrument="supply"}'], 3)
             self.assertAlmostEqual(waits['labrun_wait_seconds_sum{instrument="supply"}'], 33, places=3)
             self.assertEqual(numbers['labrun_wait_seconds_count{instrument="scope"}'], 4)
+
+    def test_what_no_bay_has_is_counted(self) -> None:
+        """Of several bays, by a label that is empty, so that their sum is that of the lab."""
+        its = {"north": Keeping(BAY), "south": Keeping({"heat": ["oven"]})}
+        its["north"].refusals, its["south"].refusals = 2, 1
+        found = next(it for it in Now(SimpleNamespace(of=its, refusals=7)).collect() if it.name == "labrun_refusals")
+        self.assertEqual({it.labels["bay"]: it.value for it in found.samples}, {"north": 2, "south": 1, "": 4})
 
     def test_a_session_that_began_before_the_broker_is_counted(self) -> None:
         held = {"t": time.time() - 9, "what": "held", "station": "board", "session": 1, "instruments": ["scope"], "by": None, "text": ""}

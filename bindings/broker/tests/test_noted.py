@@ -16,12 +16,14 @@ from typing import Any
 import grpc
 import labrun_broker
 from labrun_broker import broker_pb2 as pb
-from labrun_broker import client
+from labrun_broker import client, service
+from labrun_broker.keeping import Keeping
 from labrun_broker.stream import Lost, Stream
 from tests.asking import Asking
 from tests.brokers import BAY, LIMIT, Broker, OnBroker, free_port, station, stopped, until
 from tests.test_bays import LAB, written
 from tests.test_bays_doors import OfLab
+from tests.test_keeping import OnFolder
 
 STATE = ("--state", "FOLDER/state")
 TICKET = "t" * 43
@@ -179,6 +181,72 @@ class ByHttp(OnBroker):
         self.assertEqual(station(self.lab(broker), "board")["note"], "c")
         status, told = one.of(ticket, "/notes", "POST", {"text": "d", "number": -1})
         self.assertEqual((status, told["kind"], told["text"]), (400, "BadWish", "number: a whole number is wanted"))
+
+
+class Told:
+    """A client's stream, without a network."""
+
+    def __init__(self) -> None:
+        self.asked, self.told = asyncio.Queue[Any](), asyncio.Queue[Any]()
+
+    async def read(self) -> Any:
+        return await self.asked.get()
+
+    async def write(self, told: Any) -> None:
+        await self.told.put(told)
+
+    async def asks(self, **what: Any) -> None:
+        await self.asked.put(pb.Ask(**what))
+
+    async def answer(self) -> Any:
+        return await asyncio.wait_for(self.told.get(), LIMIT)
+
+
+class Slow(OnFolder):
+    """A disk that takes its time with a note."""
+
+    async def noting(self, bay: str) -> tuple[Keeping, Told, asyncio.Event, "asyncio.Task[None]"]:
+        """One holds, and its note isn't written before the event."""
+        keeping, stream, may = await self.keeping(self.folder(), bay), Told(), asyncio.Event()
+        notes = keeping.note
+
+        async def slowly(*given: Any) -> None:
+            await may.wait()
+            await notes(*given)
+
+        self.enterContext(unittest.mock.patch.object(keeping, "note", slowly))
+        talk = asyncio.create_task(service.Client(keeping, stream).talk())
+        await stream.asks(wish=pb.Wish(instruments=["scope"], ticket="a ticket of a test", pings=True))
+        self.assertEqual((await stream.answer()).WhichOneof("told"), "held")
+        await stream.asks(note=pb.Note(text="5 V", number=1))
+        return keeping, stream, may, talk
+
+    async def test_who_waits_for_it_is_there(self) -> None:
+        """What says meanwhile that the client is there is answered, and the note before what comes behind it."""
+        _, stream, may, talk = await self.noting(BAY + 'gone = "release"\n')
+        for at in (1.0, 2.0):
+            await stream.asks(ping=pb.Ping(at=at))
+            pong = (await stream.answer()).pong
+            self.assertEqual((pong.at, pong.holds), (at, True))
+        await stream.asks(let_go=pb.LetGo())
+        await asyncio.sleep(0.05)
+        self.assertTrue(stream.told.empty())
+        may.set()
+        self.assertEqual([(await stream.answer()).WhichOneof("told") for _ in range(2)], ["noted", "gone"])
+        talk.cancel()
+        await asyncio.wait({talk})
+
+    async def test_whose_client_ends_meanwhile_is_gone(self) -> None:
+        """And stays so, whatever becomes of the note."""
+        keeping, stream, may, talk = await self.noting(BAY)
+        await stream.asks(ping=pb.Ping(at=1.0))
+        await stream.answer()
+        talk.cancel()
+        await asyncio.wait({talk})
+        may.set()
+        await asyncio.sleep(0.05)
+        [state] = [it["state"] for it in keeping.status()["stations"] if it["instruments"]]
+        self.assertEqual(state, "gone")
 
 
 if __name__ == "__main__":

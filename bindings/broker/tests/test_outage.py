@@ -8,12 +8,14 @@ import time
 import unittest
 from concurrent.futures import ThreadPoolExecutor
 from typing import Optional
+from unittest import mock
 
 from labrun_broker.bay import bay_of
 from labrun_broker.errors import AnswerLost, BadWish, NoInstrument, OutOfOrder, Unreachable
 from labrun_broker.errors import TimeoutError as TimedOut
 from labrun_broker.keeping import Keeping
 from labrun_broker.outage import disable, enable
+from labrun_broker.telling import lines_of
 from labrun_broker.wishes import Wish
 from tests.brokers import BAY, LIMIT, OnBroker
 from tests.test_keeping import TICKET, OnFolder, Owner, how
@@ -43,9 +45,20 @@ class Outages(OnFolder):
         self.assertEqual((first.instruments, how(keeping, "load-1")["out"]), (("load-1",), None))
         self.assertEqual([it["what"] for it in keeping.history if it["instruments"] == ["load-1"] and not it["session"]], ["disabled", "enabled"])
 
+    async def test_who_said_so_before(self) -> None:
+        """The new reason stands in the place of the old one, since when it is out of order stays, and the records have both."""
+        keeping = await self.opened(None)
+        await disable(keeping, "load-1", "calibration until Friday", "ann")
+        first = keeping.places.out["load-1"]
+        await asyncio.sleep(0.01)
+        await disable(keeping, "load-1", "", "bob")
+        self.assertEqual(vars(keeping.places.out["load-1"]), {"why": "", "by": "bob", "since": first.since, "at": first.at})
+        self.assertEqual(keeping.history[-1]["text"], "load-1, by bob; it was so already: calibration until Friday (said ann)")
+
     async def test_who_holds_and_waits(self) -> None:
         """Who holds goes on. Who waits for it is told; who waits for one of several goes on waiting for the others; nobody comes to hold it."""
-        keeping, owner = await self.opened(self.folder()), Owner()
+        folder, owner = self.folder(), Owner()
+        keeping = await self.opened(folder)
         held = await keeping.hold(Wish(("load-1",), station="", ticket=TICKET), owner)
         load = await keeping.hold(Wish(("load-2",)), owner)
         waits = asyncio.create_task(keeping.hold(Wish(("load-1", "scope")), owner))
@@ -61,6 +74,11 @@ class Outages(OnFolder):
         await keeping.let_go(load, owner)
         other = await chooses
         self.assertEqual((other.instruments, other.by), (("load-2",), "bob"))
+        await keeping.close()
+        with open(f"{folder}/records.jsonl", encoding="utf-8") as file:
+            ends = [it for it in map(json.loads, file) if it["what"] in ("held", "let_go", "gave_up")]
+        self.assertEqual([it["what"] for it in ends if it["instruments"] == ["load-1", "load-2"]], ["gave_up"])
+        self.assertEqual([it for it in ends if "after" not in it], [])
 
     async def test_over_restarts(self) -> None:
         folder, owner = self.folder(), Owner()
@@ -70,7 +88,8 @@ class Outages(OnFolder):
         since = how(keeping, "scope")["out_since"]
         await keeping.close()
         again = await self.opened(folder)
-        self.assertEqual((how(again, "scope")["out"], how(again, "scope")["out_since"], how(again, "scope")["holder"]), ("no trigger", since, "guest-1"))
+        self.assertEqual((how(again, "scope")["out"], how(again, "scope")["holder"]), ("no trigger", "guest-1"))
+        self.assertAlmostEqual(how(again, "scope")["out_since"], since, delta=1)
         back = await again.hold(Wish(ticket=TICKET, comes_back=True), owner)
         self.assertEqual(back.number, held.number)
         await again.let_go(back, owner)
@@ -79,6 +98,29 @@ class Outages(OnFolder):
         await enable(again, "scope", "bob")
         with open(f"{folder}/bay.json", encoding="utf-8") as file:
             self.assertNotIn("out", json.load(file))
+
+    async def test_the_clock_is_set(self) -> None:
+        """For how long it is out of order is right, and since when is told by the clock as it is now; what is written is by the clock as it was."""
+        folder, owner, now = self.folder(), Owner(), time.time()
+        keeping = await self.opened(folder)
+        await disable(keeping, "load-1", "", "ann")
+        for jump in (-2 * 86400, 86400):
+            with mock.patch("time.time", lambda: now + jump):
+                self.assertAlmostEqual(how(keeping, "load-1")["out_since"], now + jump, delta=LIMIT)
+                with self.assertRaisesRegex(OutOfOrder, r"^load-1 has been out of order for \d+ s \("):
+                    await keeping.hold(Wish(("load-1",)), owner)
+                self.assertRegex("\n".join(lines_of(keeping.status())), r"\nload-1 has been out of order for \d+ s \(")
+        await keeping.close()
+        # (a broker that begins knows the clock alone: set to the past, as if it were so from now on)
+        for jump, span in ((-86400, r"\d+ s"), (90000, "1 d [01] h")):
+            with mock.patch("time.time", lambda: now + jump):
+                again = await self.opened(folder)
+                with self.assertRaisesRegex(OutOfOrder, rf"^load-1 has been out of order for {span} \("):
+                    await again.hold(Wish(("load-1",)), owner)
+                await again.close()
+        with open(f"{folder}/bay.json", encoding="utf-8") as file:
+            out = json.load(file)["out"]["load-1"]
+        self.assertEqual((sorted(out), now - 1 < out["since"] < now + LIMIT), (["by", "since", "why"], True))
 
     async def test_faults(self) -> None:
         keeping = await self.opened(None)
@@ -94,7 +136,13 @@ class Commands(OnBroker):
     def test_words(self) -> None:
         broker = self.broker(BAY, "--state", "FOLDER/state")
         lab = self.lab(broker)
-        self.assertEqual(broker.ran("disable", "scope", "calibration until Friday").returncode, 0)
+        already = "it was out of order already"
+        for why, before in (
+            ("no fuse", ""),
+            ("", rf"{already}: no fuse \(said \S+\); no reason stands there now\n"),
+            ("calibration until Friday", rf"{already} \(said \S+\); what you say stands there now\n"),
+        ):
+            self.assertRegex(broker.ran("disable", "scope", *([why] if why else [])).stdout, f"^{before}$")
         self.assertRegex(broker.ran("status").stdout, r"\nscope has been out of order for \d+ s: calibration until Friday \(says .*@.*; once it is mended: labrun-broker enable scope\)\n")
         for words in (("hold", "scope"), ("hold", "scope", "--timeout", "60")):
             done = broker.ran(*words, "--", "true")
@@ -131,7 +179,8 @@ class Commands(OnBroker):
     def test_a_broker_that_dies_before_it_answers(self) -> None:
         """Nobody knows whether it was done, and whoever asked is told what to do; whoever releases, to name the session, so that a second try ends
         no later one."""
-        broker, told = self.broker(), "connection; it may have been done, or not: see `labrun-broker status`, and try again"
+        broker = self.broker()
+        told = f"connection; it may have been done, or not: see `labrun-broker status --broker {broker.address}`, and try again"
         lab = self.lab(broker)
         lab.status()
         assert broker.process is not None

@@ -288,6 +288,13 @@ class Words(unittest.TestCase):
         self.assertEqual((status, [it.split()[0] for it in lines[1:]]), (0, ["radio", "board", "kiosk", "radio"]))
         self.assertIn("failed: status 3", lines[1])
 
+    def test_one_of_each(self) -> None:
+        """A report of one session, of a file of which one line isn't whole."""
+        with state(DAY[:3], "{") as folder:
+            status, out, said = ran("report", folder)
+        self.assertEqual((status, out.splitlines()[0][-9:]), (0, "1 session"))
+        self.assertEqual(said, f"labrun-broker: {folder}/records-10.jsonl: 1 of 2 lines is no whole record, and left out\n")
+
     def test_report(self) -> None:
         with state(DAY) as folder:
             status, out, _ = ran("report", folder)

@@ -168,7 +168,7 @@ class Rights(OnFolder):
     async def test_who_is_told_how_to_enable(self) -> None:
         """The command is for whoever may give it; everybody else is told whom to ask, also who waits as it goes out of order."""
         command, ask = "once it is mended: labrun-broker enable load-1", "once it is mended, ask an operator to enable it: ana"
-        nobody = "nobody may enable it: the bay's file names no operators"
+        nobody = "nobody may enable it: there are no operators"
         two = 'operators = ["ana", "dan"]'
         for bay, its in (
             (PEOPLE, {"ana": command, "bob": ask}),
@@ -235,7 +235,7 @@ class Rights(OnFolder):
 
 class Doors(OnFolder):
     async def entrance(self, bay: str, token: Optional[str] = None, seen: Optional[str] = None) -> Entrance:
-        return Entrance(await self.keeping(self.folder(), bay), token, seen)
+        return Entrance(await self.keeping(self.folder(), bay), () if token is None else (token,), seen)
 
     def why(self, entrance: Entrance, *given: Any, **more: Any) -> str:
         with self.assertRaises(NotLetIn) as caught:
@@ -250,7 +250,7 @@ class Doors(OnFolder):
         self.assertEqual((entrance.caller("", True, uid).person, entrance.caller(f"Bearer {ANA}", True, uid).person), ("cat", "ana"))
         # who only looks; but not from elsewhere
         self.assertEqual([entrance.caller("", True, it, looks=True).person for it in (None, uid + 1, uid)], ["", "", "cat"])
-        ask = "give the file of your token by --token-file; operators: ana"
+        ask = "give the file of your token by --token-file, or by LABRUN_BROKER_TOKEN_FILE; operators: ana"
         self.assertEqual(self.why(entrance, "", False, looks=True), f"say who you are: {ask}")
         self.assertEqual((self.why(entrance, "", True), self.why(entrance, "", False, uid)), (f"say who you are: {ask}",) * 2)
         self.assertRegex(self.why(entrance, "", True, uid + 1), rf"^the user .*{uid + 1}.* of this machine is none of the bay's people: {ask}$")
@@ -453,7 +453,7 @@ class Brokers(OnPeople):
 
     def test_taken_out_while_a_command_runs(self) -> None:
         """The command's status is said, and how long what he holds is kept. Nobody took the session away."""
-        for gone, until_when in (("keep", "an operator releases it"), ("release", 'the broker releases it (gone = "release")')):
+        for gone, until_when in (("keep", "it is released by {}"), ("release", 'the broker releases it (gone = "release"), or {} does')):
             with self.subTest(gone):
                 port, says = free_port(), f'gone = "{gone}"\n'
                 broker = self.at(says + PEOPLE, "--listen", f"127.0.0.1:{port}")
@@ -464,10 +464,15 @@ class Brokers(OnPeople):
                 for one, instrument in its:
                     assert one.stdout is not None
                     self.assertEqual(one.stdout.readline(), f"holds {instrument}\n")
+                # (the socket's is that of LABRUN_BROKER)
+                at = {"load-1": "", "load-2": f" --broker 127.0.0.1:{port}"}
+                rows = [it for it in self.by(broker, "ana").status()["stations"] if it["instruments"]]
+                by = {it["instruments"][0]: f"`labrun-broker release {it['name']} --session {it['session']}{at[it['instruments'][0]]}`" for it in rows}
                 self.applied(broker, says + WITHOUT_BOB)
                 for one, instrument in its:
                     said = one.communicate(timeout=LIMIT)[1]
-                    kept = f"labrun-broker: the session may go on holding, as `labrun-broker status` says, until {until_when}\n"
+                    stays = f"the session may go on holding, as `labrun-broker status{at[instrument]}` says"
+                    kept = f"labrun-broker: {stays}, until {until_when.format(by[instrument])}\n"
                     why = r"labrun-broker: the broker at .* doesn't let this client in: this is nobody's token, or not any more; operators: ana"
                     self.assertRegex(said, rf"{why}; the command is being ended\n(.*\n)*labrun-broker: the command ran, and ended with status 3, but:\n{re.escape(kept)}$")
                     self.assertEqual(said.count("doesn't let this client in"), 1)

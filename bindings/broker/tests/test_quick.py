@@ -114,7 +114,7 @@ class Quick(OnBroker):
             signal.raise_signal(signal.SIGALRM)
             said.assert_not_called()
             signal.raise_signal(signal.SIGALRM)
-            self.assertIn("the broker doesn't answer", said.call_args.args[0])
+            self.assertIn("the broker hasn't answered yet", said.call_args.args[0])
 
     def test_a_broker_that_is_killed_while_the_command_runs(self) -> None:
         for bay, number in ((BAY, signal.SIGKILL), (BAY, signal.SIGTERM), (RELEASES, signal.SIGKILL)):
@@ -169,7 +169,7 @@ class Quick(OnBroker):
                 with open(f"{broker.folder}/go", "w", encoding="utf-8"):
                     pass
                 assert runs.stderr is not None
-                self.assertIn("the command has ended with status 5; the broker doesn't answer", heard(runs.stderr))
+                self.assertIn("the command has ended with status 5; the broker hasn't answered yet", heard(runs.stderr))
                 begun = time.monotonic()
                 runs.send_signal(number)
                 said = runs.communicate(timeout=LIMIT)[1]
@@ -179,6 +179,24 @@ class Quick(OnBroker):
                 broker.address = socket
                 broker.begin()
                 self.assertEqual(self.state(broker), "gone")
+
+    def test_a_broker_that_has_forgotten_it_as_the_command_ends(self) -> None:
+        """Others may have held what it had, so this is no status of the command."""
+        for slashes in ("", "//"):
+            with self.subTest(slashes):
+                broker = self.broker()
+                socket, broker.address = broker.address, broker.address.replace("unix:", f"unix:{slashes}")
+                runs = self.holds(broker, "exit 5")
+                broker.kill()
+                with open(f"{broker.folder}/go", "w", encoding="utf-8"):
+                    pass
+                assert runs.stderr is not None
+                self.assertIn("the command has ended with status 5; the broker hasn't answered yet", heard(runs.stderr))
+                broker.address = socket
+                broker.begin()
+                said = runs.communicate(timeout=LIMIT)[1]
+                self.assertEqual(runs.returncode, 76, said)
+                self.assertRegex(said, "^labrun-broker: the command ran, and ended with status 5, but:\nlabrun-broker: no session has this ticket: .*\n$")
 
     def test_a_signal_as_it_lets_go(self) -> None:
         """It keeps no broker from being told that answers soon."""
@@ -198,15 +216,38 @@ class Quick(OnBroker):
         broker = self.broker(BAY, "--state", "FOLDER/state")
         assert broker.process is not None
         script = "import sys; from labrun_broker import command, held; held.GRACE = 1.0; sys.exit(command.main(sys.argv[1:]))"
-        for address in (broker.address, broker.address.replace("unix:", "unix://")):
+        for number, address in enumerate((broker.address, broker.address.replace("unix:", "unix://")), 1):
             words = ["hold", "scope", "--broker", address, "--", "sh", "-c", f"kill -KILL {broker.process.pid}; exit 5"]
             done = subprocess.run([sys.executable, "-c", script, *words], capture_output=True, text=True, timeout=LIMIT)
             self.assertEqual((done.returncode, done.stdout), (69, ""), done.stderr)
             self.assertIn("labrun-broker: the command ran, and ended with status 5, but:\nlabrun-broker: the broker at unix:", done.stderr)
-            self.assertRegex(done.stderr, r"can't be reached: .*\nlabrun-broker: the session may go on holding, as `labrun-broker status` says\n$")
+            release = f"`labrun-broker release guest-1 --session {number} --broker {address}`"
+            kept = f"as `labrun-broker status --broker {address}` says, until it is released by {release}"
+            self.assertRegex(done.stderr, rf"can't be reached: .*\nlabrun-broker: the session may go on holding, {kept}\n$")
             broker.end()
             broker.begin()
-            self.assertEqual(broker.ran("release", "guest-1").returncode, 0)
+            self.assertEqual(broker.ran("release", "guest-1", "--session", str(number)).returncode, 0)
+
+    def test_a_signal_while_a_broker_that_is_gone_is_told(self) -> None:
+        """That ends it at once."""
+        broker = self.broker(BAY, "--state", "FOLDER/state")
+        for number, address in enumerate((broker.address, broker.address.replace("unix:", "unix://")), 1):
+            assert broker.process is not None
+            runs = broker.started("hold", "scope", "--broker", address, "--", "sh", "-c", f"kill -KILL {broker.process.pid}; exit 4")
+            self.addCleanup(runs.kill)
+            assert runs.stderr is not None
+            self.assertIn("hold keeps trying to tell it, and Ctrl-C ends that\n", runs.stderr.readline())
+            # (by then it looks for another one)
+            time.sleep(1)
+            began = time.monotonic()
+            runs.send_signal(signal.SIGINT)
+            said = runs.communicate(timeout=LIMIT)[1]
+            self.assertLess(time.monotonic() - began, 4)
+            self.assertRegex(said, rf"^labrun-broker: the broker wasn't told, .* until it is released by `labrun-broker release guest-1 --session {number}\b.*`\n$")
+            self.assertEqual(runs.returncode, 4)
+            broker.end()
+            broker.begin()
+            self.assertEqual(broker.ran("release", "guest-1", "--session", str(number)).returncode, 0)
 
     def test_nobody_listens(self) -> None:
         """The time limit is kept: the whole client, which begins late, isn't needed to say so."""
@@ -230,14 +271,20 @@ class Quick(OnBroker):
                 socket, broker.address = broker.address, broker.address.replace("unix:", f"unix:{slashes}")
                 if not is_there:
                     os.unlink(socket.removeprefix("unix:"))
-                for limit in (["-n"], ["--timeout", "4"]):
-                    done = broker.ran("hold", *instrument, *limit, "--", "true")
-                    self.assertEqual((done.returncode, "waits for the broker" in done.stderr), (69, limit != ["-n"]), done.stderr)
-                    self.assertIn("can't be reached", done.stderr)
-                # (on a busy machine it may take longer to begin than a broker has)
+                done = broker.ran("hold", *instrument, "-n", "--", "true")
+                self.assertEqual((done.returncode, "waits for the broker" in done.stderr), (69, False), done.stderr)
+                self.assertIn("can't be reached", done.stderr)
+                # (on a busy machine it may take longer to begin than a broker has, and a limit may be over before it has looked once)
                 program = "import sys; from labrun_broker import command, run, silence; run.STARTING = silence.SAYS = 60.0; sys.exit(command.main())"
+                given = {**os.environ, "LABRUN_BROKER": broker.address}
+                for limit in ("4", "12", "30"):
+                    words = [sys.executable, "-c", program, "hold", *instrument, "--timeout", limit, "--", "true"]
+                    if "waits for the broker" in (done := subprocess.run(words, env=given, capture_output=True, text=True, timeout=LIMIT)).stderr:
+                        break
+                self.assertEqual((done.returncode, "waits for the broker" in done.stderr), (69, True), done.stderr)
+                self.assertIn("can't be reached", done.stderr)
                 words = [sys.executable, "-c", program, "hold", *instrument, "--", "echo", "ran"]
-                runs = subprocess.Popen(words, env={**os.environ, "LABRUN_BROKER": broker.address}, stdout=subprocess.PIPE, stderr=subprocess.PIPE, text=True)
+                runs = subprocess.Popen(words, env=given, stdout=subprocess.PIPE, stderr=subprocess.PIPE, text=True)
                 assert runs.stderr is not None
                 told = f"labrun-broker: waits for the broker: it doesn't listen yet at {broker.address}\n"
                 self.assertEqual(runs.stderr.readline(), told)
@@ -318,7 +365,7 @@ class Quick(OnBroker):
         for words in ((), ("-n",), ("--timeout", "2")):
             done = broker.ran("hold", "supply", *words, "--", "true")
             self.assertEqual(done.returncode, 69)
-            self.assertRegex(done.stderr, "^labrun-broker: the broker at .* doesn't let this client in: 1 clients are here, and no more may come\n$")
+            self.assertRegex(done.stderr, "^labrun-broker: the broker at .* doesn't let this client in: 1 client is here, and no more may come\n$")
         self.ends(broker, runs, 0)
 
 

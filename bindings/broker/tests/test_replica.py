@@ -4,23 +4,30 @@ has."""
 from __future__ import annotations
 
 import asyncio
+import shlex
+import shutil
+import subprocess
+import tempfile
 import threading
 import time
 import unittest
-from typing import Any, Coroutine
+from typing import Any, Coroutine, Optional
 from unittest import mock
 
 import labrun
 from labrun_broker import broker_pb2 as pb
 from labrun_broker import leading, replica, shell
 from labrun_broker.bay import bay_of
+from labrun_broker.errors import StillHeld
 from labrun_broker.errors import TimeoutError as TimedOut
-from labrun_broker.etcd import EtcdError, NoAnswer, delete, get, put
+from labrun_broker.etcd import EtcdError, NoAnswer, behind, delete, get, put
 from labrun_broker.keeping import Keeping
 from labrun_broker.leading import Leading
 from labrun_broker.places import Places
 from labrun_broker.replica import EtcdRecords, EtcdStore, Replica
 from labrun_broker.service import Client
+from labrun_broker.sessions import read_records
+from labrun_broker.standby import records_in
 from labrun_broker.wishes import Ended, Wish
 from tests.brokers import LIMIT, SOON, until
 from tests.etcds import OnEtcd
@@ -34,8 +41,8 @@ LEASE = 5
 class Broker:
     """One that leads, in this process. `said` is what it says as it stands by; `why` it leads no more is known once `is_lost` is set."""
 
-    def __init__(self, test: OnEtcd, name: str, bay: str = BAY) -> None:
-        self.bay = bay_of(bay.replace("NAME", test.bay))
+    def __init__(self, test: OnEtcd, name: str, bay: str = BAY, folder: Optional[str] = None) -> None:
+        self.bay, self.folder = bay_of(bay.replace("NAME", test.bay)), folder
         self.said, self.why = list[str](), list[str]()
         self.loop, self.is_lost = asyncio.get_running_loop(), asyncio.Event()
         self.leading = Leading(test.member.client(), self.bay, name, LEASE, self._lost)
@@ -47,8 +54,18 @@ class Broker:
         self.loop.call_soon_threadsafe(self.is_lost.set)
 
     async def opens(self, grace: float = 60.0) -> None:
-        self.keeping = Keeping(self.bay, "etcd", grace, True, lambda *_: Replica(self.leading))
+        file = records_in(self.folder, True)
+        self.keeping = Keeping(self.bay, "etcd", grace, True, lambda *_: Replica(self.leading, file))
         await self.keeping.open()
+
+
+def anew(test: OnEtcd) -> str:
+    """What whoever looks after the broker is told to do."""
+    return f"see to all instruments, end all brokers and guards, then run `{deleting(test)}`, and begin again"
+
+
+def deleting(test: OnEtcd) -> str:
+    return f"etcdctl --endpoints {test.member.endpoint} del --prefix /labrun/{test.bay}/"
 
 
 class Brokers(OnEtcd):
@@ -58,21 +75,21 @@ class Brokers(OnEtcd):
         # (etcd may be slow on a busy machine)
         self.enterContext(mock.patch("labrun_broker.turning.QUIET", SOON))
 
-    async def broker(self, name: str, bay: str = BAY, grace: float = 60.0) -> Broker:
+    async def broker(self, name: str, bay: str = BAY, grace: float = 60.0, folder: Optional[str] = None) -> Broker:
         """Returns once it leads."""
-        one = Broker(self, name, bay)
+        one = Broker(self, name, bay, folder)
         async with asyncio.timeout(LIMIT):
             self.assertTrue(await asyncio.to_thread(one.leading.leads, one.said.append))
         await one.opens(grace)
         self.addAsyncCleanup(one.keeping.close)
         return one
 
-    async def deposed(self, one: Broker, bay: str = BAY, grace: float = 60.0) -> Broker:
+    async def deposed(self, one: Broker, bay: str = BAY, grace: float = 60.0, folder: Optional[str] = None) -> Broker:
         """The first was stopped for longer than its lease, and goes on: it doesn't know. The one that leads."""
         one.leading._sure_until = float("inf")
         self.enterContext(mock.patch.object(one.leading.etcd, "keeps_alive", lambda lease, timeout: 1000))
         self.etcd.revoke(one.leading.lease)
-        return await self.broker("second", bay, grace)
+        return await self.broker("second", bay, grace, folder)
 
     async def never(self, one: Broker, work: Coroutine[Any, Any, Any]) -> None:
         """It isn't answered, and the broker finds that it leads no more."""
@@ -122,6 +139,30 @@ class Deposed(Brokers):
         await self.never(first, first.keeping.let_go(session, owner))
         back = await second.keeping.hold(Wish(ticket=TICKET, comes_back=True), Owner())
         self.assertEqual(back.instruments, ("scope",))
+
+    async def test_nor_writes_an_end_that_isnt_one(self) -> None:
+        """Its folder has the end that etcd has, and not the one that etcd hasn't: not while it leads no more, and not once it has ended."""
+        folder = self.enterContext(tempfile.TemporaryDirectory())
+        first, owner = await self.broker("first", folder=folder), Owner()
+        ends = lambda: [(it["session"], it["what"]) for it in read_records(folder)[0] if it["what"] in ("held", "let_go", "taken")]
+        over = await first.keeping.hold(Wish(("supply",)), owner)
+        await first.keeping.let_go(over, owner)
+        its = [(over.number, "held"), (over.number, "let_go")]
+        await eventually(lambda: ends() == its)
+        board, guest = [await first.keeping.hold(Wish((name,), ticket=f"{TICKET} of {name}"), owner) for name in ("scope", "supply")]
+        its += [(it.number, "held") for it in (board, guest)]
+        await eventually(lambda: ends() == its)
+        second = await self.deposed(first)
+        release = asyncio.ensure_future(first.keeping.release(guest.name, "an operator"))
+        await self.never(first, first.keeping.let_go(board, owner))
+        release.cancel()
+        await asyncio.wait({release})
+        self.assertEqual(ends(), its)
+        await first.keeping.close()
+        self.assertEqual((ends(), read_records(folder)[0][-1]["what"]), (its, "closed"))
+        for it in (board, guest):
+            self.assertIn(f"session {it.number} of {it.name}", first.keeping.lost[0])
+            self.assertEqual(how(second.keeping, it.name)["session"], it.number)
 
     async def test_nor_takes_away(self) -> None:
         """Neither the operator is told so, nor the client."""
@@ -181,7 +222,7 @@ class Deposed(Brokers):
         self.enterContext(mock.patch.object(first.leading.etcd, "_calls", side_effect=StopIteration))
         await asyncio.wait_for(first.is_lost.wait(), LIMIT)
         self.assertTrue(LEASE / 2 < time.monotonic() - begun < 3 * LEASE)
-        self.assertEqual(first.why, [f"nothing was heard from etcd for {LEASE} s: it doesn't answer, or this broker was stopped"])
+        self.assertEqual(first.why, [f"its lease of {LEASE} s couldn't be renewed: etcd doesn't answer, or this broker was stopped"])
 
     async def test_its_lease(self) -> None:
         first = await self.broker("first")
@@ -209,6 +250,65 @@ class Next(Brokers):
         with self.assertRaises(Ended) as found:
             await second.keeping.hold(Wish(ticket=TICKET, comes_back=True), owner)
         self.assertEqual(found.exception.kind, "LetGo")
+
+    async def test_its_folder_has_the_ends_that_etcd_has(self) -> None:
+        """Once etcd has them. (What came behind them waits with them.)"""
+        folder = self.enterContext(tempfile.TemporaryDirectory())
+        first, owner = await self.broker("first", folder=folder), Owner()
+        its = lambda: [(it["session"], it["what"]) for it in read_records(folder)[0] if it["what"] not in ("opened", "asked")]
+        one, other = [await first.keeping.hold(Wish((name,)), owner) for name in ("scope", "supply")]
+        held = [(one.number, "held"), (other.number, "held")]
+        await eventually(lambda: its() == held)
+        txn = first.leading.etcd.txn
+
+        def full(compare: Any, what: Any, *given: Any, **more: Any) -> Any:
+            if any(it.HasField("request_put") for it in what):
+                raise EtcdError(28, "etcd is full")
+            return txn(compare, what, *given, **more)
+
+        with mock.patch.object(first.leading.etcd, "txn", full):
+            ends = asyncio.create_task(first.keeping.let_go(one, owner))
+            await eventually(lambda: first.keeping.write_failures > 1)
+            first.keeping.gone(other, owner)
+            first.keeping._news.settles()
+            self.assertEqual((its(), self.text().count(b" let_go ")), (held, 0))
+        await asyncio.wait_for(ends, LIMIT)
+        await eventually(lambda: its() == [*held, (one.number, "let_go"), (other.number, "gone")])
+        self.assertEqual(self.text().count(b" let_go "), 1)
+
+    def text(self) -> bytes:
+        return b"".join(self.values("journal/").values())
+
+    async def test_its_folder_has_what_goes_on(self) -> None:
+        """And only that: whoever watches, and the records in etcd, have it from the first."""
+        folders = [self.enterContext(tempfile.TemporaryDirectory()) for _ in range(2)]
+        first, owner = await self.broker("first", folder=folders[0]), Owner()
+        for name, station in (("supply", ""), ("scope", "board")):
+            session = await first.keeping.hold(Wish((name,), station=station, by="ann", ticket=f"{TICKET} of {name}"), owner)
+            await first.keeping.note(session, owner, name)
+        await first.keeping.let_go(session, owner)
+        second = await self.deposed(first, folder=folders[1])
+        second.keeping._news.settles()
+        its = read_records(folders[1])[0]
+        self.assertEqual([(it["what"], it["session"], it["station"]) for it in its], [("held", 1, "guest-1"), ("opened", None, None), ("gone", 1, "guest-1")])
+        self.assertEqual((its[0]["instruments"], its[0]["by"], its[0]["text"]), (["supply"], "ann", "as the journal has it"))
+        since = [it["t"] for it in read_records(folders[0])[0] if it["what"] == "held"][0]
+        self.assertAlmostEqual(its[0]["t"], since, delta=SOON)
+        self.assertEqual([it["what"] for it in second.keeping.history], ["opened", "gone"])
+        self.assertEqual([it["what"] for it in second.keeping.recent()].count("held"), 2)
+
+    async def test_its_folder_has_nothing_twice(self) -> None:
+        """As that of one that was killed before etcd had the records of what it has in the journal."""
+        folder = self.enterContext(tempfile.TemporaryDirectory())
+        first, owner = await self.broker("first", folder=folder), Owner()
+        its = lambda: [it["what"] for it in read_records(folder)[0] if it["session"] == 1]
+        await first.keeping.hold(Wish(("scope",), ticket=TICKET), owner)
+        await eventually(lambda: its() == ["asked", "held"])
+        self.assertNotIn(b"held", b"".join(self.values("records/").values()))
+        second = await self.deposed(first, folder=folder)
+        second.keeping._news.settles()
+        self.assertEqual(its(), ["asked", "held", "gone"])
+        self.assertEqual([it["what"] for it in second.keeping.recent()].count("held"), 1)
 
     async def test_it_has_the_recent_past(self) -> None:
         first, owner = await self.broker("first"), Owner()
@@ -324,6 +424,46 @@ class Next(Brokers):
         self.assertGreater(time.monotonic() - begun, LEASE - 0.5)
         self.assertIn("leads by another bay file than the last one did", wrong.said[-1])
 
+    async def test_a_file_by_which_the_bay_did_not_open(self) -> None:
+        """Its broker never led by it, so the one with the file of before leads at once, and says nothing of another file."""
+        first = await self.broker("first")
+        await first.keeping.hold(Wish(("scope",)), Owner())
+        await first.keeping.close()
+        other = Broker(self, "other", 'bay = "NAME"\ninstruments = ["supply"]\n[guests]\ncount = 4\n')
+        self.assertTrue(await asyncio.wait_for(asyncio.to_thread(other.leading.leads, other.said.append), LIMIT))
+        with self.assertRaisesRegex(StillHeld, "guest-1 holds scope"):
+            await other.opens()
+        again = await self.broker("first")
+        self.assertEqual(again.said, [])
+
+    async def test_its_own_lease_of_before(self) -> None:
+        """A broker that was killed, and is started again: it doesn't say that another one leads."""
+        first = Broker(self, "first")
+        self.assertTrue(await asyncio.to_thread(first.leading.leads, first.said.append))
+        # (it renews its lease no more)
+        first.leading._over.set()
+        self.addCleanup(first.leading.etcd.close)
+        again = Broker(self, "first")
+        self.assertTrue(await asyncio.wait_for(asyncio.to_thread(again.leading.leads, again.said.append), LIMIT))
+        self.assertEqual(again.said, ["stands by: its own lease of before has to run out"])
+
+    async def test_a_line_that_is_not_sound(self) -> None:
+        """It is said how to begin anew, at etcd; and whoever does that, can."""
+        first = await self.broker("first")
+        await first.keeping.hold(Wish(("scope",), station="board"), Owner())
+        await first.keeping.close()
+        (key, text), *_ = self.values("journal/").items()
+        self.etcd.txn([], [put(f"/labrun/{self.bay}/{key}".encode(), text[:-2] + bytes([text[-2] ^ 1]) + text[-1:])])
+        with self.assertRaisesRegex(labrun.JournalError, f"^etcd, /labrun/{self.bay}/journal/: line \\d+ isn't as the broker wrote it: {anew(self)}$"):
+            await self.broker("second")
+        if shutil.which("etcdctl"):
+            subprocess.run(shlex.split(deleting(self)), check=True, stdout=subprocess.DEVNULL, timeout=LIMIT)
+        else:
+            its = f"/labrun/{self.bay}/".encode()
+            self.etcd.txn([], [delete(its, behind(its))])
+        third = await self.broker("third")
+        self.assertEqual(how(third.keeping, "board")["state"], "idle")
+
     async def test_two_bays(self) -> None:
         """They share an etcd, and nothing else."""
         first = await self.broker("first")
@@ -425,7 +565,7 @@ class Stores(OnStore):
         for text in (b"one\n", b"two\n", b"three\n"):
             self.store.append(text)
         self.etcd.txn([], [delete(f"/labrun/{self.bay}/journal/000001/000000000004".encode())])
-        with self.assertRaisesRegex(labrun.JournalError, "from byte 4 on is missing"):
+        with self.assertRaisesRegex(labrun.JournalError, f"from byte 4 on is missing: {anew(self)}$"):
             self.opened()
 
     def test_who_leads_no_more(self) -> None:
@@ -465,12 +605,12 @@ class Stores(OnStore):
     def test_places(self) -> None:
         state = Replica(self.leading)
         self.assertEqual(state.places(False), Places())
-        with self.assertRaisesRegex(labrun.JournalError, "it isn't there"):
+        with self.assertRaisesRegex(labrun.JournalError, f"it isn't there, and the journal can't be read without it: {anew(self)}$"):
             state.places(True)
         state.keeps(Places(("scope",), ("board",), None))
         self.assertEqual(Replica(self.leading).places(True), Places(("scope",), ("board",), None))
         self.etcd.txn([], [put(f"/labrun/{self.bay}/places".encode(), b"{}")])
-        with self.assertRaisesRegex(labrun.JournalError, "names of instruments"):
+        with self.assertRaisesRegex(labrun.JournalError, f"names of instruments.*; {anew(self)}$"):
             state.places(True)
 
 

@@ -3,13 +3,16 @@
 import asyncio
 import concurrent.futures
 import contextlib
+import json
 import os
+import queue
 import re
 import signal
 import socket
 import subprocess
 import sys
 import tempfile
+import textwrap
 import threading
 import time
 import unittest
@@ -26,7 +29,8 @@ from labrun_broker.bay import BadAddress
 from labrun_broker.door import Door, Seldom, is_loopback
 from labrun_broker.service import Pace
 from labrun_broker.stream import Lost, Stream
-from tests.brokers import BAY, LIMIT, SOON, Broker, OnBroker, Turns, certificate, free_port, station, until
+from labrun_broker.words import NoFile
+from tests.brokers import BAY, LIMIT, SOON, Broker, OnBroker, Turns, certificate, free_port, heard, station, stopped, until
 
 HOLDS = """
 import sys, labrun_broker
@@ -318,6 +322,73 @@ class Clients(OnBroker):
             interrupts.join()
             until(lambda: station(lab, "guest-1")["state"] == "idle")
 
+    def test_what_waits_ends_with_its_lab(self) -> None:
+        """At once, with Closed, on threads that the program waits for as it ends: a watch, also one whose broker says nothing or isn't there, and one
+        that nobody reads just now; and a question that isn't answered."""
+        broker = self.broker()
+        other = self.lab(broker)
+
+        def watches(lab: labrun_broker.Lab) -> None:
+            for status in lab.watch():
+                seen.put(status)
+
+        seen: queue.SimpleQueue[object] = queue.SimpleQueue()
+        with concurrent.futures.ThreadPoolExecutor(4) as pool:
+            with self.subTest("a watch"):
+                lab = broker.lab()
+                waits = pool.submit(watches, lab)
+                seen.get(timeout=LIMIT)
+                lab.close()
+                with self.assertRaisesRegex(labrun.Closed, "^the lab is closed$"):
+                    waits.result(SOON)
+                with other.hold("scope", timeout=LIMIT):
+                    pass
+                self.assertTrue(seen.empty())
+            with self.subTest("one that nobody reads"):
+                lab = broker.lab()
+                unread = lab.watch()
+                next(unread)
+                lab.close()
+                with self.assertRaisesRegex(labrun.Closed, "^the lab is closed$"):
+                    next(unread)
+            with self.subTest("a stopped broker"):
+                lab = broker.lab()
+                waits = pool.submit(watches, lab)
+                seen.get(timeout=LIMIT)
+                with stopped(broker):
+                    asks, releases = pool.submit(lab.status), pool.submit(lab.release, "board")
+                    until(lambda: len(lab._waiting) == 2, "both wait")
+                    lab.close()
+                    for one in (waits, asks):
+                        with self.assertRaisesRegex(labrun.Closed, "^the lab is closed$"):
+                            one.result(SOON)
+                    see = f"see `labrun-broker status --broker {broker.address}`, and try again with the session's "
+                    with self.assertRaisesRegex(labrun.Closed, f"^the lab is closed; it may have been done, or not: {see}"):
+                        releases.result(SOON)
+            with self.subTest("no broker of a list"):
+                lab = labrun_broker.connect(f"127.0.0.1:{free_port()},127.0.0.1:{free_port()}")
+                waits, asks = pool.submit(watches, lab), pool.submit(lab.status)
+                until(lambda: len(lab._waiting) == 2, "both wait")
+                lab.close()
+                for one in (waits, asks):
+                    with self.assertRaisesRegex(labrun.Closed, "^the lab is closed$"):
+                        one.result(SOON)
+
+    def test_a_program_ends_while_a_thread_watches(self) -> None:
+        """A daemon: it ends with it, without a word."""
+        program = """
+            import atexit, sys, threading, time, labrun_broker
+            atexit.register(time.sleep, 1)  # the last of all, in which a thread might say something
+            lab, seen = labrun_broker.connect(sys.argv[1]), threading.Event()
+            def watches():
+                for _ in lab.watch():
+                    seen.set()
+            threading.Thread(target=watches, daemon=True).start()
+            seen.wait()
+        """
+        done = subprocess.run([sys.executable, "-c", textwrap.dedent(program), self.broker().address], capture_output=True, text=True, timeout=LIMIT)
+        self.assertEqual((done.returncode, done.stdout, done.stderr), (0, "", ""))
+
     def test_a_closed_lab(self) -> None:
         """It asks for nothing any more, also where a stream of it was idle, and nothing of it is left at the broker."""
         broker = self.broker()
@@ -343,17 +414,19 @@ class Clients(OnBroker):
         self.assertEqual(status["in_line"], [])
         lab.close()
 
-    def test_a_fork(self) -> None:
-        lab = self.lab(self.broker())
-        child = os.fork()
-        if child == 0:
-            try:
-                lab.hold("scope").acquire()
-            except labrun.OtherProcess:
-                os._exit(7)
-            finally:
-                os._exit(1)
-        self.assertEqual(os.waitstatus_to_exitcode(os.waitpid(child, 0)[1]), 7)
+    def test_half_of_a_character(self) -> None:
+        """No note is written with it. What went wrong with the work is told as it can be."""
+        broker = self.broker(BAY, "--state", "FOLDER/state")
+        lab = self.lab(broker)
+        with self.assertRaisesRegex(OSError, "caf"), lab.hold("scope") as held:
+            with self.assertRaisesRegex(labrun_broker.BadWish, "half of a character"):
+                held.note("caf\udce9")
+            held.note("café")
+            raise OSError("caf\udce9")
+        self.assertEqual(lab.status()["instruments"][0]["holder"], None)
+        with open(f"{broker.folder}/state/records.jsonl", encoding="utf-8") as file:
+            its = [(it["what"], it["text"]) for it in map(json.loads, file) if it["what"] in ("note", "let_go", "failed")]
+        self.assertEqual(its, [("note", "café"), ("failed", "OSError: caf\\udce9")])
 
     def test_threads(self) -> None:
         """Four share a lab, and no two hold at once."""
@@ -420,16 +493,76 @@ class WhoIsLetIn(OnBroker):
 
     def test_what_is_no_token_of_the_door(self) -> None:
         """A short one, and what no header of a request can say."""
-        path = os.path.join(self.enterContext(tempfile.TemporaryDirectory()), "token")
-        for text, is_one in (("of blanks, and long enough\n", True), ("too short", False), ("of two lines,\nand long enough", False), ("with a tab\tin it, long enough", False), ("with \u00df in it, and long enough", False)):
-            with open(path, "w", encoding="utf-8", opener=lambda name, flags: os.open(name, flags, 0o600)) as file:
+        path = os.path.join(self.enterContext(tempfile.TemporaryDirectory()), "a token")
+        one, other = "of blanks, and long enough", "another, which lets in, too"
+        is_none = "a token is one line of letters, digits and signs, 16 or more"
+        first, empty = (f"{is_none}{it}: openssl rand -hex 32 > '{path}'" for it in ("", ", and this file is empty"))
+        for text, tokens, why in (
+            (f"{one}\n", (one,), ""),
+            (f"{one}\n{other}", (one, other), ""),
+            (f"\n {one}\r\n\n{other}\n\n", (one, other), ""),
+            ("", (), empty),
+            (" \n\n", (), empty),
+            ("too short", (), first),
+            ("with a tab\tin it, long enough", (), first),
+            ("with \u00df in it, and long enough", (), first),
+            (f"{one}\n\ntoo short\n", (), f"line 3: {is_none}"),
+            (f"with \u00df in it, and long enough\n{one}\n", (), f"line 1: {is_none}"),
+        ):
+            with open(path, "w", encoding="utf-8", newline="", opener=lambda name, flags: os.open(name, flags, 0o600)) as file:
                 file.write(text)
             door = Door(("127.0.0.1:0",), token_file=path)
-            if is_one:
-                self.assertEqual(door.token(), text.strip())
-            else:
-                with self.assertRaisesRegex(BadAddress, "^" + re.escape(f"{path}: a token is one line of letters, digits and signs, 16 or more: openssl rand -hex 32 > {path}") + "$"):
-                    door.token()
+            with self.subTest(text):
+                if tokens:
+                    self.assertEqual(door.tokens(), tokens)
+                else:
+                    with self.assertRaisesRegex(NoFile, "^" + re.escape(f"--token-file {path}: {why}") + "$"):
+                        door.tokens()
+        os.chmod(path, 0o604)
+        with self.assertRaisesRegex(BadAddress, f"^{path}: everybody on this machine may read it: chmod o= '{path}'$"):
+            door.tokens()
+        self.assertEqual(Door(("127.0.0.1:0",)).tokens(), ())
+
+    def test_a_token_is_replaced(self) -> None:
+        """While the new one stands beside the old nobody is cut off. Once the old one is taken out, whoever still has it is."""
+        folder = self.enterContext(tempfile.TemporaryDirectory())
+        old, new, both = (f"{folder}/{it}" for it in ("old", "new", "both"))
+
+        def lets_in(*texts: str) -> None:
+            with open(both, "w", encoding="ascii", opener=lambda name, flags: os.open(name, flags, 0o600)) as file:
+                file.write("\n".join(texts))
+
+        for path in (old, new):
+            with open(path, "w", encoding="ascii") as file:
+                file.write(f"the {os.path.basename(path)} token of this bay\n")
+        lets_in("the old token of this bay")
+        at = f"127.0.0.1:{free_port()}"
+        broker = self.broker(BAY, "--state", "FOLDER/state", "--listen", at, "--token-file", both)
+        runs = []
+        for name, says in (("scope", "ends"), ("supply", "stays")):
+            waits = f"trap 'echo is ended; exit 3' TERM; echo begun; until [ -e {folder}/{says} ]; do sleep 0.05; done"
+            runs.append(broker.started("hold", name, "--broker", at, "--token-file", old, "--", "sh", "-c", waits))
+            self.assertEqual(heard(runs[-1].stdout), "begun\n")
+        numbers = {it["name"]: it["session"] for it in self.lab(broker).status()["stations"]}
+        lets_in("the old token of this bay", "the new token of this bay")
+        broker.end()
+        broker.begin()
+        lab = self.enterContext(labrun_broker.connect(at, token_file=new))
+        until(lambda: [it["state"] for it in lab.status()["stations"] if it["state"] != "idle"] == ["holding"] * 2, "both are back")
+        with open(f"{folder}/ends", "w", encoding="ascii"):
+            pass
+        self.assertEqual((*runs[0].communicate(timeout=LIMIT), runs[0].returncode), ("", "", 0))
+        lets_in("the new token of this bay")
+        broker.end()
+        broker.begin()
+        out, said = runs[1].communicate(timeout=LIMIT)
+        self.assertEqual((out, runs[1].returncode), ("is ended\n", 69), said)
+        # (no people are named, so anybody who is let in may release it)
+        its = f"`labrun-broker release guest-2 --session {numbers['guest-2']} --broker {at}`"
+        kept = f"the session may go on holding, as `labrun-broker status --broker {at}` says, until it is released by {its}"
+        self.assertRegex(said, rf"this isn't its token; the command is being ended\n(.*\n)*labrun-broker: the command ran, and ended with status 3, but:\nlabrun-broker: {re.escape(kept)}\n$")
+        self.assertEqual(station(lab, "guest-2")["state"], "gone")
+        self.assertEqual(lab.release("guest-2", numbers["guest-2"]), ("supply",))
 
     def test_tls_and_a_token(self) -> None:
         folder = self.enterContext(tempfile.TemporaryDirectory())
@@ -451,7 +584,7 @@ class WhoIsLetIn(OnBroker):
                     with self.assertRaisesRegex(labrun_broker.Unreachable, f"^the broker at {at} doesn't let this client in: .*{why}"):
                         act()
         with labrun_broker.connect(at, token_file=token) as lab:
-            with self.assertRaisesRegex(labrun_broker.Unreachable, r"it closed the connection \(a broker with TLS wants --certificate FILE\)$"):
+            with self.assertRaisesRegex(labrun_broker.Unreachable, r"it closed the connection \(a broker with TLS wants --certificate FILE, or LABRUN_BROKER_CERTIFICATE_FILE\)$"):
                 lab.status()
         with unittest.mock.patch.dict(os.environ, LABRUN_BROKER_CERTIFICATE_FILE=certificate, LABRUN_BROKER_TOKEN_FILE=token):
             for address in (at, broker.address, f"{at},{broker.address}"):  # (by the socket nobody has to be known)
@@ -468,11 +601,25 @@ class WhoIsLetIn(OnBroker):
         for wrong in (token, key, f"{folder}/damaged"):
             with self.assertRaisesRegex(labrun_broker.BadWish, f"^{wrong}: there is no certificate in it"):
                 labrun_broker.connect(at, certificate_file=wrong)
-        for wrong in (f"{folder}/another", token):
-            words = ["--listen", f"127.0.0.1:{free_port()}", "--tls-certificate", certificate, "--tls-key", wrong]
-            done = broker.ran("serve", f"{broker.folder}/bay.toml", *words)
-            self.assertEqual((done.returncode, done.stderr.count("\n")), (78, 1), done.stderr)
-            self.assertIn(f"{certificate} and {wrong} are no certificate and its key", done.stderr)
+        another, damaged, empty, other_kind = (f"{folder}/{it}" for it in ("another", "damaged", "empty", "other-kind"))
+        with open(empty, "w", encoding="ascii"):
+            pass
+        # (that of the certificate is of an elliptic curve)
+        subprocess.run(["openssl", "genpkey", "-algorithm", "rsa", "-out", other_kind], check=True, capture_output=True)
+        no_certificate, no_key = "there is no certificate in it (as PEM)", "there is no key in it (as PEM)"
+        for its, of, status, why in (
+            (certificate, another, 78, f"--tls-key {another}: this isn't the key of the certificate {certificate}"),
+            (certificate, other_kind, 78, f"--tls-key {other_kind}: this isn't the key of the certificate {certificate}"),
+            (certificate, token, 66, f"--tls-key {token}: {no_key}"),
+            (certificate, empty, 66, f"--tls-key {empty}: {no_key}"),
+            (certificate, certificate, 66, f"--tls-key {certificate}: {no_key}"),
+            (empty, key, 66, f"--tls-certificate {empty}: {no_certificate}"),
+            (damaged, key, 66, f"--tls-certificate {damaged}: {no_certificate}"),
+            (key, certificate, 66, f"--tls-certificate {key}: {no_certificate}"),
+        ):
+            with self.subTest(why):
+                done = broker.ran("serve", f"{broker.folder}/bay.toml", "--listen", f"127.0.0.1:{free_port()}", "--tls-certificate", its, "--tls-key", of)
+                self.assertEqual((done.returncode, done.stderr), (status, f"labrun-broker: {why}\n"))
         done = broker.ran("status", "--broker", at, "--certificate", certificate)
         self.assertEqual(done.returncode, 69)
         self.assertIn("asks for its token", done.stderr)
@@ -480,7 +627,7 @@ class WhoIsLetIn(OnBroker):
         broker.end()
         # (of each kind a line a minute at most)
         first, second = (line for line in broker.said.splitlines() if line.startswith("labrun-broker: "))
-        self.assertRegex(first, r"^labrun-broker: (127\.0\.0\.1|\[::1\]):\d+ isn't let in, and is told: this broker asks for its token: give its file by --token-file$")
+        self.assertRegex(first, r"^labrun-broker: (127\.0\.0\.1|\[::1\]):\d+ isn't let in, and is told: this broker asks for its token: give its file by --token-file, or by LABRUN_BROKER_TOKEN_FILE$")
         self.assertRegex(second, r"^labrun-broker: (127\.0\.0\.1|\[::1\]):\d+ isn't let in, and is told: this isn't its token$")
 
 

@@ -14,7 +14,7 @@ from typing import Any
 
 from labrun_broker.command import main
 from labrun_broker.sessions import Fault
-from labrun_broker.splitting import sessions_in, split, units_of
+from labrun_broker.splitting import sessions_in, split, told, units_of
 
 
 def sets(**counts: int) -> dict[frozenset[str], int]:
@@ -85,14 +85,23 @@ class Told(unittest.TestCase):
         with contextlib.redirect_stdout(said):
             self.assertEqual(main(["bay", "split", folder, "--most", "2"]), 0)
         # (ab and cd in a bay each: b c alone needs both)
-        self.assertEqual(said.getvalue(), "2 bays: 1 of 7 sessions need more than one\nbay 1: a b\nbay 2: c d\n1 of them: b c\n")
+        self.assertEqual(said.getvalue(), "2 bays: 1 of 7 sessions needs more than one\nbay 1: a b\nbay 2: c d\n1 of them: b c\n")
+
+    def test_what_is_left_out(self) -> None:
+        """Of nine sets that need two bays the eight most frequent are named."""
+        folder = self.enterContext(tempfile.TemporaryDirectory())
+        pairs = [*itertools.combinations("abcde", 2)][:9]
+        with open(f"{folder}/records.jsonl", "w", encoding="utf-8") as file:
+            file.writelines(json.dumps(held("guest-1", *it)) + "\n" for it in pairs)
+        lines = told(folder, 1)
+        self.assertEqual((lines[0], len(lines), lines[-1]), ("5 bays: 9 of 9 sessions need more than one", 1 + 5 + 8 + 1, "1 other set of instruments, too"))
 
     def test_no_room(self) -> None:
-        for most in ("0", "-1"):
+        for most in ("0", "-1", "65"):
             said = io.StringIO()
             with self.subTest(most), contextlib.redirect_stderr(said):
                 self.assertEqual(main(["bay", "split", "nowhere", "--most", most]), 2)
-                self.assertEqual(said.getvalue(), "labrun-broker: --most is 1 or more\n")
+                self.assertEqual(said.getvalue(), "labrun-broker: --most is from 1 to 64, which a bay may have\n")
 
 
 if __name__ == "__main__":

@@ -11,11 +11,12 @@ import shutil
 import signal
 import socket
 import subprocess
+import sys
 import tempfile
 import threading
 import time
 import unittest
-from typing import Any
+from typing import Any, NamedTuple
 from unittest import mock
 
 import labrun_broker
@@ -30,6 +31,19 @@ from tests.etcds import Member, OnEtcd
 from tests.machines import status_of
 
 LEASE = 4
+# an etcd whose records take a while: until there is a file
+SLOW = """
+import os, sys, time
+from labrun_broker import command, leading, turning
+
+def slowly(self, prefix):
+    while prefix.endswith(b"/records/") and not os.path.exists(f"{FOLDER}/goes"):
+        time.sleep(0.02)
+    return reads(self, prefix)
+
+turning.STANDS, reads, leading.Leading.reads = 0.1, leading.Leading.reads, slowly
+sys.exit(command.main())
+"""
 
 
 class Serving:
@@ -65,6 +79,23 @@ class Serving:
         self._reader.join(5)
         if self.process.stderr is not None:
             self.process.stderr.close()
+
+
+class Slow(OnEtcd):
+    def test_one_that_begins(self) -> None:
+        """It says what it waits for: that is etcd, wherever its records are written as well."""
+        for count, has_folder in enumerate((True, False)):
+            folder = self.enterContext(tempfile.TemporaryDirectory())
+            words = ("--state", f"{folder}/state") if has_folder else ()
+            with self.subTest(words):
+                command = [sys.executable, "-c", f"FOLDER = {folder!r}{SLOW}"]
+                one = Serving(self, free_port(), *words, bay=BAY.replace("north", f"north-{count}"), command=command)
+                why = "isn't open after 0.1 s, as where etcd is slow; nobody is let in before it is"
+                one.says(f"labrun-broker: the state in etcd at {self.member.endpoint} {why}")
+                with open(f"{folder}/goes", "w", encoding="ascii"):
+                    pass
+                one.says("4 instruments, at ")
+                self.assertNotIn(folder, "\n".join(one.said))
 
 
 class Standing(OnEtcd):
@@ -151,7 +182,7 @@ class Standing(OnEtcd):
         self.assertEqual(self.brokers[0].process.wait(LIMIT), 74)
         self.brokers[0].says("labrun-broker: ends: ")
         # (etcd answered all the time)
-        whys = (f"nothing was heard from etcd for {LEASE} s: it doesn't answer, or this broker was stopped", "its lease is over", "it leads no more")
+        whys = (f"its lease of {LEASE} s couldn't be renewed: etcd doesn't answer, or this broker was stopped", "its lease is over", "it leads no more")
         self.assertIn(self.brokers[0].said[-1], [f"labrun-broker: ends: {it}" for it in whys])
 
 
@@ -161,9 +192,7 @@ class Secured(unittest.TestCase):
 
     def test_certificates_and_a_user(self) -> None:
         folder = self.enterContext(tempfile.TemporaryDirectory())
-        certificate, key, password = (f"{folder}/{name}" for name in ("certificate", "key", "password"))
-        words = ["openssl", "req", "-x509", "-newkey", "ec", "-pkeyopt", "ec_paramgen_curve:prime256v1", "-nodes", "-days", "2", "-subj", "/CN=labrun"]
-        subprocess.run([*words, "-addext", "subjectAltName=IP:127.0.0.1", "-keyout", key, "-out", certificate], check=True, capture_output=True)
+        (certificate, key), password = certified(self), f"{folder}/password"
         for path, text in ((password, "of-labrun-alone\n"), (f"{folder}/wrong", "another\n")):
             with open(path, "w", encoding="ascii") as file:
                 file.write(text)
@@ -294,16 +323,50 @@ class Words(unittest.TestCase):
     def test_faults(self) -> None:
         for words, status, text in (
             (("--etcd", "127.0.0.1:1", "--lease", "1"), 2, "whole seconds from 2 to 10"),
-            *((("--etcd", it), 78, f"--etcd {it.split(',')[-1]}: HOST:PORT is wanted") for it in ("nowhere", "unix:/tmp/x", "127.0.0.1:1,unix:/tmp:1", "http://")),
+            *((("--etcd", it), 2, f"--etcd {it.split(',')[-1]}: HOST:PORT is wanted") for it in ("nowhere", "unix:/tmp/x", "127.0.0.1:1,unix:/tmp:1", "http://")),
+            (("--etcd", "127.0.0.1:1,https://127.0.0.1:65536"), 2, "labrun-broker: --etcd https://127.0.0.1:65536: a port is 65535 at most\n"),
             *((("--etcd", "127.0.0.1:1", it, "FOLDER/no", *more), 66, f"labrun-broker: {it} FOLDER/no: there is no such file\n") for it, *more in FILES),
-            (("--etcd", "127.0.0.1:1", "--etcd-cert", "FOLDER/bay.toml"), 78, "--etcd-cert FILE --etcd-key FILE"),
-            (("--etcd", "127.0.0.1:1", "--etcd-user", "ann"), 78, "--etcd-user NAME --etcd-password-file FILE"),
+            (("--etcd", "127.0.0.1:1", "--etcd-cert", "FOLDER/bay.toml"), 2, "--etcd-cert FILE --etcd-key FILE"),
+            (("--etcd", "127.0.0.1:1", "--etcd-user", "ann"), 2, "--etcd-user NAME --etcd-password-file FILE"),
             (("--etcd", "127.0.0.1:1", "--state", "FOLDER/state"), 1, "a broker without --etcd kept it"),
         ):
             with self.subTest(words):
                 found = self.says(*words)
                 self.assertEqual(found[0], status, found[1])
                 self.assertIn(text, found[1])
+
+    @unittest.skipUnless(shutil.which("openssl"), "there is no openssl")
+    def test_files_with_something_else(self) -> None:
+        """They are told of before etcd is asked, as those of the broker's own TLS are."""
+        of, of_other = certified(self), certified(self)
+        folder = self.enterContext(tempfile.TemporaryDirectory())
+        junk, empty, image = (f"{folder}/{name}" for name in ("junk", "empty", "image"))
+        for path, its in ((junk, b"hello\n"), (empty, b"\n"), (image, b"\xff\xd8\xff")):
+            with open(path, "wb") as file:
+                file.write(its)
+        for words, option, path, why in (
+            (("--etcd-ca", junk), "--etcd-ca", junk, "there is no certificate in it (as PEM)"),
+            (("--etcd-cert", junk, "--etcd-key", of.key), "--etcd-cert", junk, "there is no certificate in it (as PEM)"),
+            (("--etcd-cert", of.certificate, "--etcd-key", junk), "--etcd-key", junk, "there is no key in it (as PEM)"),
+            (("--etcd-cert", of.certificate, "--etcd-key", of_other.key), "--etcd-key", of_other.key, f"this isn't the key of the certificate {of.certificate}"),
+            (("--etcd-user", "ann", "--etcd-password-file", empty), "--etcd-password-file", empty, "a password is one line of text, and this file is empty"),
+            (("--etcd-user", "ann", "--etcd-password-file", image), "--etcd-password-file", image, "a password is one line of text, and this file has something else"),
+        ):
+            with self.subTest(words):
+                self.assertEqual(self.says("--etcd", "127.0.0.1:1", *words), (66, f"labrun-broker: {option} {path}: {why}\n"))
+
+
+class Certified(NamedTuple):
+    certificate: str
+    key: str
+
+
+def certified(test: unittest.TestCase) -> Certified:
+    folder = test.enterContext(tempfile.TemporaryDirectory())
+    its = Certified(f"{folder}/certificate", f"{folder}/key")
+    words = ["openssl", "req", "-x509", "-newkey", "ec", "-pkeyopt", "ec_paramgen_curve:prime256v1", "-nodes", "-days", "2", "-subj", "/CN=labrun"]
+    subprocess.run([*words, "-addext", "subjectAltName=IP:127.0.0.1", "-keyout", its.key, "-out", its.certificate], check=True, capture_output=True)
+    return its
 
 
 if __name__ == "__main__":

@@ -2,9 +2,12 @@
 
 import asyncio
 import hashlib
+import http.client
 import json
 import math
 import os
+import shutil
+import socket
 import subprocess
 import tempfile
 import threading
@@ -13,6 +16,7 @@ from unittest import mock
 
 import labrun
 import labrun_broker
+from labrun_broker.bay import bay_of
 from labrun_broker.keeping import Keeping
 from labrun_broker.past import read_past
 from labrun_broker.service import fault_of
@@ -55,6 +59,16 @@ class State(OnBroker):
         with open(f"{broker.folder}/state/records.jsonl", encoding="utf-8") as file:
             what = [json.loads(line)["what"] for line in file if '"station":"board"' in line]
         self.assertEqual(what, ["asked", "held", "let_go", "asked", "held", "note", "gone", "back", "note", "let_go"])
+
+    def test_a_client_that_is_back_has_its_instruments_in_its_own_order(self) -> None:
+        broker = self.broker(BAY, "--state", "FOLDER/state")
+        with self.lab(broker, "board").hold("supply", "scope") as held:
+            broker.kill()
+            broker.begin()
+            with broker.lab() as other:
+                until(lambda: station(other, "board")["state"] == "holding", "it has come back")
+            until(lambda: held._returns is None, "it knows so")
+            self.assertEqual(held.instruments, ("supply", "scope"))
 
     def test_a_power_cut(self) -> None:
         """The journal alone is there, and that is enough: whoever was told that it holds does."""
@@ -108,6 +122,28 @@ class State(OnBroker):
             self.assertEqual((later.token, held.token, station(other, "board")["token"]), (3, 2, 2))
         held.release()
 
+    def test_who_waits_as_it_ends(self) -> None:
+        """The records say that the broker ended, and not that these are gone, for they are there: by gRPC, and by HTTP."""
+        broker = self.broker(BAY, "--state", "FOLDER/state", "--http", "unix:FOLDER/http.sock")
+        lab, started = self.lab(broker), list[subprocess.Popen[str]]()
+        waiting = lambda: next(it for it in lab.status()["instruments"] if it["name"] == "scope")
+        for words, is_so in ((("sleep", "60"), lambda: waiting()["holder"]), (("true",), lambda: waiting()["waiting"])):
+            started.append(broker.started("hold", "scope", "--", *words))
+            self.addCleanup(started[-1].communicate)
+            self.addCleanup(started[-1].kill)
+            until(is_so)
+        asks = http.client.HTTPConnection("localhost", timeout=LIMIT)
+        self.addCleanup(asks.close)
+        asks.sock = socket.socket(socket.AF_UNIX)
+        asks.sock.connect(f"{broker.folder}/http.sock")
+        asks.request("POST", "/v1/sessions", json.dumps({"ticket": TICKET, "instruments": ["scope"]}), {"Content-Type": "application/json"})
+        self.assertLess(asks.getresponse().status, 300)
+        until(lambda: len(waiting()["waiting"]) == 2, "both wait")
+        self.assertEqual(broker.end(), 0)
+        past, _ = read_past(f"{broker.folder}/state")
+        ends = [(it.how, it.why) for it in past.sessions()]
+        self.assertEqual(ends, [("holds", ""), *[("gave up", "the broker ended")] * 2])
+
     def test_gone_while_the_broker_was(self) -> None:
         """Nobody comes back for it: an operator releases it."""
         broker = self.broker(BAY, "--state", "FOLDER/state")
@@ -131,6 +167,18 @@ class State(OnBroker):
         with self.lab(broker, "board").hold("scope"):
             pass
         self.assertEqual(sorted(os.listdir(f"{broker.folder}/state")), ["bay.journal", "bay.json", "records.jsonl"])
+
+    def test_what_is_there_cant_be_read(self) -> None:
+        """Each is named, and the status says that it is the broker's own."""
+        for name in ("bay.journal", "bay.json", "records.jsonl"):
+            with self.subTest(name):
+                folder = self.enterContext(tempfile.TemporaryDirectory())
+                with open(f"{folder}/bay.toml", "w", encoding="utf-8") as file:
+                    file.write(BAY)
+                os.makedirs(f"{folder}/state/{name}")
+                words = [*COMMAND, "serve", f"{folder}/bay.toml", "--listen", f"unix:{folder}/s", "--state", f"{folder}/state"]
+                done = subprocess.run(words, capture_output=True, text=True, timeout=LIMIT)
+                self.assertEqual((done.returncode, done.stderr), (74, f"labrun-broker: {folder}/state/{name}: Is a directory\n"))
 
     def test_two_brokers(self) -> None:
         broker = self.broker(BAY, "--state", "FOLDER/state")
@@ -233,6 +281,142 @@ class State(OnBroker):
         held.release()
 
 
+class Emptied(OnFolder):
+    """A journal without a whole line, beside records of sessions that hold."""
+
+    async def left(self) -> str:
+        """The folder of a broker that ended while board and a guest held; another guest had let go, and one only waited."""
+        folder, owner = self.folder(), Owner()
+        keeping = await self.keeping(folder)
+        over = await keeping.hold(Wish(("load-1",)), owner)
+        await keeping.hold(Wish(("scope", "supply"), station="board", by="ann"), owner)
+        await keeping.hold(Wish(("load-2",)), owner)
+        await keeping.let_go(over, owner)
+        waits = asyncio.create_task(keeping.hold(Wish(("scope",), station="radio"), owner))
+        await asyncio.sleep(0.02)
+        waits.cancel()
+        await keeping.close()
+        return folder
+
+    async def refused(self, folder: str) -> str:
+        with self.assertRaises(labrun.JournalError) as caught:
+            await self.keeping(folder)
+        return str(caught.exception)
+
+    async def test_it_is_refused(self) -> None:
+        """Each that holds is named, and what to do; as often as somebody tries; and what is advised helps."""
+        for length in (0, 10):
+            with self.subTest(length):
+                folder = await self.left()
+                os.truncate(f"{folder}/bay.journal", length)
+                for _ in range(2):
+                    why = await self.refused(folder)
+                    self.assertTrue(why.startswith(f"{folder}/bay.journal: it has no whole line, and by the records somebody holds: "), why)
+                    self.assertIn(": board (ann) scope supply (session 2), guest-2 load-2 (session 3). ", why)
+                    self.assertIn("Put back the one that belongs to bay.json; or see that nobody is at the instruments, move bay.journal, its numbered", why)
+                    self.assertIn(f"out of {folder} (bay.json and the records may stay), and begin again", why)
+                self.assertEqual(os.path.getsize(f"{folder}/bay.journal"), length, "it stays as it was found")
+                os.unlink(f"{folder}/bay.journal")
+                keeping = await self.keeping(folder)
+                self.assertEqual({it["state"] for it in keeping.status()["stations"]}, {"idle"})
+                self.assertRegex("\n".join(keeping.complaints), "bay.journal isn't there: it begins as if nobody held; by the records board .ann. scope supply .session 2., guest-2 load-2")
+                await keeping.close()
+                # (from here on nobody holds by the records, either)
+                os.truncate(f"{folder}/bay.journal", length)
+                self.assertEqual((await self.keeping(folder)).complaints, [])
+
+    async def test_it_was_carried_over(self) -> None:
+        """Its hold is told before the last broker began."""
+        folder = await self.left()
+        await (await self.keeping(folder)).close()
+        os.truncate(f"{folder}/bay.journal", 0)
+        self.assertIn("board (ann) scope supply (session 2), guest-2 load-2 (session 3)", await self.refused(folder))
+
+    async def test_its_hold_is_told_in_an_older_file(self) -> None:
+        """Records that were put aside count, and those of long ago, which no broker reads otherwise."""
+        folder = await self.left()
+        os.rename(f"{folder}/records.jsonl", f"{folder}/records-1.jsonl")
+        keeping, owner = await self.keeping(folder), Owner()
+        await keeping.note(await keeping.hold(Wish(("load-1",)), owner), owner, "5 V")
+        await keeping.close()
+        with open(f"{folder}/records.jsonl", encoding="utf-8") as file:
+            note = next(line for line in file if '"what":"note"' in line)
+        with open(f"{folder}/records.jsonl", "a", encoding="utf-8") as file:
+            file.write(note * (1 + (1 << 23) // len(note)))
+        os.truncate(f"{folder}/bay.journal", 0)
+        self.assertIn("board (ann) scope supply (session 2), guest-2 load-2 (session 3), guest-1 load-1 (session 5)", await self.refused(folder))
+
+    async def test_many(self) -> None:
+        folder, owner = self.folder(), Owner()
+        bay = 'bay = "north"\ninstruments = [%s]\n[guests]\ncount = 17\n' % ", ".join(f'"i{at}"' for at in range(17))
+        keeping = await self.keeping(folder, bay)
+        for at in range(17):
+            await keeping.hold(Wish((f"i{at}",)), owner)
+        await keeping.close()
+        os.truncate(f"{folder}/bay.journal", 0)
+        with self.assertRaisesRegex(labrun.JournalError, r"guest-8 i7 \(session 8\) and 9 more\. "):
+            await self.keeping(folder, bay)
+
+    async def test_the_names_were_moved_out_too(self) -> None:
+        """As the other refusals advise. Numbers begin at 1 again, and what the records say of larger ones is over."""
+        folder = await self.left()
+        for name in ("bay.journal", "bay.json"):
+            os.unlink(f"{folder}/{name}")
+        for _ in range(2):
+            keeping = await self.keeping(folder)
+            self.assertEqual(({it["state"] for it in keeping.status()["stations"]}, keeping.complaints), ({"idle"}, []))
+            await keeping.close()
+
+    async def test_it_lacks_its_last_lines(self) -> None:
+        """Cut behind each of its lines: it is refused if the records say of one that holds what no line says any more."""
+        folder = await self.left()
+        with open(f"{folder}/bay.journal", "rb") as file:
+            lines = file.read().splitlines(keepends=True)
+        by_record = {2: "board (ann) scope supply (session 2)", 3: "guest-2 load-2 (session 3)"}
+        refused = list[tuple[int, ...]]()
+        for count in range(1, len(lines) + 1):
+            copy = self.folder()
+            shutil.copytree(folder, copy, dirs_exist_ok=True)
+            with open(f"{copy}/bay.journal", "wb") as file:
+                file.write(b"".join(lines[:count]))
+            held = {int(words[2], 16) for words in map(bytes.split, lines[:count]) if words[1] == b"hold"}
+            lacks = tuple(it for it in by_record if it not in held)
+            if lacks:
+                told = f"{copy}/bay.journal: it lacks its last lines, and by the records somebody holds: {', '.join(by_record[it] for it in lacks)}. Put back the one"
+                self.assertTrue((await self.refused(copy)).startswith(told))
+                refused.append(lacks)
+            else:
+                keeping = await self.keeping(copy)
+                self.assertEqual([(it["holder"], keeping.complaints) for it in keeping.status()["instruments"][:2]], [("board", [])] * 2)
+                await keeping.close()
+        self.assertEqual(sorted(set(refused)), [(2, 3), (3,)])
+
+    async def test_it_lacks_them_where_a_power_cut_may(self) -> None:
+        """Without syncs the system may have lost them: that is told, and it begins."""
+        folder = await self.left()
+        with open(f"{folder}/bay.journal", "rb") as file:
+            head = file.readline()
+        os.truncate(f"{folder}/bay.journal", len(head))
+        keeping = Keeping(bay_of(BAY), folder, 60.0, False)
+        await keeping.open()
+        self.addAsyncCleanup(keeping.close)
+        [told] = keeping.complaints
+        its = "board (ann) scope supply (session 2), guest-2 load-2 (session 3)"
+        self.assertEqual(told, f"{folder}/bay.journal lacks its last lines: it begins as if they had never been; by the records somebody holds: {its}")
+
+    async def test_nobody_held(self) -> None:
+        """A broker that was killed in its very first write, or after all had let go."""
+        folder, owner = self.folder(), Owner()
+        keeping = await self.keeping(folder)
+        await keeping.let_go(await keeping.hold(Wish(("scope",)), owner), owner)
+        await keeping.close()
+        for length in (10, 0):
+            os.truncate(f"{folder}/bay.journal", length)
+            keeping = await self.keeping(folder)
+            self.assertEqual(keeping.complaints, [])
+            await keeping.close()
+
+
 class TakenUp(OnFolder):
     async def test_what_was_told_and_what_was_not(self) -> None:
         """Two sessions hold when the broker ends. Of one nobody was told, and its client asks again; the other one's client comes back."""
@@ -266,6 +450,19 @@ class TakenUp(OnFolder):
             with self.assertRaisesRegex(Ended, text) as caught:
                 await keeping.hold(Wish(ticket=ticket, comes_back=True), owner)
             self.assertEqual(fault_of(caught.exception).kind, ended)
+
+    async def test_who_asks_again_has_it_in_the_order_of_asking(self) -> None:
+        """Though the journal knows none."""
+        folder, owner = self.folder(), Owner()
+        for words in (("load-1", "scope"), ("scope", "load-1"), ("load-*", "supply")):
+            keeping = await self.keeping(folder)
+            first = await keeping.hold(Wish(words, ticket=TICKET), owner)
+            await keeping.close()
+            keeping = await self.keeping(folder)
+            again = await keeping.hold(Wish(words, ticket=TICKET), owner)
+            self.assertEqual((again.number, again.instruments), (first.number, first.instruments))
+            await keeping.let_go(again, owner)
+            await keeping.close()
 
     async def test_a_guest_is_the_same(self) -> None:
         """It has the name that it had, and nobody else gets that meanwhile."""
@@ -387,7 +584,11 @@ class Damaged(OnFolder):
         told = text.index(b"\n", text.index(b" hold ")) + 1
         for at in {0, 1, 20, told - 1, told, told + 1, len(text) - 1, len(text)}:
             with self.subTest(at):
-                keeping = await self.keeping(self.copy(folder, text[:at]))
+                copy = self.copy(folder, text[:at])
+                if at < told:
+                    # (a hold gets its record once the journal has it)
+                    os.truncate(f"{copy}/records.jsonl", 0)
+                keeping = await self.keeping(copy)
                 self.assertEqual(how(keeping, "radio")["state"], "gone" if at >= told else "idle")
                 await keeping.close()
 
@@ -431,7 +632,7 @@ class Terms(OnFolder):
         return await self.keeping(folder, f'gone = "{gone}"\n' + BAY, grace)
 
     async def test_a_shorter_one(self) -> None:
-        for told, now, kept in (("release", "release", 60.0), ("release", "keep", math.inf), ("keep", "release", math.inf)):
+        for told, now, kept in (("release", "release", 60.0), ("release", "keep", math.inf), ("keep", "release", 0.02)):
             folder, owner = self.folder(), Owner()
             keeping = await self.begun(folder, told, 60.0)
             await keeping.hold(Wish(("scope",), station="radio", ticket=TICKET), owner)
@@ -440,9 +641,11 @@ class Terms(OnFolder):
                 keeping = await self.begun(folder, now, 0.02)
                 await asyncio.sleep(0.1)
                 self.assertEqual(how(keeping, "radio")["state"], "gone", "it isn't released after 0.02 s")
-                span = "for 60 s" if told == "release" else "until somebody releases it"
-                why = f"who holds now was told that a session whose client is gone is kept {span}. That goes for all sessions until those have ended and"
-                complaints = [f"{why} the broker is started again"] if now == "release" else []
+                span, rest = "for 60 s", "all sessions until those have ended and the broker is started again"
+                if told == "keep":
+                    span, rest = "until somebody releases it", "those sessions until they have ended"
+                why = f"who holds now may have been told that a session whose client is gone is kept {span}. That goes for {rest}"
+                complaints = [why] if now == "release" else []
                 self.assertEqual((keeping.grace, keeping.complaints), (kept, complaints))
                 await keeping.close()
             keeping = await self.begun(folder, now, 0.02)

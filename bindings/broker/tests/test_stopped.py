@@ -18,8 +18,8 @@ from tests.proxies import Proxy, Ways
 
 RELEASES = 'gone = "release"\n' + BAY
 TOLD = r"the broker at .* doesn't answer \(it is stopped, or the network is cut\)"
-MAY_HOLD = "the session may hold all the same: if `labrun-broker status` shows it as gone, end it by `labrun-broker release NAME`, with the name that stands there"
-BOARD_MAY_HOLD = "the session may hold all the same: if `labrun-broker status` shows board as gone, end it by `labrun-broker release board`"
+MAY_HOLD = "the session may hold all the same: if `labrun-broker status --broker {0}` shows it as gone, end it by `labrun-broker release NAME --broker {0}`, with the name that stands there"
+BOARD_MAY_HOLD = "the session may hold all the same: if `labrun-broker status --broker {0}` shows board as gone, end it by `labrun-broker release board --broker {0}`"
 # it asks, and ends while the broker is stopped
 PROGRAM = """
 import os, signal, sys, labrun_broker
@@ -166,7 +166,7 @@ class Killed(OnBroker):
             asked = threads.submit(lab.hold("scope", waits=waits.append).acquire)
             until(lambda: waits, "it waits")
             broker.kill()
-            with self.assertRaisesRegex(labrun_broker.AnswerLost, f"it closed the connection; {MAY_HOLD}$"):
+            with self.assertRaisesRegex(labrun_broker.AnswerLost, f"it closed the connection; {MAY_HOLD.format(broker.address)}$"):
                 asked.result(LIMIT)
 
     def test_one_that_does_not_come_back(self) -> None:
@@ -181,7 +181,7 @@ class Killed(OnBroker):
                 asked = threads.submit(lab.hold("scope", waits=waits.append, timeout=timeout).acquire)
                 until(lambda: waits, "it waits")
                 broker.kill()
-                with self.assertRaisesRegex(labrun_broker.AnswerLost, f"^the broker at unix:.* can't be reached: .*; {may_hold}$"):
+                with self.assertRaisesRegex(labrun_broker.AnswerLost, f"^the broker at unix:.* can't be reached: .*; {may_hold.format(broker.address)}$"):
                     asked.result(LIMIT)
                 with self.assertRaises(labrun_broker.Unreachable) as fault:
                     lab.hold("scope").acquire()
@@ -196,7 +196,7 @@ class Killed(OnBroker):
             assert one.stderr is not None
             self.assertIn("waits: scope has been held by guest-1", one.stderr.readline())
             broker.kill()
-            self.assertRegex(one.communicate(timeout=LIMIT)[1], f"labrun-broker: the broker at unix:.* can't be reached: .*; {MAY_HOLD}\n$")
+            self.assertRegex(one.communicate(timeout=LIMIT)[1], f"labrun-broker: the broker at unix:.* can't be reached: .*; {MAY_HOLD.format(broker.address)}\n$")
         self.assertEqual(one.returncode, 69)
         broker.begin()
 

@@ -5,6 +5,7 @@ import contextlib
 import json
 import os
 import re
+import resource
 import signal
 import sys
 import tempfile
@@ -17,12 +18,14 @@ from unittest import mock
 import labrun
 import labrun_broker
 from labrun_broker import records, shell
+from labrun_broker.applying import apply
 from labrun_broker.keeping import Keeping
 from labrun_broker.past import read_past
+from labrun_broker.sessions import read_records
 from labrun_broker.standing import Session, Standings
 from labrun_broker.telling import lines_of
 from labrun_broker.wishes import Wish
-from tests.brokers import BAY, COMMAND, LIMIT, SOON, Broker, OnBroker
+from tests.brokers import BAY, COMMAND, LIMIT, SOON, Broker, OnBroker, station
 from tests.test_keeping import TICKET, OnFolder, Owner, eventually, how, whats
 
 
@@ -316,6 +319,26 @@ class Hanging(OnFolder):
         self.assertRegex(said[1], "bay.journal: all is written$")
         self.assertEqual(len(said), 2)
 
+    async def test_an_end_that_hangs(self) -> None:
+        """It is in the records once it is in the journal, for a broker that is killed meanwhile has the session again."""
+        self.enterContext(mock.patch.object(shell, "SLOW", 0.1))
+        folder, owner, may, real = self.folder(), Owner(), threading.Event(), os.pwrite
+        self.addCleanup(may.set)
+        keeping = await self.keeping(folder)
+        its = lambda: [it["what"] for it in read_records(folder)[0]]
+        session = await keeping.hold(Wish(("scope",), station="board"), owner)
+        await eventually(lambda: its() == ["opened", "asked", "held"])
+        with mock.patch("os.pwrite", lambda *given: may.wait(LIMIT) and real(*given)):
+            await keeping.let_go(session, owner)
+            keeping._record("changed", text="behind it")
+            keeping._news.settles()
+            await asyncio.sleep(0.1)
+            self.assertEqual(its(), ["opened", "asked", "held"])
+            may.set()
+            await eventually(lambda: its() == ["opened", "asked", "held", "let_go", "changed"])
+            await keeping.close()
+        self.assertEqual((keeping.lost, its()[-1]), ([], "closed"))
+
     async def test_records_that_hang(self) -> None:
         """Who holds is told without them."""
         keeping, owner, may = await self.keeping(self.folder()), Owner(), threading.Event()
@@ -366,6 +389,30 @@ class Since(OnFolder):
         assert told is not None
         # (it is gone since the broker began again)
         self.assertGreater(float(told[1]) - float(told[2]), 1.0)
+
+
+class EndsOnAFullDisk(OnBroker):
+    def test_what_is_lost_is_told(self) -> None:
+        """By the command, with another status than that of an end by which all is written. (Its files may not become longer.)"""
+        broker = self.broker(BAY, "--state", "FOLDER/state")
+        lab = self.lab(broker, "board")
+        held = lab.hold("scope")
+        held.acquire()
+        assert broker.process is not None
+        state = f"{broker.folder}/state"
+        most = min(os.path.getsize(f"{state}/{name}") for name in ("bay.journal", "records.jsonl"))
+        resource.prlimit(broker.process.pid, resource.RLIMIT_FSIZE, (most, resource.RLIM_INFINITY))
+        with self.assertRaises(labrun.JournalError):
+            held.note("5 V")
+        held.release()
+        self.assertEqual(broker.end(), 74)
+        ended = f"labrun-broker: {state}/bay.journal: as the broker ended a write failed (File too large). "
+        self.assertIn(f"{ended}These have ended, and may be shown as gone once a broker begins there: session 1 of board\n", broker.said)
+        self.assertIn(f"{ended}1 note may be lost, of session 1 of board\n", broker.said)
+        self.assertIn(f"labrun-broker: {state}/records.jsonl: not all records are written\n", broker.said)
+        broker.begin()
+        self.assertEqual((station(self.lab(broker), "board")["state"], station(self.lab(broker), "board")["note"]), ("gone", None))
+        self.assertEqual(broker.end(), 0)
 
 
 class FullDisk(OnFolder):
@@ -452,13 +499,30 @@ class FullDisk(OnFolder):
         self.assertTrue(begun - 0.4 < row["since"] < asked + 0.4)
         self.assertRegex("\n".join(lines_of(keeping.status())), r"(?m)^scope +\(board, once that is written\) +radio$")
         _, why, told = Standings(keeping).for_whom(asks[1])
-        self.assertEqual(why, "scope is board's once that is on the disk (a write failed (No space left on device))")
+        once = "once that is on the disk (a write failed (No space left on device))"
+        self.assertEqual(why, f"scope is board's {once}")
+        # (of the station of one that isn't told nobody says that it has been in that session since it asked)
+        third = asyncio.create_task(keeping.hold(Wish(("supply",), station="board"), self.owner, asks.append))
+        self.addCleanup(third.cancel)
+        await eventually(lambda: len(asks) == 3)
+        self.assertEqual(Standings(keeping).why(asks[2]), f"board is in one session at a time, and session {asks[0].number} holds {once}")
         self.breaks("")
         await keeping.note(await first, self.owner, "5 V")
         self.assertEqual(how(keeping, "board")["state"], "holding")
         _, why, again = Standings(keeping).for_whom(asks[1])
         self.assertRegex(why, "^scope has been held by board for ")
         self.assertNotEqual(told, again)
+
+    async def test_who_changes_the_bay(self) -> None:
+        """It is told what is wrong with the disk."""
+        keeping = await self.on_disk()
+        self.breaks("full")
+        waits = asyncio.create_task(keeping.hold(Wish(("scope",)), self.owner))
+        await eventually(keeping._shell.is_wrong)
+        with self.assertRaisesRegex(labrun.JournalError, r"bay\.journal: a write failed \(No space left on device\): nothing has changed; try again$"):
+            await apply(keeping, BAY.replace("count = 4", "count = 5"), "eve", False)
+        self.breaks("")
+        self.assertEqual(((await waits).name, keeping.bay.guests), ("guest-1", 4))
 
     async def test_records(self) -> None:
         """Once it is said that all is written, they are, too: whoever looks then sees that nobody holds."""
@@ -543,6 +607,101 @@ class FullDisk(OnFolder):
         with open(f"{self.its_folder}/bay.journal", "rb") as file:
             self.assertEqual(file.read().count(b" note 5 V\n"), 1)
         self.assertEqual(whats(keeping, "board"), ["asked", "held", "note"])
+
+    async def test_an_end(self) -> None:
+        """It says what isn't written: who has ended and is shown as gone then, and how many notes are lost. What is written nobody needs to hear."""
+        for how_it_breaks, why in (("full", "No space left on device"), ("fails", "Input/output error")):
+            with self.subTest(how_it_breaks):
+                self.enterContext(mock.patch.object(shell, "CLOSING", 0.5))
+                self.breaks("")
+                keeping = await self.on_disk()
+                board, guest, other = [await keeping.hold(Wish((one,), station=its), self.owner) for one, its in (("scope", "board"), ("load-1", ""), ("supply", ""))]
+                await keeping.note(board, self.owner, "4 V")
+                self.breaks(how_it_breaks)
+                with mock.patch("os.write", side_effect=OSError(28, "No space left on device")):
+                    for text in ("5 V", "\u00fc" * 400):
+                        with self.assertRaises(labrun.JournalError):
+                            await keeping.note(board, self.owner, text)
+                    await keeping.let_go(board, self.owner)
+                    with self.assertRaises(labrun.JournalError):
+                        await keeping.release(guest.name, "eve")
+                    waits = asyncio.create_task(keeping.hold(Wish(("scope",), station="radio"), self.owner))
+                    await asyncio.sleep(0.02)
+                    waits.cancel()
+                    await asyncio.wait({waits})
+                    await keeping.close()
+                its = "session 1 of board, session 2 of guest-1"
+                ended, lost, missing = keeping.lost
+                begins = f"{self.its_folder}/bay.journal: as the broker ended a write failed ({why}). "
+                self.assertEqual(ended, f"{begins}These have ended, and may be shown as gone once a broker begins there: {its}")
+                self.assertEqual(lost, f"{begins}2 notes may be lost, of session 1 of board")
+                self.assertEqual(missing, f"{self.its_folder}/records.jsonl: not all records are written")
+                self.breaks("")
+                # (whole lines of what failed may be there)
+                again = await self.keeping(self.its_folder)
+                self.assertEqual(how(again, other.name)["state"], "gone")
+                await again.close()
+                self.assertEqual(again.lost, [])
+
+    async def test_no_end_is_recorded_that_the_journal_hasnt(self) -> None:
+        """There is room for records, and none for the journal: they have the end once that has it, or never; and each session ends once."""
+        self.enterContext(mock.patch.object(shell, "CLOSING", 0.5))
+        keeping, tickets = await self.on_disk(), [f"{TICKET} of {name}" for name in ("scope", "supply")]
+        its = lambda: [(it["session"], it["what"]) for it in read_records(self.its_folder)[0] if it["what"] not in ("asked", "opened")]
+        one, other = [await keeping.hold(Wish((ticket.split()[-1],), ticket=ticket), self.owner) for ticket in tickets]
+        expected = [(one.number, "held"), (other.number, "held")]
+        self.breaks("full")
+        await keeping.let_go(one, self.owner)
+        keeping.gone(other, self.owner)
+        await eventually(lambda: keeping._shell.failures > 1)
+        self.assertEqual(its(), expected)
+        self.breaks("")
+        expected += [(one.number, "let_go"), (other.number, "gone")]
+        await eventually(lambda: its() == expected)
+        await eventually(lambda: not keeping._shell.is_wrong())
+        self.breaks("full")
+        back = await keeping.hold(Wish(ticket=tickets[1], comes_back=True), self.owner)
+        await keeping.let_go(back, self.owner)
+        # (that it closed is written, though it comes behind an end)
+        await keeping.close()
+        expected += [(other.number, "back"), (None, "closed")]
+        self.assertEqual(its(), expected)
+        told, *more = keeping.lost
+        self.assertRegex(told, f"may be shown as gone once a broker begins there: session {other.number} of {other.name}$")
+        self.assertEqual(more, [])
+        self.breaks("")
+        again = await self.keeping(self.its_folder)
+        back = await again.hold(Wish(ticket=tickets[1], comes_back=True), self.owner)
+        await again.let_go(back, self.owner)
+        await again.close()
+        expected += [(other.number, it) for it in ("gone", "back", "let_go")]
+        self.assertEqual(its(), [*expected, (None, "closed")])
+
+    async def test_an_end_by_which_nothing_is_lost(self) -> None:
+        """Nobody has ended or noted since the disk is full: only the records of that are missing, and a hold of which nobody was told never was."""
+        self.enterContext(mock.patch.object(shell, "CLOSING", 0.5))
+        keeping = await self.on_disk()
+        await keeping.hold(Wish(("scope",), station="board"), self.owner)
+        self.breaks("full")
+        waits = asyncio.create_task(keeping.hold(Wish(("supply",)), self.owner))
+        await asyncio.sleep(0.05)
+        waits.cancel()
+        await asyncio.wait({waits})
+        await keeping.close()
+        self.assertEqual(keeping.lost, [])
+
+    async def test_an_end_with_room_again(self) -> None:
+        """It is written yet, as the broker waits a while for that."""
+        keeping = await self.on_disk()
+        board = await keeping.hold(Wish(("scope",), station="board"), self.owner)
+        self.breaks("full")
+        await keeping.let_go(board, self.owner)
+        ends = asyncio.create_task(keeping.close())
+        await asyncio.sleep(0.1)
+        self.assertFalse(ends.done())
+        self.breaks("")
+        await ends
+        self.assertEqual((keeping.lost, how(await self.keeping(self.its_folder), "board")["state"]), ([], "idle"))
 
     async def test_a_broker_begins(self) -> None:
         """What was held is held; who asks waits for room."""

@@ -5,7 +5,7 @@ from __future__ import annotations
 import asyncio
 import http.client
 import threading
-from typing import Any, Awaitable, Callable, Optional
+from typing import Any, Awaitable, Callable, Coroutine, Optional
 
 from .brokers import LIMIT
 
@@ -13,7 +13,7 @@ Serve = Callable[[Any, str], Awaitable[Any]]
 
 
 class Web:
-    """Serves for a keeping, on a loop of its own; `do` calls something on that loop."""
+    """Serves for a keeping, on a loop of its own; `do` calls something on that loop, `waits_for` awaits it there."""
 
     def __init__(self, serve: Serve, new_keeping: Callable[[], Any], address: str = "127.0.0.1:0") -> None:
         self._loop = asyncio.new_event_loop()
@@ -35,7 +35,10 @@ class Web:
         async def called() -> Any:
             return call(*given)
 
-        return asyncio.run_coroutine_threadsafe(called(), self._loop).result(LIMIT)
+        return self.waits_for(called())
+
+    def waits_for(self, it: Coroutine[Any, Any, Any]) -> Any:
+        return asyncio.run_coroutine_threadsafe(it, self._loop).result(LIMIT)
 
     def close(self) -> None:
         asyncio.run_coroutine_threadsafe(self._served.cleanup(), self._loop).result(LIMIT)

@@ -83,6 +83,18 @@ WRONG = {
     "a limit of a session over two bays that counts from its first part once the broker began again": Wrong(
         "test_lasting.OverBays.test_a_limit_counts_from_when_it_was_told_over_a_restart", "over.py", (("if one is not part]", "if one]"),)
     ),
+    "a broker of whose tokens only the first lets in": Wrong(
+        "test_service.WhoIsLetIn.test_a_token_is_replaced", "entrance.py", (("map(digest_of, tokens)", "map(digest_of, tokens[:1])"),)
+    ),
+    "a guard whose death looks as if all were said": Wrong(
+        "test_guard.Commands.test_a_guard_that_is_killed", "relay.py", (("    one.dies_by_reset()\n", ""),)
+    ),
+    "a guard whose client is reset though all was said": Wrong(
+        "test_guard_inside.Between.test_a_long_answer_is_whole", "relay.py", (("            self.dies_by_reset(False)\n        self.transport.close()\n", "            pass\n        self.transport.close()\n"),)
+    ),
+    "a hold that passes on as an end what TLS hasn't said": Wrong(
+        "test_guard_inside.WithTls.test_an_end_that_tls_does_not_say", "forward.py", (("and self._is_cut_short():\n", "and False:\n"),)
+    ),
     "a guard that cuts nobody": Wrong(
         "test_guard_inside.Exclusion.test_many_times_over", "guard.py", (("                self.cuts += 1\n                one.cut()\n", "                self.cuts += 1\n                one.over.set()\n"),)
     ),
@@ -217,6 +229,17 @@ WRONG = {
     "a record without its end": Wrong(
         "test_written.Records.test_killed_behind_the_journals_line", "mending.py", (("if it.end and it.number not in over:", "if it.end == \"left\":"),)
     ),
+    "an end recorded before its line is written": Wrong(
+        "test_written.Hanging.test_an_end_that_hangs", "records.py", (("        if is_end or self._held_back:\n", "        if False:\n"),)
+    ),
+    "an end recorded in a folder before etcd has it": Wrong(
+        "test_replica.Deposed.test_nor_writes_an_end_that_isnt_one",
+        "shell.py",
+        (("self._durable if self._aside is None or self._last_fault is not None else self._written)", "self._written)"),),
+    ),
+    "an end recorded that was never written": Wrong(
+        "test_written.FullDisk.test_no_end_is_recorded_that_the_journal_hasnt", "records.py", (("            if not at:\n", "            if True:\n"),)
+    ),
     "an end without its record": Wrong(
         "test_keeping.Sessions.test_one_after_another", "keeping.py", (("        self._record(what, session, text=text, after=self._span(session))\n", ""),)
     ),
@@ -281,6 +304,15 @@ WRONG = {
     "a hold that ends by a signal, and doesn't say that its session may come to hold": Wrong(
         "test_leaving.Leaves.test_another_signal_ends_it", "leaving.py", (("        if not is_told:\n", "        if False:\n"),)
     ),
+    "a hold that waits for a broker that was killed, and tells nobody that it leaves": Wrong(
+        "test_leaving.Leaves.test_one_that_was_killed_and_comes_back", "coming.py", (("            await self._leaves(None)\n", "            pass\n"),)
+    ),
+    "a hold that has told a broker that was killed then, and tells nobody else": Wrong(
+        "test_leaving.Leaves.test_one_that_is_killed_while_it_is_told", "withdrawing.py", (("        return lost.code is NOBODY\n", "        return True\n"),)
+    ),
+    "a hold that goes on to wait for a broker that it has given up": Wrong(
+        "test_quick.Quick.test_a_signal_while_a_broker_that_is_gone_is_told", "work.py", (("                if not isinstance(fault, GivenUp):\n", "                if True:\n"),)
+    ),
     "a wait that asks nobody whether the broker is there": Wrong("test_silence.Programs.test_what_waits_is_called_with", "coming.py", (("            if asks and self._stream", "            if False and self._stream"),)),
     "a hold that misses its broker by the clock": Wrong(
         "test_silence.Counts.test_words_in_time", "silence.py", (("        self._count, self._for = 0, A_WHILE\n", "        self._for = A_WHILE\n"),)
@@ -296,6 +328,18 @@ WRONG = {
     ),
     "one that asks for a client by HTTP that is gone": Wrong(
         "test_labrun_hold.Held.test_it_is_killed_while_the_broker_is_stopped", "http_door.py", (("        check_there(request)\n        visit = await", "        visit = await"),)
+    ),
+    "a note that is given up, and whose answer is taken for that of the let-go": Wrong(
+        "test_cancels.Cancels.test_a_note", "questions.py", (("            if not it.is_sent:\n                asked.cancel()\n", "            asked.cancel()\n"),)
+    ),
+    "a task that is cancelled just as it came to hold, and holds on": Wrong(
+        "test_cancels.Cancels.test_just_as_it_came_to_hold", "work.py", (("            await self._undo()\n", "            pass\n"),)
+    ),
+    "a lab that is closed before who leaves the line has told so": Wrong(
+        "test_cancels.Cancels.test_as_it_asks_and_the_lab_is_closed", "client.py", (("        await self._leaving.end(CLOSING)\n", ""),)
+    ),
+    "a program that ends before what lets go has told so": Wrong(
+        "test_cancels.Cancels.test_as_it_lets_go_and_the_program_ends", "client.py", (("        await self._under_way.end(CLOSING)\n", ""),)
     ),
     "a lab that is closed while its broker is away, and goes on to look for it": Wrong(
         "test_stopped.Killed.test_a_lab_is_closed_meanwhile", "client.py", (("held in its for task in (held._returns, held._beats)", "held in its for task in (held._beats,)"),)
@@ -348,7 +392,8 @@ WRONG = {
         "test_making_safe.AfterASession.test_each_way_to_end", "keeping.py", ((" or session.is_followed else wishes.milliseconds", " else wishes.milliseconds"),)
     ),
     "one that releases what only one of its words keeps": Wrong("test_kept.Words.test_whose_word_counts", "kept.py", (("return own == KEEP or any(", "return all("),)),
-    "one that forgets which words it told": Wrong("test_kept.Sessions.test_over_a_restart", "opening.py", (("None if any(self._was_kept(it, before) for it in holds) else before.grace", "before.grace"),)),
+    "one that forgets which words it told": Wrong("test_kept.Sessions.test_over_a_restart", "opening.py", (("                self.kept.add(it.number)\n", "                pass\n"),)),
+    "one that forgets whom it told by which words": Wrong("test_kept.Sessions.test_a_change_and_then_a_restart", "places.py", (("(*(it.below(now) for it in its), ", "(*its, "),)),
     "one that waits is told once": Wrong("test_service.Clients.test_for_whom_one_waits", "service.py", ((" or now > said_at + AGAIN", ""),)),
     "one that waits isn't told that the client is gone": Wrong("test_service.Clients.test_whose_client_is_gone", "standing.py", ((", why.count(GONE),", ","),)),
     "one that waits isn't told that the disk doesn't keep it any more": Wrong(
@@ -361,7 +406,7 @@ WRONG = {
         "test_service.Clients.test_the_next_session_of_the_same_station", "standing.py", (("tuple(it.number for it, _, _ in self.holders if it.kind == session.kind) if session.kind else ", ""),)
     ),
     "one that gives a folder away while it writes there": Wrong(
-        "test_turning.Ends.test_nothing_is_written_once_it_has_ended", "keeping.py", (("(state.lets_wait or await self._shell.has_ended())", "True"),)
+        "test_turning.Ends.test_nothing_is_written_once_it_has_ended", "closing.py", (("if state.lets_wait or await its.has_ended():", "if True:"),)
     ),
     "one that gives a folder away while the disk hangs": Wrong(
         "test_turning.Ends.test_a_disk_that_hangs", "shell.py", (("self._last is not None and not (await asyncio.wait({self._last}, timeout=CLOSING))[1]", "True"),)
@@ -372,8 +417,21 @@ WRONG = {
     "one that forgets who took something out": Wrong("test_applying.TakenOut.test_by_whom_and_when", "places.py", (("**out, **gone, **former}", "**out, **gone}"),)),
     "one that writes a note again": Wrong("test_noted.OfProtocol.test_on_another_connection", "ending.py", (("if number == 0 or number != session.noted[0]:", "if True:"),)),
     "one that takes any note for the one before": Wrong("test_noted.OfProtocol.test_on_another_connection", "ending.py", (("number != session.noted[0]:", "session.noted[0] == 0:"),)),
+    "a hold that says twice why its session is lost": Wrong(
+        "test_commands.WithBroker.test_what_is_lost_is_lost_alike", "run.py", (("if status == TAKEN and not held.held:", "if False:"),)
+    ),
     "a hold that isn't let in, and is told that it may hold": Wrong("test_quick.Quick.test_what_is_refused", "quick.py", (("                self.has_asked = False\n", "                pass\n"),)),
     "one that tells who waits by HTTP of a change only later": Wrong("test_http.Unchanged.test_it_is_answered_when_that_is_another", "visits.py", (("if self.for_whom() != self._told_of:", "if False:"),)),
+    "a let-go that ends otherwise when it is asked for again": Wrong(
+        "test_full.Again.test_who_lets_go_and_asks_again", "visits.py", (("if self._letting_go is None or self._letting_go.done():", "if True:"),)
+    ),
+    "one that says that it let go, and hasn't written it": Wrong("test_full.Again.test_who_lets_go_and_asks_again", "keeping.py", (('if why.kind == "LetGo":', "if False:"),)),
+    "one that waits twice as long as it says": Wrong(
+        "test_full.Again.test_who_notes_releases_and_asks", "settling.py", (("        except labrun.JournalError:\n", "        except ZeroDivisionError:\n"),)
+    ),
+    "a file that led though its bay didn't open": Wrong(
+        "test_replica.Next.test_a_file_by_which_the_bay_did_not_open", "leading.py", (("delete(self._own)]", "put(self._bay, self._mark.encode()), delete(self._own)]"),)
+    ),
     "one that guesses another number": Wrong("test_applying.TakenOut.test_no_other_number_is_meant", "wishes.py", (("if not number or _digits_of", "if True or _digits_of"),)),
 }
 

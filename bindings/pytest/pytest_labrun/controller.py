@@ -82,7 +82,8 @@ class Controller:
         self.server.stop()
         cache = getattr(self.config, "cache", None)
         if cache is not None and self.past.times.known:
-            cache.set(_TIMES, self.past.times.known)
+            with seen.writes(self.past, f"{_TIMES} in pytest's cache"):
+                cache.set(_TIMES, self.past.times.known)
         seen.write(self.config, self.past)
 
     def pytest_terminal_summary(self, terminalreporter: Any) -> None:

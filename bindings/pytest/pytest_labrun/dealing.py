@@ -212,7 +212,7 @@ class LabScheduling(LoadScheduling):  # type: ignore[misc]
             return
         unit = self._undealt.take(ways) if way else UnitTold(tuple(self._undealt.take_plain(len(self.nodes))), PLAIN)
         if way:
-            self.server.dealt[self.collection[unit.tests[0]]] = Dealt(since, way)
+            self.server.dealt[node.gateway.id] = Dealt(since, way)
         try:
             node.send_runtest_some([*unit.tests, len(self.collection)])
         except OSError:  # it is down, and xdist doesn't know yet

@@ -2,14 +2,21 @@
 
 from __future__ import annotations
 
+import importlib
+import itertools
 import json
 import os
 import socket
+import threading
 from typing import Any, Optional, Protocol, Sequence
 
 from .past import ALONE, Held, Past
 
 Way = tuple[str, ...]
+
+# why a note is kept nowhere
+NOTHING, A_FORK = "no instrument is held", "this is the child of a fork: instruments are held by its parent"
+GONE = "the run's controller is gone"
 
 
 class NotHeld(Exception):
@@ -26,7 +33,8 @@ class Desk(Protocol):
     def let_go(self) -> Optional[str]:
         """What went wrong, if something did: the instruments were taken away meanwhile."""
 
-    def note(self, text: str) -> None: ...
+    def note(self, text: str) -> Optional[str]:
+        """Why it is kept nowhere, if so. It raises what the lab says that doesn't take it."""
 
 
 class AloneDesk:
@@ -35,6 +43,7 @@ class AloneDesk:
     def __init__(self, past: Past) -> None:
         self.past = past
         self._held: Optional[Held] = None
+        self._process = os.getpid()
 
     def collected(self, units: Sequence[tuple[Sequence[int], Sequence[Way]]]) -> None:
         pass
@@ -47,11 +56,16 @@ class AloneDesk:
     def let_go(self) -> Optional[str]:
         if self._held is not None:
             self._held.let_go, self._held.end = self.past.now(), "done"
+            self._held = None
         return None
 
-    def note(self, text: str) -> None:
-        if self._held is not None:
-            self._held.notes.append(text)
+    def note(self, text: str) -> Optional[str]:
+        if os.getpid() != self._process:
+            return A_FORK
+        if self._held is None:
+            return NOTHING
+        self._held.notes.append(text)
+        return None
 
 
 class SocketDesk:
@@ -62,30 +76,39 @@ class SocketDesk:
         self._process = os.getpid()
         self._socket = socket.socket(socket.AF_UNIX, socket.SOCK_STREAM)
         self._socket.connect(path)
-        self._lines = self._socket.makefile("rb")
+        self._read = b""
+        # who asks: threads of a test may note something, too
+        self._asks = threading.Lock()
+        self._numbers, self._holds = itertools.count(1), False
         os.register_at_fork(after_in_child=self._close)
         self._ask(do="hello", name=name)
 
     def _close(self) -> None:
-        self._lines.close()
         self._socket.close()
 
-    def _tell(self, **words: Any) -> None:
-        if os.getpid() == self._process:
-            self._socket.sendall(json.dumps(words).encode() + b"\n")
+    def _line(self) -> bytes:
+        while b"\n" not in self._read:
+            if not (some := self._socket.recv(1 << 16)):
+                raise ConnectionError
+            self._read += some
+        line, _, self._read = self._read.partition(b"\n")
+        return line
 
     def _ask(self, **words: Any) -> dict[str, Any]:
         if os.getpid() != self._process:
-            raise NotHeld("this is the child of a fork: instruments are held by its parent")
-        try:
-            self._tell(**words)
-            line = self._lines.readline()
-        except (OSError, ValueError):
-            line = b""
-        if not line:
-            raise NotHeld("the run's controller is gone")
-        told: dict[str, Any] = json.loads(line)
-        return told
+            raise NotHeld(A_FORK)
+        if self._socket.fileno() < 0:
+            raise NotHeld(GONE)
+        with self._asks:
+            try:
+                self._socket.sendall(json.dumps(words).encode() + b"\n")
+                while True:
+                    told: dict[str, Any] = json.loads(self._line())
+                    # (whoever wrote a note may have been interrupted, by a time limit of its test: that answer comes now)
+                    if told.get("note") == words.get("note"):
+                        return told
+            except ConnectionError:
+                raise NotHeld(GONE) from None
 
     def collected(self, units: Sequence[tuple[Sequence[int], Sequence[Way]]]) -> None:
         self._ask(do="collected", units=units)
@@ -99,13 +122,25 @@ class SocketDesk:
             raise
         if "held" not in told:
             raise NotHeld(told.get("late") or told.get("fault"))
+        self._holds = True
         return tuple(told["held"]), told["waited"]
 
     def let_go(self) -> Optional[str]:
+        self._holds = False
         try:
             return self._ask(do="let_go").get("fault")
         except NotHeld as gone:
             return str(gone)
 
-    def note(self, text: str) -> None:
-        self._tell(do="note", text=text)
+    def note(self, text: str) -> Optional[str]:
+        __tracebackhide__ = True
+        if not self._holds:
+            return NOTHING
+        try:
+            told = self._ask(do="note", note=next(self._numbers), text=text)
+        except NotHeld as why:
+            return str(why)
+        if "fault" in told:
+            errors = importlib.import_module("labrun_broker.errors")
+            raise getattr(errors, told["kind"], errors.BrokerError)(told["fault"])
+        return told.get("why")

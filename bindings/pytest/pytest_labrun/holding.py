@@ -2,12 +2,13 @@
 
 from __future__ import annotations
 
+import warnings
 from typing import Any, Optional, Sequence
 
 import pytest
 
 from .desk import Desk, NotHeld
-from .needs import Bay, Need, Unit, chosen_for, held_by, units_of
+from .needs import Bay, Need, Unit, chosen_for, held_by, units_of, uses
 
 
 class Instruments:
@@ -17,9 +18,13 @@ class Instruments:
     def __init__(self, desk: Desk, names: tuple[str, ...], waited: float) -> None:
         self.names, self.waited, self._desk = names, waited, desk
 
-    def note(self, text: str) -> None:
-        """A line for the report, at this test's session."""
-        self._desk.note(str(text))
+    def note(self, text: object) -> None:
+        """A line for the report, at this test's session, and for the records of a broker. It raises what that says if it doesn't take it, as
+        labrun_broker.BadWish of one that is too long."""
+        __tracebackhide__ = True
+        why = self._desk.note(str(text))
+        if why is not None:
+            warnings.warn(pytest.PytestWarning(f"this note is in no report, because {why}: {str(text)!r}"), stacklevel=2)
 
     def __iter__(self) -> Any:
         return iter(self.names)
@@ -71,18 +76,18 @@ class Holding:
 
     def begins(self, item: pytest.Item) -> None:
         """Waits until the test's unit holds. If it can't, the test's set-up says why."""
-        unit, self.fault, self.waited = self._units[item][0], None, 0.0
+        (unit, need), self.fault, self.waited = self._units[item], None, 0.0
         if self._unit is not unit:
             self.lets_go(item)
         if unit.fault is not None:
             self.fault = unit.fault
-        elif any(unit.needs) and self._unit is None:
+        elif need and self._unit is None:
             try:
                 self.way, self.waited = self.desk.hold(item.nodeid, unit.ways, self.timeout)
                 self._unit = unit
             except NotHeld as why:
                 self.fault = str(why)
-        if any(unit.needs):
+        if need:
             item.user_properties.append(("lab_waited", round(self.waited, 3)))
 
     def ends(self, item: pytest.Item, nextitem: Optional[pytest.Item]) -> None:
@@ -117,8 +122,9 @@ class Holding:
         wish = held_by(fixture)
         if wish is None:
             return
-        if not set(wish.names) <= set(self.way):
-            told = f"the fixture {fixture.argname} holds {', '.join(wish.names)}: a test that uses it has to name it as an argument, or by usefixtures"
+        has_choice = bool(wish.picks or wish.any_of)
+        if not set(wish.names) <= set(self.way) or has_choice and not uses(request._pyfuncitem, fixture):
+            told = f"the fixture {fixture.argname} holds {wish}: a test that uses it has to name it as an argument, or by usefixtures"
             pytest.fail(f"{wish.where(None)}: {told}", pytrace=False)
         if fixture.scope != "function":
             self._wide[fixture] = request

@@ -15,6 +15,8 @@ import labrun
 from labrun.machine import MOST_INSTRUMENTS
 
 _LAG = 0.5  # seconds, by which what the broker tells may be late
+_AGAIN = 0.5  # seconds, after which a broker that is gone is looked for
+_NOTE = 500  # characters that it takes, if the bay says nothing else
 
 Way = tuple[str, ...]
 Taken = Callable[[Exception], None]
@@ -108,7 +110,6 @@ class BrokerLab:
         # the broker's stations by which this run holds, each with until when what is told of it is of this run
         self._own: dict[str, float] = {}
         self._holders: dict[str, str] = {}
-        self._is_closed = False
         threading.Thread(target=self._watch, name="labrun-watch", daemon=True).start()
 
     def open(self, instruments: Sequence[str]) -> None:
@@ -122,7 +123,7 @@ class BrokerLab:
         async with session:
             self._own[session.station] = math.inf
             try:
-                await session.note_async(test)
+                await self._names(session, test)
                 yield session
             finally:
                 self._own[session.station] = time.monotonic() + _LAG
@@ -133,22 +134,34 @@ class BrokerLab:
     def who(self, text: str) -> str:
         return text
 
+    @staticmethod
+    async def _names(session: Any, test: str) -> None:
+        """A note of whose session it is. Of a name that is too long for a note its beginning and its end, which says which worker it is."""
+        most = _NOTE
+        while most > 4:
+            try:
+                await session.note_async(test if len(test) <= most else f"{test[: most // 2 - 1]}..{test[1 - (most - most // 2) :]}")
+                return
+            except ValueError:  # (the bay takes shorter ones, or none like this)
+                most //= 2
+
     def in_use(self) -> dict[str, str]:
         now = time.monotonic()
         return {name: station for name, station in self._holders.items() if self._own.get(station, 0.0) < now}
 
     def close(self) -> None:
-        self._is_closed = True
         with contextlib.suppress(labrun.LabrunError, OSError):
             self.client.close()
 
     def _watch(self) -> None:
-        """Looks who holds what, as long as the broker tells it."""
-        try:
-            for bay in self.client.watch():
-                self._holders = {it["name"]: it["holder"] for it in bay["instruments"] if it["holder"] is not None}
-                if self._is_closed:
-                    break
-        except Exception:  # the broker is gone, which each session notices by itself
-            pass
-        self._holders = {}
+        """Looks who holds what, until this is closed."""
+        while True:
+            try:
+                for bay in self.client.watch():
+                    self._holders = {it["name"]: it["holder"] for it in bay["instruments"] if it["holder"] is not None}
+            except labrun.Closed:
+                return
+            except Exception:  # the broker is gone, and may come back; each session notices that by itself
+                pass
+            self._holders = {}
+            time.sleep(_AGAIN)

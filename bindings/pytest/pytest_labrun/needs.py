@@ -42,6 +42,9 @@ class Wish:
     any_of: tuple[str, ...]
     where: Where = field(compare=False)
 
+    def __str__(self) -> str:
+        return ", ".join([*self.names, *self.picks, *([f"one of {', '.join(self.any_of)}"] if self.any_of else [])])
+
     def check(self, bay: Optional[Bay]) -> None:
         """Fault says what the bay lacks. Without a bay only the names are looked at."""
         for name in self.names:
@@ -82,21 +85,21 @@ def _unknown(name: str, bay: Iterable[str]) -> str:
     return f"unknown instrument {name!r}: there are {some(tuple(bay)) or 'none'}" + (f" (did you mean {near[0]!r}?)" if near else "")
 
 
-def read_wish(args: tuple[Any, ...], kwargs: Mapping[str, Any], where: Where) -> Wish:
-    """The wish that a marker's arguments are."""
+def read_wish(args: tuple[Any, ...], kwargs: Mapping[str, Any], where: Where, what: str = MARK) -> Wish:
+    """The wish that the arguments of a marker are, or of `holds`."""
     more = [it for it in kwargs if it != "any_of"]
     if more:
-        raise Fault(f"{where(None)}: instruments() takes names and any_of=, not {more[0]}=")
+        raise Fault(f"{where(None)}: {what}() takes names and any_of=, not {more[0]}=")
     any_of = kwargs.get("any_of", ())
     any_of = tuple(any_of) if isinstance(any_of, (list, tuple)) else (any_of,)
     wrong = [it for it in (*args, *any_of) if not isinstance(it, str)]
     if wrong:
         raise Fault(f"{where(None)}: an instrument is named by a text, not by {wrong[0]!r}")
     if not args and not any_of:
-        raise Fault(f'{where(None)}: instruments() names none: write instruments("scope") or instruments(any_of="load-*")')
+        raise Fault(f'{where(None)}: {what}() names none: write {what}("scope") or {what}(any_of="load-*")')
     counts = [it for it in any_of if counted(it)[1] != it]
     if counts:
-        raise Fault(f"{where(counts[0])}: any_of is one of several: write instruments({counts[0]!r})")
+        raise Fault(f"{where(counts[0])}: any_of is one of several: write {what}({counts[0]!r})")
     return Wish(tuple(filter(is_plain, args)), tuple(it for it in args if not is_plain(it)), any_of, where)
 
 
@@ -124,7 +127,7 @@ def held_by(fixture: Any) -> Optional[Wish]:
         return None
     code = getattr(function, "__code__", None)
     place = f"{os.path.relpath(code.co_filename)}:{code.co_firstlineno}" if code else "?"
-    return read_wish(given[0], given[1], lambda word: place)
+    return read_wish(given[0], given[1], lambda word: place, holds.__name__)
 
 
 # ---- places
@@ -162,15 +165,29 @@ def wishes_of(item: pytest.Item) -> list[Wish]:
 
 
 def _fixtures(item: pytest.Item) -> list[tuple[Any, Wish]]:
-    """The fixtures that it uses and that hold something."""
+    """The fixtures that it uses and that hold something; of one that takes the fixture of its own name from further out that, too."""
     info: Any = getattr(item, "_fixtureinfo", None)
     found = []
     for name in info.names_closure if info else ():
-        fixture = (info.name2fixturedefs.get(name) or [None])[-1]
-        wish = held_by(fixture) if fixture is not None else None
-        if wish is not None:
-            found.append((fixture, wish))
+        fixtures = list(info.name2fixturedefs.get(name) or ())
+        while fixtures:
+            fixture = fixtures.pop()
+            if (wish := held_by(fixture)) is not None:
+                found.append((fixture, wish))
+            if name not in fixture.argnames:
+                break
     return found
+
+
+def uses(item: pytest.Item, fixture: Any) -> bool:
+    """Whether it was known before the test that it uses this one, which holds something."""
+    return any(it is fixture for it, _ in _fixtures(item))
+
+
+def is_skipped(item: pytest.Item) -> bool:
+    """Whether its markers say by now that it isn't run. (A condition that is a text is looked at as it is set up.)"""
+    by = [mark.args or (mark.kwargs.get("condition"),) for mark in item.iter_markers("skipif")]
+    return any(True for _ in item.iter_markers("skip")) or any(condition is True for conditions in by for condition in conditions)
 
 
 _LEVELS: dict[str, Any] = {"class": pytest.Class, "module": pytest.Module, "package": pytest.Package, "session": pytest.Session}
@@ -222,7 +239,8 @@ def need_of(wishes: Iterable[Wish], bay: Bay) -> Need:
     choices = tuple(choice for wish in wishes for choice in wish.choices(bay))
     need = Need(names, choices)
     if wishes and not need.ways():
-        raise Fault(f"{wishes[0].where(None)}: no instrument is left for any_of: there are {some(tuple(bay))}")
+        what = "any_of" if any(wish.any_of for wish in wishes) else [word for wish in wishes for word in wish.picks][-1]
+        raise Fault(f"{wishes[0].where(None)}: no instrument is left for {what}: there are {some(tuple(bay))}")
     return need
 
 
@@ -270,7 +288,7 @@ def units_of(items: Sequence[pytest.Item], bay: Bay) -> list[Unit]:
     for tests in _together(items):
         unit = Unit(tests)
         try:
-            unit.needs = [need_of(wishes_of(items[test]), bay) for test in tests]
+            unit.needs = [Need() if is_skipped(items[test]) else need_of(wishes_of(items[test]), bay) for test in tests]
         except (Fault, ValueError) as fault:
             unit.fault, unit.needs = str(fault), [Need() for _ in tests]
         found.append(unit)

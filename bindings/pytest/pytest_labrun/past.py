@@ -19,7 +19,7 @@ def told(test: str, worker: str) -> str:
 class Held:
     """One session, of one test or of several that hold as one. Times are seconds since the run began; `held` and `let_go` are None if it
     never came to that. `kept` says which of its instruments kept it waiting, each with who had it, the last of several; `end` is `done`,
-    `late` (it never held), `gone` (its worker crashed) or `taken` (it was taken away)."""
+    `late` (it never held), `gone` (its worker crashed or was interrupted) or `taken` (it was taken away)."""
 
     test: str
     worker: str
@@ -64,6 +64,8 @@ class Past:
         self._begun = time.monotonic()
         self.sessions: list[Held] = []
         self.times = Times(known)
+        # which files couldn't be written at the end, a line for each
+        self.unwritten: list[str] = []
 
     def now(self) -> float:
         return time.monotonic() - self._begun

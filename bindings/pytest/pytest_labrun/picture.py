@@ -2,8 +2,9 @@
 
 from __future__ import annotations
 
+import html
 import math
-from html import escape
+import re
 from typing import Sequence
 
 from .past import Held, told
@@ -20,6 +21,14 @@ text { fill: #222222 }
 .kept { fill: #cc3311 }
 .small { font-size: 10px }
 """
+
+
+# what XML can't have, not even by its number
+_NO_XML = re.compile("[^\t\n\r\x20-\ud7ff\ue000-\ufffd\U00010000-\U0010ffff]")
+
+
+def escape(text: str) -> str:
+    return html.escape(_NO_XML.sub(lambda it: it[0].encode("unicode_escape").decode(), text))
 
 
 def gantt(sessions: Sequence[Held]) -> str:
@@ -109,7 +118,7 @@ class _Picture:
         return [f'<text class="small" x="{self._x(it.held) + 3:.1f}" y="{top + 16}" pointer-events="none">{escape(shown)}</text>']
 
     def _told(self, it: Held) -> str:
-        ends = {"done": "", "late": ", and gave up", "gone": ", and its worker crashed", "taken": ", and it was taken away"}
+        ends = {"done": "", "late": ", and gave up", "gone": ", and its worker crashed or was interrupted", "taken": ", and it was taken away"}
         lines = [f"{told(it.test, it.worker)}: {' '.join(it.instruments)}", f"waited {it.waited:.2f} s, held {it.took:.2f} s{ends.get(it.end, '')}"]
         lines += [f"for {name}, at which was {by}" for name, by in it.kept.items()]
         return "\n".join([*lines, *it.notes])

@@ -18,7 +18,7 @@ from .past import Past
 # the plugin that holds, by its name
 HOLDING = "labrun-holding"
 
-MARKER = "instruments(*names, any_of=None): the test holds these instruments while it runs, and one of any_of (names or patterns)"
+MARKER = "instruments(*names, any_of=()): the test holds these instruments while it runs, and one of any_of (names or patterns)"
 
 
 def pytest_addoption(parser: pytest.Parser) -> None:
@@ -170,6 +170,9 @@ class Single(Runner):
     @pytest.hookimpl(trylast=True)
     def pytest_sessionfinish(self) -> None:
         seen.write(self.config, self.past)
+
+    def pytest_terminal_summary(self, terminalreporter: Any) -> None:
+        seen.tell_unwritten(terminalreporter, self.past)
 
 
 # ---- fixtures

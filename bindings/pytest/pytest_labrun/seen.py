@@ -2,9 +2,10 @@
 
 from __future__ import annotations
 
+import contextlib
 import csv
 from collections import Counter
-from typing import Any, Sequence
+from typing import Any, Iterator, Sequence
 
 import pytest
 
@@ -16,6 +17,7 @@ _LEAST = 0.01  # seconds; a shorter wait is none
 
 def tell(terminal: Any, past: Past) -> None:
     """The table, and behind `--durations` the longest waits."""
+    tell_unwritten(terminal, past)
     sessions = [it for it in past.sessions if it.instruments or it.waited]
     if not sessions:
         if terminal.config.getoption("lab_report"):
@@ -28,6 +30,11 @@ def tell(terminal: Any, past: Past) -> None:
     if most is not None:
         for held in sorted(_waiters(sessions), key=lambda it: -it.waited)[: most or None]:
             terminal.write_line(f"{held.waited:.2f}s wait     {held.test}")
+
+
+def tell_unwritten(terminal: Any, past: Past) -> None:
+    for line in past.unwritten:
+        terminal.write_line(line)
 
 
 def _waiters(sessions: Sequence[Held]) -> list[Held]:
@@ -65,17 +72,27 @@ def _in_all(sessions: Sequence[Held]) -> str:
     longest = max(waiters, key=lambda it: it.waited)
     # (of a choice that it never got it isn't known)
     whom = ", ".join(f"{name} ({by})" for name, by in longest.kept.items()) or ", ".join(longest.instruments) or "one of several"
-    return f"waited {total:.1f} s in all, {len(waiters)} of {_sessions(sessions)}; the longest {longest.waited:.1f} s: {longest.test}, for {whom}"
+    return f"waited {total:.1f} s in all, in {len(waiters)} of {_sessions(sessions)}; the longest {longest.waited:.1f} s: {longest.test}, for {whom}"
+
+
+@contextlib.contextmanager
+def writes(past: Past, what: str) -> Iterator[None]:
+    """Around the writing of a file: whatever becomes of that, the run goes on to its end, which says what is wrong."""
+    try:
+        yield
+    except (OSError, ValueError) as fault:
+        past.unwritten.append(f"{what} can't be written: {getattr(fault, 'strerror', None) or fault}")
 
 
 def write(config: pytest.Config, past: Past) -> None:
-    """The files that were asked for."""
+    """The files that were asked for. What can't be written in one, as half of a character, is written by its number."""
     folder = config.invocation_params.dir
     picture, report = config.getoption("lab_gantt"), config.getoption("lab_report")
     if picture:
-        (folder / picture).write_text(gantt(past.sessions), encoding="utf-8")
+        with writes(past, f"--lab-gantt {picture}"):
+            (folder / picture).write_text(gantt(past.sessions), encoding="utf-8", errors="backslashreplace")
     if report:
-        with open(folder / report, "w", encoding="utf-8", newline="") as file:
+        with writes(past, f"--lab-report {report}"), open(folder / report, "w", encoding="utf-8", errors="backslashreplace", newline="") as file:
             csv.writer(file).writerows(rows(past.sessions))
 
 
@@ -84,7 +101,7 @@ FIELDS = ("test", "worker", "instruments", "asked", "waited", "held", "end", "ke
 
 def rows(sessions: Sequence[Held]) -> list[Sequence[object]]:
     found: list[Sequence[object]] = [FIELDS]
-    for it in sessions:
+    for it in sorted(sessions, key=lambda it: it.asked):
         kept = "; ".join(f"{name}: {by}" for name, by in it.kept.items())
         times = [f"{seconds:.3f}" for seconds in (it.asked, it.waited, it.took)]
         found.append([it.test, it.worker, " ".join(it.instruments), *times, it.end, kept, "; ".join(it.notes)])

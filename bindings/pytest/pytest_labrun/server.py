@@ -15,6 +15,7 @@ import threading
 from dataclasses import dataclass
 from typing import Any, Callable, Optional, Sequence
 
+from .desk import NOTHING
 from .labs import Lab, LabFault, Way
 from .past import Held, Past, told
 
@@ -31,7 +32,7 @@ class UnitTold:
 
 @dataclass
 class Dealt:
-    """What the scheduler knows of a test that it sends to a worker: since when the worker stood idle, and the way that is free now."""
+    """What the scheduler knows of tests that it sends to a worker: since when the worker stood idle, and the way that is free now."""
 
     since: Optional[float] = None
     way: Optional[Way] = None
@@ -44,6 +45,7 @@ class Server:
         self.past = past
         self.units: Optional[tuple[UnitTold, ...]] = None
         self.fault: Optional[str] = None
+        # to each worker, until it asks for that
         self.dealt: dict[str, Dealt] = {}
         self.ticks: list[Callable[[], None]] = []
         self._make_lab = make_lab
@@ -200,17 +202,20 @@ class _Worker:
     async def on_let_go(self) -> None:
         self.lets_go.set()
 
-    async def on_note(self, text: str) -> None:
+    async def on_note(self, note: int, text: str) -> None:
+        """`note` is its number, which its answer has, too."""
         held, session = self.held, self.at
         if held is None or session is None:
-            return
+            return self.tell(note=note, why=NOTHING)
         try:
             await self.server.lab.note(session, text)
+            held.notes.append(text)
         except Exception as fault:
-            # (a broker that can't write it down says so at the session's end)
-            if not session.held:
-                return self.is_taken(held, fault)
-        held.notes.append(text)
+            if session.held:
+                return self.tell(note=note, kind=type(fault).__name__, fault=str(fault))
+            # (that is said at the session's end)
+            self.is_taken(held, fault)
+        self.tell(note=note)
 
     def is_taken(self, held: Held, fault: Exception) -> None:
         """The session is over before its end. Any thread may tell."""
@@ -222,7 +227,7 @@ class _Worker:
     async def holds(self, test: str, ways: tuple[Way, ...], timeout: Optional[float]) -> None:
         """One session, from its asking until it lets go, or until this task is cancelled because its worker is gone."""
         server, past = self.server, self.server.past
-        dealt = server.dealt.pop(test, Dealt())
+        dealt = server.dealt.pop(self.name, Dealt())
         if dealt.way in ways:
             ways = (dealt.way, *(way for way in ways if way != dealt.way))
         held = self.held = past.asks(test, self.name, ways[0] if len(ways) == 1 else ())
@@ -239,7 +244,7 @@ class _Worker:
             keepers = "; ".join(str(keeper) for keeper in getattr(late, "keepers", ()))
             if not keepers:
                 keepers = f"its time limit of {timeout:g} s was over: {str(late).partition(': ')[2] or late}" if left == 0 else str(late)
-            names = " or ".join(", ".join(way) for way in ways[:4])
+            names = " or ".join([*(", ".join(way) for way in ways[:4]), *([f"{len(ways) - 4} more"] if len(ways) > 4 else [])])
             self.tell(late=server.lab.who(f"waited {past.now() - held.asked:.1f} s for {names}: {keepers}"))
         except asyncio.CancelledError:
             held.end = "gone"

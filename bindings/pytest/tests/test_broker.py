@@ -3,17 +3,27 @@
 from __future__ import annotations
 
 import contextlib
+import json
 import os
 import socket
 import subprocess
 import sys
+import threading
 import time
 from pathlib import Path
-from typing import Iterator
+from types import SimpleNamespace
+from typing import Any, Iterator
 
+import labrun
 import pytest
 
+from pytest_labrun.desk import SocketDesk
+from pytest_labrun.labs import BrokerLab, OwnLab
+from pytest_labrun.past import Past
+from pytest_labrun.server import Server
+
 from .conftest import BINDINGS, NAMES, Run
+from .test_parts import sleeps_until
 from .test_workers import SHARED, read
 
 pytest.importorskip("xdist")
@@ -156,6 +166,111 @@ def test_taken_away(
         assert 0 <= float(row["held"]) < took - sleeps / 2
 
 
+NOTES = """
+    import labrun_broker, pytest
+    pytestmark = pytest.mark.instruments("scope")
+
+    @pytest.mark.parametrize("note", ["M" * 500, 3.3, None, "", "two\\nlines"], ids=["500", "number", "none", "empty", "lines"])
+    def test_it(instruments, note):
+        instruments.note(note)
+
+    def test_long(instruments):
+        instruments.note("L" * 501)
+
+    def test_half(instruments):
+        instruments.note("caf\\udce9")
+
+    def test_again(instruments):
+        with pytest.raises(labrun_broker.BadWish, match="^a note of 501 characters; 500 are the most$"):
+            instruments.note("L" * 501)
+        instruments.note("a short one")
+"""
+
+
+@pytest.mark.parametrize("words", [(), ("-n", "2")], ids=["alone", "workers"])
+def test_a_note_that_the_broker_refuses(pytester: pytest.Pytester, run: Run, broker: str, tmp_path: Path, words: tuple[str, ...]) -> None:
+    """The test that wrote it is told why. Each other note is in the broker's records and in the report."""
+    (tmp_path / "bay.toml").write_text('instruments = ["scope"]\n[guests]\ncount = 3\n')
+    at = f"unix:{tmp_path}/bay.sock"
+    pytester.makepyfile(NOTES)
+    with serves(tmp_path, "--state", "state", "--listen", at):
+        done = run(*words, "--lab-broker", at, "--lab-report", "it.csv")
+    done.assert_outcomes(passed=6, failed=2)
+    told = [line for line in done.outlines if line.startswith("E  ")]
+    refused = ["a note of 501 characters; 500 are the most", "'caf\\udce9' has half of a character, which can't be sent"]
+    assert sorted(told) == sorted(f"E       labrun_broker.errors.BadWish: {why}" for why in refused)
+    # (the line of the test is shown, and none of the plugin's)
+    done.stdout.fnmatch_lines(['>       instruments.note("L" * 501)'])
+    done.stdout.no_fnmatch_line("*pytest_labrun*: *")
+    noted = ["", "", "", "3.3", "M" * 500, "None", "a short one", "two\nlines"]
+    assert sorted(row["notes"] for row in read(pytester.path / "it.csv")) == noted
+    with open(tmp_path / "state" / "records.jsonl", encoding="utf-8") as file:
+        records = [json.loads(line) for line in file]
+    notes = [it.get("text") or "" for it in records if it.get("what") == "note"]
+    assert sorted(it for it in notes if "::test_" not in it) == sorted(["", "3.3", "M" * 500, "None", "a short one", "two\nlines"])
+
+
+def test_what_a_note_raises(monkeypatch: pytest.MonkeyPatch) -> None:
+    """What the broker says, as its own client would raise it; the session holds on, and its other notes are kept."""
+    monkeypatch.syspath_prepend(BROKER)
+    import labrun_broker
+
+    class Full(OwnLab):
+        async def note(self, session: Any, text: str) -> None:
+            if text == "the disk is full":
+                raise labrun_broker.JournalError(text)
+            if text == "it is gone":
+                raise labrun_broker.Unreachable(text)
+
+    server = Server(Full, Past())
+    server.start()
+    try:
+        desk = SocketDesk(server.path, "gw0")
+        desk.collected([((0,), (("scope",),))])
+        desk.hold("test_it", [("scope",)], None)
+        assert desk.note("one") is None
+        with pytest.raises(labrun_broker.JournalError, match="^the disk is full$"):
+            desk.note("the disk is full")
+        with pytest.raises(labrun_broker.Unreachable, match="^it is gone$"):
+            desk.note("it is gone")
+        assert desk.note("two") is None and desk.let_go() is None
+    finally:
+        server.stop()
+    [held] = server.past.sessions
+    assert (held.notes, held.end) == (["one", "two"], "done")
+
+
+def test_a_broker_that_begins_again(monkeypatch: pytest.MonkeyPatch) -> None:
+    """Who is at the instruments is seen again, until the lab is closed."""
+    closed, watches = threading.Event(), iter(["guest-1", "guest-2"])
+
+    class Client:
+        by = "ann"
+
+        def status(self) -> Any:
+            return {"instruments": [{"name": "scope", "tags": []}]}
+
+        def watch(self) -> Iterator[Any]:
+            holder = next(watches)
+            yield {"instruments": [{"name": "scope", "holder": holder}]}
+            if holder == "guest-1":
+                raise ConnectionError
+            closed.wait(60)
+            raise labrun.Closed("the lab is closed")
+
+        def close(self) -> None:
+            closed.set()
+
+    def is_watched() -> bool:
+        return any(it.name == "labrun-watch" for it in threading.enumerate())
+
+    monkeypatch.setitem(sys.modules, "labrun_broker", SimpleNamespace(connect=lambda address: Client()))
+    lab = BrokerLab("unix:none")
+    sleeps_until(lambda: lab.in_use() == {"scope": "guest-2"})
+    lab.close()
+    sleeps_until(lambda: not is_watched())
+
+
 def test_unknown_instruments_and_no_broker(pytester: pytest.Pytester, run: Run, broker: str, tmp_path: Path) -> None:
     pytester.makepyfile("import pytest\n@pytest.mark.instruments('oven')\ndef test_it(): pass\n")
     run("--lab-broker", broker).stdout.fnmatch_lines([f"*:2: unknown instrument 'oven': there are {', '.join(NAMES)}"])
@@ -220,3 +335,29 @@ def test_which_test_it_is(pytester: pytest.Pytester, run: Run, broker: str, monk
         """
     )
     run("--lab-broker", broker, *words).assert_outcomes(passed=1)
+
+
+def test_a_long_name(pytester: pytest.Pytester, run: Run, broker: str, monkeypatch: pytest.MonkeyPatch, tmp_path: Path) -> None:
+    """Others see its beginning and its end, as far as the bay takes it; and the test holds all the same."""
+    pytester.makepyfile(
+        """
+        import os
+        import labrun_broker, pytest
+
+        @pytest.mark.parametrize("at", ["x" * 700, "y" * 70, "z"], ids=["x" * 700, "y" * 70, "z"])
+        @pytest.mark.instruments("scope")
+        def test_it(at, instruments):
+            with labrun_broker.connect(os.environ["BROKER"]) as lab:
+                [note] = [it["note"] for it in lab.status()["stations"] if it["instruments"] == ["scope"]]
+            whole, most = f"test_a_long_name.py::test_it[{at}] (gw0)", int(os.environ["MOST"])
+            assert note.startswith("test_a_long") and note.endswith("(gw0)"), note
+            assert note == whole if len(whole) <= most else ".." in note and most // 2 <= len(note) <= most, note
+        """
+    )
+    names = ", ".join(f'"{name}"' for name in NAMES)
+    (tmp_path / "bay.toml").write_text(f"instruments = [{names}]\n[guests]\ncount = 24\n[limits]\nnote = 62\n")
+    with serves(tmp_path, "--listen", f"unix:{tmp_path}/bay.sock"):
+        for at, most in (broker, 500), (f"unix:{tmp_path}/bay.sock", 62):
+            monkeypatch.setenv("BROKER", at)
+            monkeypatch.setenv("MOST", str(most))
+            run("--lab-broker", at, "-n", "1").assert_outcomes(passed=3)

@@ -115,6 +115,25 @@ def test_a_wrong_marker_is_an_error_at_its_place(pytester: pytest.Pytester, run:
     run("--lab", "bay.toml").stdout.fnmatch_lines(["*ERROR collecting test_it.py*", told])
 
 
+def test_none_is_left_for_a_pattern(pytester: pytest.Pytester, run: Run) -> None:
+    pytester.makefile(".toml", bay='instruments = ["scope", "supply"]')
+    pytester.makepyfile(test_it='import pytest\n\n@pytest.mark.instruments("scope", "supply", "s*")\ndef test_it():\n    pass\n')
+    run("--lab", "bay.toml").stdout.fnmatch_lines(["test_it.py:3: no instrument is left for s[*]: there are scope, supply"])
+
+
+@pytest.mark.parametrize(
+    "given, told",
+    [
+        ("", 'test_it.py:3: holds() names none: write holds("scope") or holds(any_of="load-[*]")'),
+        ('any_of="2 of s*"', "test_it.py:3: any_of is one of several: write holds('2 of s[*]')"),
+    ],
+)
+def test_a_fixture_that_holds_in_a_wrong_way(pytester: pytest.Pytester, run: Run, given: str, told: str) -> None:
+    fixture = f"import pytest, pytest_labrun\n\n@pytest.fixture\n@pytest_labrun.holds({given})\ndef powered(): pass\n"
+    pytester.makepyfile(test_it=f"{fixture}def test_it(powered): pass\n")
+    run().stdout.fnmatch_lines(["*ERROR collecting test_it.py*", told])
+
+
 @pytest.mark.parametrize(
     "text, told",
     [

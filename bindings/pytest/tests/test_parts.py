@@ -2,11 +2,12 @@
 
 from __future__ import annotations
 
+import asyncio
 import os
 import signal
 import threading
 import time
-from typing import Callable, Iterator
+from typing import Any, Callable, Iterator
 
 import pytest
 
@@ -147,6 +148,14 @@ def test_one_waits_for_the_other_or_takes_another(server: Server) -> None:
     assert server.past.sessions[3].kept == {"load-1": "test_one"}
 
 
+def test_of_many_ways_some_are_named(server: Server) -> None:
+    one, other, loads = desk_of(server, "gw0"), desk_of(server, "gw1"), [("load-1",), ("load-2",), ("scope",), ("supply",), ("scope", "supply")]
+    one.hold("test_one", [("load-1", "load-2", "scope", "supply")], None)
+    for ways, more in (loads[:4], ""), (loads, " or 1 more"):
+        with pytest.raises(NotHeld, match=rf"^waited 0\.\d s for load-1 or load-2 or scope or supply{more}: .*load-1 has been held by test_one \(gw0\)"):
+            other.hold("test_other", ways, 0.1)
+
+
 def sleeps_until(is_so: Callable[[], bool]) -> None:
     for _ in range(6000):
         if is_so():
@@ -192,7 +201,7 @@ def test_a_worker_that_was_idle_for_something_else_did_not_wait(server: Server) 
         before = server.past.now()
         desk.let_go()
         since = before if is_before else server.past.now()
-        server.dealt["test_it"] = Dealt(since, ("supply", "scope"))
+        server.dealt["gw0"] = Dealt(since, ("supply", "scope"))
         time.sleep(0.1)
         desk.hold("test_it", [("supply", "scope")], None)
         desk.let_go()
@@ -225,11 +234,81 @@ def test_many_sessions(server: Server) -> None:
     assert len(server.past.sessions) == 1101 and {it.end for it in server.past.sessions} == {"done"}
 
 
+def test_notes_of_several_threads(server: Server) -> None:
+    """They are noted while the test goes on, as far as it holds by then."""
+    desk = desk_of(server, "gw0")
+    for number in range(5):
+        assert desk.hold(f"test_{number}", [("scope",)], None)[0] == ("scope",)
+        writers = [threading.Thread(target=lambda: [desk.note(str(at)) for at in range(100)]) for _ in range(4)]
+        for one in writers:
+            one.start()
+        desk.note("by the test")
+        for one in writers[:2]:
+            one.join()
+        assert desk.let_go() is None
+        for one in writers:
+            one.join()
+    for held in server.past.sessions:
+        assert held.end == "done" and "by the test" in held.notes
+        assert min(held.notes.count(str(at)) for at in range(100)) >= 2
+
+
+def test_a_note_where_nothing_is_held_waits_for_nobody(server: Server) -> None:
+    """A thread of an earlier test may write one while the next waits."""
+    one, other = desk_of(server, "gw0"), desk_of(server, "gw1")
+    one.hold("test_one", [("scope",)], None)
+    waits = threading.Thread(target=other.hold, args=("test_other", [("scope",)], None))
+    waits.start()
+    assert other.note("late") == "no instrument is held"
+    assert waits.is_alive()
+    one.let_go()
+    waits.join(60)
+    assert other.note("in time") is None and other.let_go() is None
+    assert other.note("late") == "no instrument is held"
+    assert [it.notes for it in server.past.sessions] == [[], ["in time"]]
+
+
+def test_a_note_that_is_interrupted() -> None:
+    """As by a time limit of its test: what is asked next gets its own answer."""
+    goes_on = threading.Event()
+
+    class Slow(OwnLab):
+        async def note(self, session: Any, text: str) -> None:
+            if text == "slow":
+                main = threading.main_thread().ident
+                assert main is not None
+                signal.pthread_kill(main, signal.SIGALRM)
+                # (the signal may come a moment before the answer is waited for)
+                for _ in range(100):
+                    await asyncio.sleep(0.0 if goes_on.is_set() else 0.02)
+
+    def interrupts(*_: object) -> None:
+        raise TimeoutError("its time is over")
+
+    server = Server(Slow, Past())
+    server.start()
+    before = signal.signal(signal.SIGALRM, interrupts)
+    try:
+        desk = desk_of(server, "gw0")
+        desk.hold("test_it", [("scope",)], None)
+        with pytest.raises(TimeoutError):
+            desk.note("slow")
+        goes_on.set()
+        assert desk.note("next") is None and desk.let_go() is None
+        assert desk.hold("test_other", [("supply",)], None)[0] == ("supply",)
+        assert desk.let_go() is None
+    finally:
+        signal.signal(signal.SIGALRM, before)
+        server.stop()
+    assert [(it.test, it.end, it.notes) for it in server.past.sessions] == [("test_it", "done", ["slow", "next"]), ("test_other", "done", [])]
+
+
 def test_the_child_of_a_fork_holds_nothing(server: Server) -> None:
     desk = desk_of(server, "gw0")
     desk.hold("test_it", [("scope",)], None)
     if os.fork() == 0:
         try:
+            assert desk.note("by the child") == "this is the child of a fork: instruments are held by its parent"
             desk.let_go()
             desk.hold("test_it", [("supply",)], None)
         except NotHeld:
@@ -263,18 +342,21 @@ def test_the_table() -> None:
     assert table(sessions) == [
         "scope   in use 10.0 s of 10.0 s (100 %), 2 sessions, waited for 4.0 s",
         "supply  in use 5.0 s of 10.0 s (50 %), 2 sessions, waited for 1.0 s",
-        "waited 5.0 s in all, 3 of 4 sessions; the longest 3.0 s: test_b, for scope (test_a)",
+        "waited 5.0 s in all, in 3 of 4 sessions; the longest 3.0 s: test_b, for scope (test_a)",
     ]
     assert rows(sessions)[2] == ["test_b", "gw1", "scope", "1.000", "3.000", "6.000", "done", "scope: test_a", "it was, quiet"]
     assert table(sessions[:1])[-1] == "nobody waited"
     assert table(sessions[1:2]) == [
         "scope  in use 6.0 s of 9.0 s (67 %), 1 session, waited for 3.0 s",
-        "waited 3.0 s in all, 1 of 1 session; the longest 3.0 s: test_b, for scope (test_a)",
+        "waited 3.0 s in all, in 1 of 1 session; the longest 3.0 s: test_b, for scope (test_a)",
     ]
     # what the broker took to answer isn't told as a wait for an instrument that nobody had
     assert table([Held("test_f", "gw0", ("scope",), 0.0, 0.03, 1.0, end="done")])[-1] == "nobody waited"
     in_its_way = [Held("test_f", "gw0", ("scope",), 0.0, 0.03, 1.0, {"scope": "guest-1"}, "done")]
-    assert table(in_its_way)[-1] == "waited 0.0 s in all, 1 of 1 session; the longest 0.0 s: test_f, for scope (guest-1)"
+    assert table(in_its_way)[-1] == "waited 0.0 s in all, in 1 of 1 session; the longest 0.0 s: test_f, for scope (guest-1)"
+    # of one that was dealt it is known only later that it waited
+    late = [Held("test_g", "gw0", ("scope",), 2.0, 2.0, 3.0, end="done"), Held("test_h", "gw1", ("scope",), 1.0, 3.0, 4.0, end="done")]
+    assert [it[0] for it in rows(late)[1:]] == ["test_h", "test_g"]
     assert table([Held("test_e", "gw0", (), 1.0, None, 3.0, end="late")]) == [
-        "waited 2.0 s in all, 1 of 1 session; the longest 2.0 s: test_e, for one of several"
+        "waited 2.0 s in all, in 1 of 1 session; the longest 2.0 s: test_e, for one of several"
     ]

@@ -300,7 +300,7 @@ def test_who_waits_too_long_fails_and_says_for_whom(pytester: pytest.Pytester, r
     done = run("-n", "2", "-o", "lab_timeout=1.6", "-vv")
     done.assert_outcomes(passed=2, errors=1)
     done.stdout.fnmatch_lines(["*ERROR at setup of test_waits*", "waited ?.? s for scope: scope has been held by *.py::test_hangs (gw?) for ?.? s"])
-    done.stdout.fnmatch_lines(["waited ?.? s in all, 1 of 3 sessions; the longest ?.? s: *::test_waits, for scope (*::test_hangs)"])
+    done.stdout.fnmatch_lines(["waited ?.? s in all, in 1 of 3 sessions; the longest ?.? s: *::test_waits, for scope (*::test_hangs)"])
 
 
 def test_waiting_isnt_the_tests_own_time(pytester: pytest.Pytester, run: Run) -> None:

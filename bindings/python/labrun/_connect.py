@@ -44,5 +44,7 @@ def _bay(path: str) -> dict[str, Any]:
     with open(path, "rb") as file:
         try:
             return tomllib.load(file)
-        except (tomllib.TOMLDecodeError, UnicodeDecodeError) as fault:
+        except ValueError as fault:
             raise ValueError(f"{path}: {fault}") from None
+        except RecursionError:
+            raise ValueError(f"{path}: it is nested too deeply") from None

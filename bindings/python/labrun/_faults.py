@@ -86,12 +86,12 @@ class StillHeld(LabrunError):
 class OtherProcess(LabrunError):
     """This is the child of a fork, and what it has is a copy of its parent's bench or lab: what it would hold, the parent may hold, too."""
 
-    def __init__(self, process: int, what: str = "bench") -> None:
-        super().__init__(f"this {what} belongs to process {process}")
-        self.process = process
+    def __init__(self, process: int, what: str = "bench", do: str = "") -> None:
+        super().__init__(f"this {what} belongs to process {process}{do and f': {do}'}")
+        self.process, self._given = process, (process, what, do)
 
-    def __reduce__(self) -> tuple[type[OtherProcess], tuple[int]]:
-        return OtherProcess, (self.process,)
+    def __reduce__(self) -> tuple[type[OtherProcess], tuple[int, str, str]]:
+        return OtherProcess, self._given
 
 
 class JournalError(LabrunError):

@@ -119,7 +119,7 @@ def matching(word: str, names: Sequence[str], tags: Mapping[str, Sequence[str]])
     if word.startswith(TAG):
         tag = word.removeprefix(TAG)
         if tag not in tags:
-            raise NoSuch(f"{tag} is no tag; {'the tags are ' + ', '.join(tags) if tags else 'there are none'}{near(tag, tags)}")
+            raise NoSuch(f"{tag or word} is no tag; {'the tags are ' + ', '.join(tags) if tags else 'there are none'}{near(tag, tags)}")
         its = tuple(name for name in names if name in tags[tag])
     else:
         its = tuple(name for name in names if fnmatch.fnmatchcase(name, word))
