@@ -97,19 +97,16 @@ class Stream:
         task = asyncio.create_task(self._write(ask))
         self._writes_now.add(task)
         task.add_done_callback(self._writes_now.discard)
-        await asyncio.shield(task)
+        await asyncio.wait({task})
+        # (it is cancelled, perhaps before it began, with a call that was cancelled here, or is lost: then whoever asks is told by who reads)
+        if not task.cancelled():
+            task.result()
 
     async def _write(self, ask: Any) -> None:
-        try:
+        # (whoever reads sees what goes wrong with the call, too)
+        with contextlib.suppress(grpc.RpcError, asyncio.InvalidStateError):
             async with self._writing:
                 await self._call.write(ask)
-        except (grpc.RpcError, asyncio.InvalidStateError):
-            pass  # (whoever reads sees that, too)
-        except asyncio.CancelledError:
-            # (so it ends, too, if the call was cancelled here, or is lost)
-            task = asyncio.current_task()
-            if self._lost is None and (task is None or task.cancelling()):
-                raise
 
     async def pings(self) -> None:
         """Says that the client is there; the session is told of the answer."""

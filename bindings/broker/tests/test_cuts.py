@@ -228,14 +228,11 @@ def is_there(number: int) -> bool:
         return False
 
 
-if __name__ == "__main__":
-    unittest.main()
-
-
 class Writes(unittest.IsolatedAsyncioTestCase):
-    async def test_one_that_never_ends(self) -> None:
-        """As gRPC may leave it on a connection that was cut: whoever asks hears all the same that the stream is lost."""
-        over = asyncio.Event()
+    """Whoever asks hears that the stream is lost, wherever its write is by then. (On a connection that was cut gRPC may never end one.)"""
+
+    async def asyncSetUp(self) -> None:
+        over = self.over = asyncio.Event()
 
         class Call:
             async def write(self, _: object) -> None:
@@ -254,10 +251,26 @@ class Writes(unittest.IsolatedAsyncioTestCase):
             def cancel(self) -> None: ...
 
         lab: Any = SimpleNamespace(_methods={"Hold": lambda metadata: Call()}, _metadata=(), _idle=[])
-        stream = Stream(lab)
-        asks = [asyncio.create_task(stream.asks(ping=pb.Ping(at=at))) for at in (1.0, 2.0)]
+        self.stream = Stream(lab)
+        # (it reads from now on)
         await asyncio.sleep(0.01)
-        over.set()
+
+    async def are_lost(self, pause: float) -> None:
+        asks = [asyncio.create_task(self.stream.asks(ping=pb.Ping(at=at))) for at in (1.0, 2.0)]
+        if pause:
+            await asyncio.sleep(pause)
+        self.over.set()
         for it in asks:
             with self.assertRaisesRegex(Lost, "cut"):
                 await asyncio.wait_for(it, LIMIT)
+
+    async def test_one_that_never_ends(self) -> None:
+        await self.are_lost(0.01)
+
+    async def test_one_that_had_not_begun(self) -> None:
+        """The stream ends between the moment at which it is asked and that at which it is written."""
+        await self.are_lost(0.0)
+
+
+if __name__ == "__main__":
+    unittest.main()
