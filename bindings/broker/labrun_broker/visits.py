@@ -66,6 +66,8 @@ class Visit:
         # the bay in which it let go, while that isn't written
         self._unkept: Optional[Keeping] = None
         self._holding = asyncio.create_task(self._holds())
+        # (one that is cancelled may not have begun)
+        self._holding.add_done_callback(lambda _: self._ends_if_it_waits(Ended("NotHeld", "the client waits no longer")))
 
     async def _holds(self) -> None:
         try:
@@ -74,8 +76,6 @@ class Visit:
                 self._is(HOLDING)
         except LabrunError as fault:
             self._ends(fault)
-        finally:
-            self._ends_if_it_waits(Ended("NotHeld", "the client waits no longer"))
 
     def _is_in_line(self, session: Session) -> None:
         self.session, self._is_untold = session, True

@@ -30,7 +30,7 @@ from labrun_broker.bay import bay_of
 from labrun_broker.entrance import Caller, Entrance
 from labrun_broker.keeping import Keeping
 from labrun_broker.visits import WAITING, Visits
-from labrun_broker.wishes import Ended, Wish
+from labrun_broker.wishes import Ended, Wish, owner_of
 from tests.asking import KINDS, OPENAPI, Asking, found
 from tests.brokers import BAY, LIMIT, SOON, TOP, Broker, OnBroker, Turns, free_port, station, until
 
@@ -60,11 +60,29 @@ class OnHttp(OnBroker):
 
 
 class Races(unittest.IsolatedAsyncioTestCase):
+    async def asyncSetUp(self) -> None:
+        self.keeping = Keeping(bay_of(BAY), None)
+        await self.keeping.open()
+        self.addAsyncCleanup(self.keeping.close)
+
+    async def test_one_that_gives_up_just_as_it_asks(self) -> None:
+        """Before anything is done for its wish: both requests are answered, and it is forgotten."""
+        visits, wish = Visits(self.keeping, Entrance(self.keeping)), Wish(("scope",), ticket=secrets.token_hex())
+
+        async def gives_up() -> None:
+            await visits._of[owner_of(wish.ticket)].lets_go(None)
+
+        asks, leaves = asyncio.create_task(visits.asks(wish, Caller())), asyncio.create_task(gives_up())
+        async with asyncio.timeout(LIMIT):
+            await leaves
+            visit = await asks
+        with self.assertRaisesRegex(Ended, "waits no longer"):
+            visit.raises()
+        self.assertEqual((visits._of, visits.entrance.clients), ({}, 0))
+
     async def test_one_that_is_taken_away_just_as_it_lets_go(self) -> None:
         """It is told that it was taken away, and by whom."""
-        keeping = Keeping(bay_of(BAY), None)
-        await keeping.open()
-        self.addAsyncCleanup(keeping.close)
+        keeping = self.keeping
         visits = Visits(keeping, Entrance(keeping))
         for asks in (lambda it: it.lets_go(None), lambda it: it.notes("5 V")):
             visit = await visits.asks(Wish(("scope",), ticket=secrets.token_hex()), Caller())

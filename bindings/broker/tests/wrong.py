@@ -350,6 +350,12 @@ WRONG = {
     "a program that asks before it knows that its broker goes on": Wrong(
         "test_stopped.Stopped.test_a_time_limit_is_kept", "coming.py", (("await self._in_time(stream.is_answered())", "pass"),)
     ),
+    "a write that is lost before it began, and cancels whoever asks": Wrong(
+        "test_cuts.Writes.test_one_that_had_not_begun", "stream.py", (("        if not task.cancelled():\n            task.result()", "        task.result()"),)
+    ),
+    "a client by HTTP that gives up as it asks, and is waited for": Wrong(
+        "test_http.Races.test_one_that_gives_up_just_as_it_asks", "visits.py", (("        self._holding.add_done_callback(", "        (lambda call: None)("),)
+    ),
     "a time limit that a broker which is stopped doesn't end": Wrong(
         "test_stopped.Stopped.test_stopped_as_it_is_asked", "stream.py", (("                    raise Silent\n", "                    pass\n"),)
     ),
