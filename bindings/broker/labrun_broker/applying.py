@@ -11,7 +11,7 @@ import contextlib
 import functools
 import math
 from dataclasses import replace
-from typing import TYPE_CHECKING, Iterator, Optional, Sequence
+from typing import TYPE_CHECKING, Any, Coroutine, Iterator, Optional, Sequence, TypeVar
 
 from labrun import JournalError
 from labrun.machine import HOLDS, MAY_NOT, WAITS, Refusal
@@ -29,8 +29,10 @@ from .turning import STANDS
 from .wishes import milliseconds
 
 if TYPE_CHECKING:
+    from .bays import Kept
     from .keeping import Keeping
 
+Result = TypeVar("Result")
 LATER = "with the next start of the broker"
 THERE = "the broker's machine"
 
@@ -113,6 +115,16 @@ def _span(value: Optional[float]) -> Optional[str]:
 
 def _told(value: object) -> str:
     return "what it is without a line" if value is None else str(value)
+
+
+async def to_its_end(kept: Kept, work: Coroutine[Any, Any, Result]) -> Result:
+    """Whoever asked for it may be gone before that, and what is half done isn't to stay so."""
+    task = asyncio.ensure_future(work)
+    kept.tasks.add(task)
+    task.add_done_callback(kept.tasks.discard)
+    # (if nobody waits any more, nobody is told why it couldn't be done)
+    task.add_done_callback(lambda it: it.cancelled() or it.exception())
+    return await asyncio.shield(task)
 
 
 async def apply(keeping: Keeping, text: str, by: str, is_check: bool) -> list[str]:

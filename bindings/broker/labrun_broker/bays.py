@@ -41,7 +41,7 @@ class Bays:
         self.history, self._whole = self._news.history, (lab.whole, tuple(lab.bays.values()))
         self.settling, self.changing = _Settling(self.peers), asyncio.Lock()
         self.entrances: list[Entrance] = []
-        self.tasks = set[asyncio.Future[None]]()
+        self.tasks = set[asyncio.Future[Any]]()
         # sessions over several bays, by their tickets
         self.crossings = dict[tuple[int, int], Crossing]()
         self._says: Callable[[str], None] = lambda text: None

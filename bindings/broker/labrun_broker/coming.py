@@ -63,6 +63,7 @@ class Coming:
             while (found := await self._tries()) is None:
                 self._lost_at = self._lost_at or self._loop.time()
                 if self._fault is not None:
+                    await self._leaves(None)
                     raise self._fault
             return found
         except asyncio.CancelledError:
@@ -130,6 +131,8 @@ class Coming:
                 # (0 says that it never wanted to wait)
                 wish.timeout = max(MOMENT if self._held.timeout else 0.0, self._until - self._loop.time())
             sent, self._stream = clock(), stream
+            if self._fault is not None:
+                raise self._fault
             kind, told = await stream.asks_until(self._until, wish=wish)
             if kind == "held" and told.HasField("lease") and clock() > sent + told.lease / BEATS:
                 # (the wish is old: what was told may be, too)
@@ -147,11 +150,12 @@ class Coming:
             await gives_up(lab, wish.ticket, stream, 0)
             withdrawn = "" if self._may_hold else ". Nothing is held: the wish is withdrawn, should it go on"
             raise Unreachable(f"{self._no_answer()}{withdrawn}") from None
-        except asyncio.CancelledError:
-            await self._leaves(stream)
+        except Unreachable:
+            stream.cancel()
             raise
         except BaseException:
-            stream.cancel()
+            # (also if what was to be told went wrong: the broker may have let it hold just now)
+            await self._leaves(stream)
             raise
         finally:
             self._stream = None

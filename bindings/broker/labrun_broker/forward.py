@@ -156,6 +156,9 @@ class Forward:
             self._server.close()
         for task in self._tasks:
             task.cancel()
+        # (a task that hasn't begun cuts nothing)
+        for local in self._locals:
+            local.cut()
 
 
 class Ways:
@@ -164,6 +167,7 @@ class Ways:
     def __init__(self, guards: Mapping[str, str], ticket: str, certificate: Optional[bytes], says: Callable[[str], None] = lambda text: None) -> None:
         self.guards, self._ticket, self._certificate, self._says = guards, ticket, certificate, says
         self._forwards: dict[str, tuple[Forward, tuple[str, int]]] = {}
+        self._is_closed = False
 
     async def address(self, instrument: str) -> tuple[str, int]:
         if instrument not in self.guards:
@@ -176,7 +180,10 @@ class Ways:
             return way.host, way.port
         if instrument not in self._forwards:
             forward = Forward(way, self._ticket, self._context(way), self._says)
-            self._forwards[instrument] = forward, await forward.opens()
+            at = await forward.opens()
+            # (another may have asked meanwhile, or the session be over)
+            if self._forwards.setdefault(instrument, (forward, at))[0] is not forward or self._is_closed:
+                forward.close()
         return self._forwards[instrument][1]
 
     def _context(self, way: Way) -> Optional[ssl.SSLContext]:
@@ -189,6 +196,7 @@ class Ways:
             await asyncio.gather(*(it.lets_go() for it, _ in self._forwards.values()))
 
     def close(self) -> None:
+        self._is_closed = True
         for it, _ in self._forwards.values():
             it.close()
         self._forwards.clear()

@@ -203,7 +203,10 @@ class Held:
             raise BadWish(f"this session doesn't hold {instrument}: it holds {', '.join(self.instruments)}")
         if self._ways is None:
             self._ways = Ways(self.guards, self.ticket, self.lab._certificate)
-        return await self._ways.address(instrument)
+        at = await self._ways.address(instrument)
+        # (it may be over by now)
+        self._may_ask()
+        return at
 
     def _waits_for(self, text: str, lacks: Optional[list[str]] = None) -> None:
         if self.on_lacking is not None and lacks is not None:

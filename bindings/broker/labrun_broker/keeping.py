@@ -66,7 +66,7 @@ class Keeping:
         # one after another (applying.py), and who looks after the doors meanwhile
         self.changing = asyncio.Lock()
         self.entrances: list[Entrance] = []
-        self.tasks = set[asyncio.Future[None]]()
+        self.tasks = set[asyncio.Future[Any]]()
         # all bays of the lab, whose numbers and guests' names are those of one sequence (bays.py)
         self.peers: tuple[Keeping, ...] = (self,)
         self._next = 1

@@ -16,6 +16,7 @@ import labrun
 
 from . import broker_pb2 as pb
 from . import guarding, lab_applying, people
+from .applying import to_its_end
 from .bay import BadAddress
 from .bays import Kept
 from .door import Complaints, Door, check_free
@@ -75,6 +76,8 @@ class Client:
         # what waits until it holds; and a note that isn't answered yet
         self._waiting: Optional[asyncio.Task[None]] = None
         self._noting: Optional[asyncio.Task[None]] = None
+        # by which it is told that its session was taken away
+        self._taking: Optional[asyncio.Task[None]] = None
         self._writing = asyncio.Lock()
         self._tasks: set[asyncio.Task[None]] = set()
 
@@ -126,6 +129,9 @@ class Client:
         await self._tell(pb.Told(pong=pb.Pong(at=asked.at, holds=holds)))
 
     async def _tell(self, told: Any) -> None:
+        if self._taking is not None and told.HasField("fault"):
+            # (what comes of that, it is told after it)
+            await asyncio.wait({self._taking})
         async with self._writing:
             await self.context.write(told)
 
@@ -143,7 +149,7 @@ class Client:
 
     def taken(self, why: str) -> None:
         self.session = None
-        self._starts(self._tell(pb.Told(taken=pb.Fault(kind="TakenAway", text=why))))
+        self._taking = self._starts(self._tell(pb.Told(taken=pb.Fault(kind="TakenAway", text=why))))
 
     def warned(self, text: str, seconds: float) -> None:
         self._starts(self._tell(pb.Told(warning=pb.Warning(text=text, seconds=seconds))))
@@ -305,7 +311,7 @@ class Service:
             return await lab_applying.applies(self.keeping, wish, people.told(person, self._by(wish)) or AN_OPERATOR)
 
         async with self._paces(context) as person:
-            return pb.Applied(changes=await _answer(context, applies(person), unwritten=grpc.StatusCode.INTERNAL))
+            return pb.Applied(changes=await _answer(context, to_its_end(self.keeping, applies(person)), unwritten=grpc.StatusCode.INTERNAL))
 
     async def Outage(self, wish: Any, context: Any) -> Any:
         async def does(person: str) -> None:
@@ -315,7 +321,7 @@ class Service:
             await (disable(home, wish.instrument, wish.why, by) if is_out else enable(home, wish.instrument, by))
 
         async with self._paces(context) as person:
-            await _answer(context, does(person))
+            await _answer(context, to_its_end(self.keeping, does(person)))
             return pb.Noted()
 
 

@@ -74,6 +74,9 @@ class Stream:
             # (the broker would end the stream)
             raise BadWish(f"a {ask.WhichOneof('ask')} of {size} bytes; {MOST_BYTES} are the most")
         self.has_asked = self.has_asked or "wish" in what
+        # (what came before this was asked answers nothing of it)
+        while not self._answers.empty():
+            self._answers.get_nowait()
         await self._writes(ask)
         return await self._answer()
 

@@ -356,6 +356,43 @@ WRONG = {
     "a client by HTTP that gives up as it asks, and is waited for": Wrong(
         "test_http.Races.test_one_that_gives_up_just_as_it_asks", "visits.py", (("        self._holding.add_done_callback(", "        (lambda call: None)("),)
     ),
+    "a port that two ask for at once, one of which stays": Wrong(
+        "test_races.Forwards.test_two_ask_at_once", "forward.py", (("[0] is not forward or self._is_closed", "[0] is None or self._is_closed"),)
+    ),
+    "a port that opens as its session ends, and stays": Wrong(
+        "test_races.Forwards.test_it_ends_as_one_asks", "forward.py", (("[0] is not forward or self._is_closed", "[0] is not forward"),)
+    ),
+    "a program that connects as its session ends, and isn't cut off": Wrong(
+        "test_races.Forwards.test_it_ends_as_a_program_connects", "forward.py", (("        for local in self._locals:\n            local.cut()\n", ""),)
+    ),
+    "one that is led to a port of a session that is over": Wrong(
+        "test_races.Forwards.test_it_is_over_as_its_program_asks", "held.py", (("        self._may_ask()\n        return at\n", "        return at\n"),)
+    ),
+    "a wait that fails just as it comes to hold, and holds on": Wrong(
+        "test_races.Failing.test_just_before_it_is_told_that_it_holds",
+        "coming.py",
+        (("may have let it hold just now)\n            await self._leaves(stream)\n", "may have let it hold just now)\n            stream.cancel()\n"),),
+    ),
+    "an answer that is taken for that of the next question": Wrong(
+        "test_races.Failing.test_just_after_it_was_told_that_it_holds", "stream.py", (("            self._answers.get_nowait()\n", "            break\n"),)
+    ),
+    "a wait that has failed before it asks, and goes on": Wrong(
+        "test_races.Failing.test_before_it_asks", "coming.py", (("            if self._fault is not None:\n                raise self._fault\n            kind,", "            kind,"),)
+    ),
+    "a wait that fails once its broker was killed, and tells nobody": Wrong(
+        "test_races.Failing.test_when_its_broker_was_killed_that_said_that_it_holds",
+        "coming.py",
+        (("                    await self._leaves(None)\n                    raise", "                    raise"),),
+    ),
+    "one that is told what comes of it, and then that its session was taken away": Wrong(
+        "test_races.Taken.test_just_as_it_lets_go", "service.py", (('self._taking is not None and told.HasField("fault")', "False"),)
+    ),
+    "a bay that changes by halves, because whoever changed it is gone": Wrong(
+        "test_races.Gone.test_people_who_are_taken_out", "service.py", (("to_its_end(self.keeping, applies(person))", "applies(person)"),)
+    ),
+    "what is out of order as it is written, and not as it is told": Wrong(
+        "test_races.Gone.test_an_instrument_that_is_taken_out", "service.py", (("to_its_end(self.keeping, does(person))", "does(person)"),)
+    ),
     "a time limit that a broker which is stopped doesn't end": Wrong(
         "test_stopped.Stopped.test_stopped_as_it_is_asked", "stream.py", (("                    raise Silent\n", "                    pass\n"),)
     ),
