@@ -173,6 +173,7 @@ class Lab:
         held = Held(self, pb.Wish(instruments=of.instruments, ticket=ticket, by=self.by, wants_warning=True), None, None)
         held.station, held.number, held.token = of.station, of.number, of.token
         held.on_taken, held.on_warning = of._is_taken, of._is_warned
+        held._questions.was_let_go = lambda: of._is_let_go
         self._run(held._resumes(waits))
         return held
 

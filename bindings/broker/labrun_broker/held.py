@@ -334,7 +334,7 @@ class Held:
             raise fault
 
     async def _let_go(self, failed: Optional[str]) -> None:
-        was_held = self.state == "held"
+        was_held = self.state == "held" or self._questions.was_let_go()
         if self._ways is not None:
             await self._ways.lets_go()
         try:

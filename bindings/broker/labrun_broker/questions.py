@@ -3,7 +3,7 @@
 from __future__ import annotations
 
 import asyncio
-from typing import TYPE_CHECKING, Any
+from typing import TYPE_CHECKING, Any, Callable
 
 import grpc
 import labrun
@@ -33,6 +33,8 @@ class Questions:
     def __init__(self, held: Held) -> None:
         self._held, self._turn = held, asyncio.Lock()
         self._now = set[Question]()
+        # whether it was let go by the client from which this one has it
+        self.was_let_go: Callable[[], bool] = lambda: False
 
     @property
     def are_awaited(self) -> bool:
@@ -47,7 +49,7 @@ class Questions:
     @property
     def let_go(self) -> bool:
         """Whether the broker may have read that it is let go."""
-        return any("let_go" in it.what for it in self._now)
+        return self.was_let_go() or any("let_go" in it.what for it in self._now)
 
     async def ask(self, **what: Any) -> None:
         """Waits for the answer; if the stream ends meanwhile it is asked again on the next one."""

@@ -18,10 +18,12 @@ from labrun_broker.errors import TakenAway
 from labrun_broker.forward import Forward, Ways
 from labrun_broker.held import Held
 from labrun_broker.keeping import Keeping
+from labrun_broker.quick import GONE, Quick, Wish
 from labrun_broker.service import Client, Service
 from labrun_broker.shell import Shell
 from labrun_broker.stream import Lost, Stream
 from labrun_broker.turning import Turns
+from labrun_broker.wire import Odd, Wire
 from tests.brokers import BAY, LIMIT, SOON, OnBroker, station, until
 from tests.test_keeping import OnFolder
 from tests.test_people import ANA, BOB, PEOPLE, WITHOUT_BOB
@@ -122,6 +124,30 @@ class Failing(OnBroker):
                 self.held().acquire()
         self.at.begin()
         self.is_free()
+
+
+class Quickly(OnBroker):
+    def test_a_broker_that_is_killed_as_a_hold_lets_go(self) -> None:
+        """It has done that, and its answer is lost. So nothing was taken away, however soon another answers, before it is asked for that again."""
+        broker, told, comes_back = self.broker(BAY, *STATE), Wire.told, Quick._comes_back
+
+        def is_lost(wire: Wire) -> Any:
+            if (it := told(wire))[0] == GONE:
+                raise Odd
+            return it
+
+        def is_late(held: Quick, waits: bool) -> None:
+            comes_back(held, waits)
+            whole = held._whole
+            assert whole is not None
+            until(lambda: whole.state != "held", "that the whole client is told")
+
+        self.enterContext(mock.patch.object(Wire, "told", is_lost))
+        self.enterContext(mock.patch.object(Quick, "_comes_back", is_late))
+        with Quick(broker.address, Wish(("scope",), (), "", "tester", None), None, lambda _: broker.lab(), lambda: None) as held:
+            held.release(None)
+        assert held._whole is not None
+        self.assertEqual(held._whole.state, "finished")
 
 
 class Asks:

@@ -384,6 +384,12 @@ WRONG = {
         "coming.py",
         (("                    await self._leaves(None)\n                    raise", "                    raise"),),
     ),
+    "a hold that takes what it let go of for taken away": Wrong(
+        "test_races.Quickly.test_a_broker_that_is_killed_as_a_hold_lets_go", "questions.py", (("return self.was_let_go() or any(", "return any("),)
+    ),
+    "a hold that lets go of what is let go of by then": Wrong(
+        "test_races.Quickly.test_a_broker_that_is_killed_as_a_hold_lets_go", "held.py", ((' or self._questions.was_let_go()\n', "\n"),)
+    ),
     "one that is told what comes of it, and then that its session was taken away": Wrong(
         "test_races.Taken.test_just_as_it_lets_go", "service.py", (('self._taking is not None and told.HasField("fault")', "False"),)
     ),
