@@ -117,7 +117,12 @@ class Forward:
             async with asyncio.timeout(ANSWER):
                 _, there = await loop.create_connection(Line, self.way.host, self.way.port, ssl=self._context)
                 there.writes(f"{line}\n".encode())
-                await there.has_line.wait()
+                try:
+                    await there.has_line.wait()
+                except asyncio.CancelledError:
+                    # (the guard may let it through later, for nobody)
+                    there.cut()
+                    raise
         except ssl.SSLCertVerificationError as fault:
             raise OSError(f"the guard at {at} has no certificate that is known here: {fault.verify_message}") from None
         except ConnectionResetError:

@@ -3,6 +3,7 @@
 from __future__ import annotations
 
 import asyncio
+import contextlib
 import unittest
 from types import SimpleNamespace
 from typing import Any
@@ -210,9 +211,16 @@ class Forwards(unittest.IsolatedAsyncioTestCase):
     """The ports of a session: none is there after it."""
 
     async def asyncSetUp(self) -> None:
+        self.asked, self.left, self.answer = asyncio.Event(), asyncio.Event(), b"ok\n"
+
         async def guards(reader: asyncio.StreamReader, writer: asyncio.StreamWriter) -> None:
             await reader.readline()
-            writer.write(b"ok\n")
+            writer.write(self.answer)
+            self.asked.set()
+            with contextlib.suppress(ConnectionError):
+                await reader.read()
+            self.left.set()
+            writer.close()
 
         server = await asyncio.start_server(guards, "127.0.0.1", 0)
         self.addCleanup(server.close)
@@ -272,6 +280,16 @@ class Forwards(unittest.IsolatedAsyncioTestCase):
             self.addCleanup(writer.close)
             with self.assertRaises(ConnectionResetError):
                 await reader.read()
+
+    async def test_it_ends_as_its_guard_is_asked(self) -> None:
+        """Which may let it through later, and then there would be a connection of nobody's."""
+        self.answer = b""
+        async with asyncio.timeout(SOON):
+            _, writer = await asyncio.open_connection(*await self.ways.address("scope"))
+            self.addCleanup(writer.close)
+            await self.asked.wait()
+            self.ways.close()
+            await self.left.wait()
 
 
 class Gone(OnFolder):

@@ -365,6 +365,9 @@ WRONG = {
     "a program that connects as its session ends, and isn't cut off": Wrong(
         "test_races.Forwards.test_it_ends_as_a_program_connects", "forward.py", (("        for local in self._locals:\n            local.cut()\n", ""),)
     ),
+    "a connection to a guard that is left open for nobody": Wrong(
+        "test_races.Forwards.test_it_ends_as_its_guard_is_asked", "forward.py", (("                    there.cut()\n                    raise\n", "                    raise\n"),)
+    ),
     "one that is led to a port of a session that is over": Wrong(
         "test_races.Forwards.test_it_is_over_as_its_program_asks", "held.py", (("        self._may_ask()\n        return at\n", "        return at\n"),)
     ),
