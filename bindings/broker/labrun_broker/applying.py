@@ -11,7 +11,7 @@ import contextlib
 import functools
 import math
 from dataclasses import replace
-from typing import TYPE_CHECKING, Any, Coroutine, Iterator, Optional, Sequence, TypeVar
+from typing import TYPE_CHECKING, Iterator, Optional, Sequence
 
 from labrun import JournalError
 from labrun.machine import HOLDS, MAY_NOT, WAITS, Refusal
@@ -29,10 +29,8 @@ from .turning import STANDS
 from .wishes import milliseconds
 
 if TYPE_CHECKING:
-    from .bays import Kept
     from .keeping import Keeping
 
-Result = TypeVar("Result")
 LATER = "with the next start of the broker"
 THERE = "the broker's machine"
 
@@ -117,16 +115,6 @@ def _told(value: object) -> str:
     return "what it is without a line" if value is None else str(value)
 
 
-async def to_its_end(kept: Kept, work: Coroutine[Any, Any, Result]) -> Result:
-    """Whoever asked for it may be gone before that, and what is half done isn't to stay so."""
-    task = asyncio.ensure_future(work)
-    kept.tasks.add(task)
-    task.add_done_callback(kept.tasks.discard)
-    # (if nobody waits any more, nobody is told why it couldn't be done)
-    task.add_done_callback(lambda it: it.cancelled() or it.exception())
-    return await asyncio.shield(task)
-
-
 async def apply(keeping: Keeping, text: str, by: str, is_check: bool) -> list[str]:
     """What has changed, or would. BadWish: the file is no bay. CantChange says who would be in the way. JournalError: it couldn't be written."""
     try:
@@ -182,16 +170,23 @@ async def _apply(keeping: Keeping, text: str, after: Bay, by: str, is_check: boo
         if it.status == MAY_NOT:
             _may(keeping, places, after)
         raise CantChange(f"the bay can't be so: {it}") from None
-    if its:
-        keeping.says(f"the bay was changed by {by}: {'; '.join(its)}")
-    for entrance in keeping.entrances:
-        entrance.has_changed()
+    finally:
+        # (whoever asked may be gone by now, and the disk not answer)
+        if keeping.bay is bay:
+            _has_changed(keeping, its, by)
     try:
         await keeping.settling.kept()
     except JournalError as fault:
         raise JournalError(fault.path, f"the bay has changed, but the next broker may not know it: {fault.why}") from None
     await words.end()
     return [*its, *lacking]
+
+
+def _has_changed(keeping: Keeping, its: list[str], by: str) -> None:
+    if its:
+        keeping.says(f"the bay was changed by {by}: {'; '.join(its)}")
+    for entrance in keeping.entrances:
+        entrance.has_changed()
 
 
 class Words:

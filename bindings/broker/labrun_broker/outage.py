@@ -6,9 +6,10 @@ in line it would keep its other instruments from everybody else until the instru
 
 from __future__ import annotations
 
+import asyncio
 import time
 from dataclasses import replace
-from typing import TYPE_CHECKING, Iterable
+from typing import TYPE_CHECKING, Any, Coroutine, Iterable, TypeVar
 
 from labrun.machine import WAITS
 
@@ -21,8 +22,11 @@ from .wishes import Wish, check_instrument, check_note
 
 if TYPE_CHECKING:
     from .bay import Bay
+    from .bays import Kept
     from .keeping import Keeping
     from .standing import Session
+
+Result = TypeVar("Result")
 
 
 def going_round(wish: Wish, out: dict[str, Out], bay: Bay) -> Wish:
@@ -36,6 +40,16 @@ def going_round(wish: Wish, out: dict[str, Out], bay: Bay) -> Wish:
 def told(name: str, it: Out, bay: Bay, person: str) -> str:
     why = f": {it.why}" if it.why else ""
     return f"{name} has been out of order for {span(it.span)}{why} (says {it.by}; {to_enable(bay, person, name)})"
+
+
+async def to_its_end(kept: Kept, work: Coroutine[Any, Any, Result]) -> Result:
+    """Whoever asked for it may be gone before that, and what is half done isn't to stay so."""
+    task = asyncio.ensure_future(work)
+    kept.tasks.add(task)
+    task.add_done_callback(kept.tasks.discard)
+    # (if nobody waits any more, nobody is told why it couldn't be done)
+    task.add_done_callback(lambda it: it.cancelled() or it.exception())
+    return await asyncio.shield(task)
 
 
 async def disable(keeping: Keeping, name: str, why: str, by: str) -> None:

@@ -16,14 +16,13 @@ import labrun
 
 from . import broker_pb2 as pb
 from . import guarding, lab_applying, people
-from .applying import to_its_end
 from .bay import BadAddress
 from .bays import Kept
 from .door import Complaints, Door, check_free
 from .entrance import Caller, Entrance, NotLetIn, Pace
 from .errors import KINDS, BadWish, NoInstrument, NotAllowed
 from .front import WITHIN, Fronts
-from .outage import disable, enable
+from .outage import disable, enable, to_its_end
 from .rights import check_operator
 from .sockets import ITS_USER, THE_GROUP, give, made_for
 from .standing import Session
@@ -311,7 +310,7 @@ class Service:
             return await lab_applying.applies(self.keeping, wish, people.told(person, self._by(wish)) or AN_OPERATOR)
 
         async with self._paces(context) as person:
-            return pb.Applied(changes=await _answer(context, to_its_end(self.keeping, applies(person)), unwritten=grpc.StatusCode.INTERNAL))
+            return pb.Applied(changes=await _answer(context, applies(person), unwritten=grpc.StatusCode.INTERNAL))
 
     async def Outage(self, wish: Any, context: Any) -> Any:
         async def does(person: str) -> None:

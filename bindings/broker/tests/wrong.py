@@ -397,7 +397,7 @@ WRONG = {
         "test_races.Taken.test_just_as_it_lets_go", "service.py", (('self._taking is not None and told.HasField("fault")', "False"),)
     ),
     "a bay that changes by halves, because whoever changed it is gone": Wrong(
-        "test_races.Gone.test_people_who_are_taken_out", "service.py", (("to_its_end(self.keeping, applies(person))", "applies(person)"),)
+        "test_races.Gone.test_people_who_are_taken_out", "applying.py", (("        if keeping.bay is bay:\n            _has_changed", "        if False:\n            _has_changed"),)
     ),
     "what is out of order as it is written, and not as it is told": Wrong(
         "test_races.Gone.test_an_instrument_that_is_taken_out", "service.py", (("to_its_end(self.keeping, does(person))", "does(person)"),)
