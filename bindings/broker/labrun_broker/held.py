@@ -288,6 +288,7 @@ class Held:
                     self._returns = None
                     return self._holds(stream, told, sent)
                 if kind == "fault":
+                    stream.is_idle()
                     was_done = told.kind == "LetGo" and self._questions.let_go
                     return self._is_over("finished" if was_done else "taken", None if was_done else raised(told))
             except Lost as lost:

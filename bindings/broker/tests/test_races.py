@@ -127,6 +127,20 @@ class Failing(OnBroker):
         self.is_free()
 
 
+class Returns(OnBroker):
+    def test_for_a_session_that_is_over(self) -> None:
+        """The stream by which it hears so serves the next one."""
+        broker = self.broker()
+        lab = self.lab(broker)
+        held = lab.hold("scope")
+        held.acquire()
+        broker.kill()
+        broker.begin()
+        with self.assertRaises(labrun_broker.NotHeld):
+            held.release()
+        self.assertEqual([(it.is_lost, it.session) for it in lab._idle], [(False, None)])
+
+
 class Quickly(OnBroker):
     def test_a_broker_that_is_killed_as_a_hold_lets_go(self) -> None:
         """It has done that, and its answer is lost. So nothing was taken away, however soon another answers, before it is asked for that again."""

@@ -387,6 +387,9 @@ WRONG = {
         "coming.py",
         (("                    await self._leaves(None)\n                    raise", "                    raise"),),
     ),
+    "a stream that stays open for a session that is over": Wrong(
+        "test_races.Returns.test_for_a_session_that_is_over", "held.py", (("                    stream.is_idle()\n", ""),)
+    ),
     "a hold that takes what it let go of for taken away": Wrong(
         "test_races.Quickly.test_a_broker_that_is_killed_as_a_hold_lets_go", "questions.py", (("return self.was_let_go() or any(", "return any("),)
     ),
