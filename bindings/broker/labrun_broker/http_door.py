@@ -181,9 +181,9 @@ class HttpDoor:
     async def _events(self, request: web.Request) -> web.StreamResponse:
         visit = await self._visit(request)
         response = web.StreamResponse(headers={"Content-Type": "text/event-stream"})
-        await response.prepare(request)
         with visit.asking(lambda: is_there(request)):
             try:
+                await response.prepare(request)
                 await self._tells(visit, response, request)
             except (ConnectionError, TimeoutError):
                 pass  # (who listened is gone, or takes nothing)

@@ -13,14 +13,17 @@ import grpc
 
 import labrun_broker
 from labrun_broker import broker_pb2 as pb
+from labrun_broker import visits, wishes
 from labrun_broker.bay import bay_of
-from labrun_broker.entrance import Entrance, NotLetIn
+from labrun_broker.entrance import Caller, Entrance, NotLetIn
 from labrun_broker.errors import TakenAway
 from labrun_broker.forward import Forward, Ways
 from labrun_broker.held import Held
+from labrun_broker.http_door import HttpDoor
 from labrun_broker.keeping import Keeping
 from labrun_broker.quick import GONE, Quick, Wish
 from labrun_broker.service import Client, Service
+from labrun_broker.serving import web
 from labrun_broker.shell import Shell
 from labrun_broker.stream import Lost, Stream
 from labrun_broker.turning import Turns
@@ -304,6 +307,26 @@ class Forwards(unittest.IsolatedAsyncioTestCase):
             await self.asked.wait()
             self.ways.close()
             await self.left.wait()
+
+
+class Events(unittest.IsolatedAsyncioTestCase):
+    async def test_for_one_that_is_gone_before_the_first(self) -> None:
+        """That is no fault of the broker's, and its session is known as gone."""
+        keeping = Keeping(bay_of(BAY), None)
+        await keeping.open()
+        self.addAsyncCleanup(keeping.close)
+        door, caller = HttpDoor(keeping, Entrance(keeping)), Caller()
+        visit = await door.visits.asks(wishes.Wish(("scope",), ticket="t" * 32), caller)
+        visit.shown()
+        request = mock.MagicMock(match_info={"ticket": "t" * 32}, transport=None, remote=None)
+        request.__getitem__.return_value = caller
+        self.enterContext(mock.patch.object(web.StreamResponse, "prepare", side_effect=ConnectionResetError))
+        self.enterContext(mock.patch.object(visits, "CUT", 0.01))
+        await door._events(request)
+        async with asyncio.timeout(SOON):
+            while visit.session is not None:
+                await asyncio.sleep(0.01)
+        self.assertEqual([it.state for it in keeping.by_number.values()], ["gone"])
 
 
 class Gone(OnFolder):

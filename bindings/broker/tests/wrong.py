@@ -390,6 +390,11 @@ WRONG = {
     "a stream that stays open for a session that is over": Wrong(
         "test_races.Returns.test_for_a_session_that_is_over", "held.py", (("                    stream.is_idle()\n", ""),)
     ),
+    "a client by HTTP that is gone before its first event, and is never missed": Wrong(
+        "test_races.Events.test_for_one_that_is_gone_before_the_first",
+        "http_door.py",
+        (("            try:\n                await response.prepare(request)\n", "            await response.prepare(request)\n            try:\n"),),
+    ),
     "a hold that takes what it let go of for taken away": Wrong(
         "test_races.Quickly.test_a_broker_that_is_killed_as_a_hold_lets_go", "questions.py", (("return self.was_let_go() or any(", "return any("),)
     ),
