@@ -153,7 +153,7 @@ class Coming:
         except Unreachable:
             stream.cancel()
             raise
-        except BaseException:
+        except (Exception, asyncio.CancelledError):
             # (also if what was to be told went wrong: the broker may have let it hold just now)
             await self._leaves(stream)
             raise
