@@ -305,7 +305,7 @@ WRONG = {
         "test_leaving.Leaves.test_another_signal_ends_it", "leaving.py", (("        if not is_told:\n", "        if False:\n"),)
     ),
     "a hold that waits for a broker that was killed, and tells nobody that it leaves": Wrong(
-        "test_leaving.Leaves.test_one_that_was_killed_and_comes_back", "coming.py", (("            await self._leaves(None)\n", "            pass\n"),)
+        "test_leaving.Leaves.test_one_that_was_killed_and_comes_back", "coming.py", (("CancelledError:\n            await self._leaves(None)\n", "CancelledError:\n            pass\n"),)
     ),
     "a hold that has told a broker that was killed then, and tells nobody else": Wrong(
         "test_leaving.Leaves.test_one_that_is_killed_while_it_is_told", "withdrawing.py", (("        return lost.code is NOBODY\n", "        return True\n"),)
