@@ -96,26 +96,9 @@ class Quick:
 
     def _holds(self) -> None:
         try:
-            self.wire.is_answered()
-            if self.silence is not None:
-                self.silence.hears(is_in_line=False)
-            self.has_asked = True
-            self.wire.asks(WISH, _wish(self._wish, self.ticket, self._waits is not None))
-            while (told := self.wire.told())[0] in (WAITS, PONG):
-                if self.silence is not None:
-                    self.silence.hears()
-                if told[0] == PONG:
-                    continue
-                if self.on_lacking is not None:
-                    self.on_lacking([text_of(fields_of(it), 1) for it in told[1].get(WAITS_FOR, [])])
-                if self._waits is not None:
-                    self._waits(text_of(told[1], 1))
-            what, of = told
+            what, of = self._asks()
             if what == HELD:
-                self.station, self.number, self.instruments = text_of(of, 1), of[2][0], tuple(it.decode() for it in of[3])
-                self.token = of.get(TOKEN, [0])[0]
-                self.limit = struct.unpack("<d", of[LIMIT][0])[0] if LIMIT in of else None
-                self.guards = {text_of(it, 1): text_of(it, 2) for it in map(fields_of, of.get(GUARDS, []))}
+                self._has(of)
                 if LEASE in of:
                     # (its client has to say again and again that it is there)
                     self._comes_back(True)
@@ -138,6 +121,31 @@ class Quick:
             self.wire.socket.close()
         else:
             threading.Thread(target=self._watches, daemon=True).start()
+
+    def _asks(self) -> tuple[int, Fields]:
+        """What the broker answers once the wait is over; whoever waits is told for whom until then."""
+        self.wire.is_answered()
+        if self.silence is not None:
+            self.silence.hears(is_in_line=False)
+        self.has_asked = True
+        self.wire.asks(WISH, _wish(self._wish, self.ticket, self._waits is not None))
+        while (told := self.wire.told())[0] in (WAITS, PONG):
+            if self.silence is not None:
+                self.silence.hears()
+            if told[0] == PONG:
+                continue
+            if self.on_lacking is not None:
+                self.on_lacking([text_of(fields_of(it), 1) for it in told[1].get(WAITS_FOR, [])])
+            if self._waits is not None:
+                self._waits(text_of(told[1], 1))
+        return told
+
+    def _has(self, of: Fields) -> None:
+        """What the broker says of a session that holds."""
+        self.station, self.number, self.instruments = text_of(of, 1), of[2][0], tuple(it.decode() for it in of[3])
+        self.token = of.get(TOKEN, [0])[0]
+        self.limit = struct.unpack("<d", of[LIMIT][0])[0] if LIMIT in of else None
+        self.guards = {text_of(it, 1): text_of(it, 2) for it in map(fields_of, of.get(GUARDS, []))}
 
     def pings(self) -> None:
         """Asks the broker whether it is there, while this waits; on another thread. (Whoever reads sees if that can't be sent.)"""

@@ -69,7 +69,7 @@ def run_hold(args: argparse.Namespace) -> int:
             say(f"waits: {plain(text)}")
 
     with passing_on() as signals, adopting(), contextlib.ExitStack() as ends:
-        held = holds(args, wish, None if args.quiet and not within.stations else waits, signals, ends, within)
+        held = Holds(args, wish, None if args.quiet and not within.stations else waits, signals, ends, within).begins()
         if args.limit is not None and held.limit is not None and held.limit < args.limit:
             say(f"the bay's limit counts, which is shorter: {span(held.limit, 1)}, and not {span(args.limit, 1)}")
         variables, passes = ends.enter_context(leads(held, args))
@@ -151,59 +151,72 @@ def is_absent(fault: Exception) -> bool:
     return isinstance(fault, Absent) or bool(is_unreachable)
 
 
-def holds(args: argparse.Namespace, wish: Wish, waits: Waits, signals: Signals, ends: contextlib.ExitStack, within: Within) -> Union[Quick, Held]:
+class Holds:
     """A session that holds, until the end of `ends`."""
 
-    def connects(was_there: bool) -> Lab:
-        lab = lab_of(args, station=wish.station, by=wish.by)
+    def __init__(self, args: argparse.Namespace, wish: Wish, waits: Waits, signals: Signals, ends: contextlib.ExitStack, within: Within) -> None:
+        self._args, self._wish, self._waits, self._signals, self._ends, self._within = args, wish, waits, signals, ends, within
+        self._address, self._began, self._start = address_of(args), time.monotonic(), Start(args)
+        first, tells = first_while(self._address, args.timeout), lambda text: None if args.quiet else say(text)
+        self._silence = Silence(self._address, tells, first, "hold", ", and Ctrl-C ends that")
+        # what the small client came to, if its broker was lost
+        self._was_there, self._ticket = False, ""
+
+    def begins(self) -> Union[Quick, Held]:
+        """Once it holds. The small client asks where it can; if its broker is lost, the whole one goes on with its ticket."""
+        can_be_small = re.match("unix:(?!//).", self._address) and len(addresses_of(self._address)) == 1
+        return (can_be_small and self._quickly()) or self._wholly()
+
+    def _left(self) -> Optional[float]:
+        # (0 says that it never wanted to wait)
+        return self._wish.timeout and max(0.001, self._wish.timeout + self._began - time.monotonic())
+
+    def _quickly(self) -> Optional[Quick]:
+        token, tried = files_of(self._args)[0], list[Quick]()
+
+        def tries() -> Quick:
+            wish = self._wish._replace(timeout=self._left())
+            tried[:] = [Quick(self._address, wish, self._waits, self._connects, self._signals.begins, token)]
+            tried[0].on_lacking, tried[0].silence = self._within.lacks, self._silence
+            return self._ends.enter_context(tried[0])
+
+        try:
+            with self._silence.ticking(lambda: tried[0].pings() if tried else None):
+                return self._start.tries(tries)
+        except (Silent, Absent, NoBroker) as fault:
+            raise why_not(self._address, fault) from None
+        except Odd:
+            self._was_there, self._ticket = tried[0].wire.was_there, tried[0].ticket if tried[0].has_asked else ""
+            self._silence.is_cut()
+            return None
+
+    def _connects(self, was_there: bool) -> Lab:
+        lab = lab_of(self._args, station=self._wish.station, by=self._wish.by)
         lab._was_there = was_there
         return lab
 
-    began, was_there, ticket, start, token = time.monotonic(), False, "", Start(args), files_of(args)[0]
-    address = address_of(args)
-    silence = Silence(address, lambda text: None if args.quiet else say(text), first_while(address, args.timeout), "hold", ", and Ctrl-C ends that")
+    def _wholly(self) -> Held:
+        lab: Lab
+        wish, helds = self._wish, list["Held"]()
 
-    def left() -> Optional[float]:
-        # (0 says that it never wanted to wait)
-        return wish.timeout and max(0.001, wish.timeout + began - time.monotonic())
-
-    if re.match("unix:(?!//).", address) and len(addresses_of(address)) == 1:
-        tried: list[Quick] = []
-
-        def quickly() -> Quick:
-            tried[:] = [Quick(address, wish._replace(timeout=left()), waits, connects, signals.begins, token)]
-            tried[0].on_lacking, tried[0].silence = within.lacks, silence
-            return ends.enter_context(tried[0])
+        def tries() -> Held:
+            held = lab.hold(*wish.instruments, any_of=wish.any_of, timeout=self._left(), waits=self._waits, limit=wish.limit, urgent=wish.urgent)
+            # (it may hold by now, and the broker's word be lost)
+            held.on_lacking, held._ticket, held._silence = self._within.lacks, self._ticket, self._silence
+            helds.append(held)
+            return self._ends.enter_context(held)
 
         try:
-            with silence.ticking(lambda: tried[0].pings() if tried else None):
-                return start.tries(quickly)
-        except (Silent, Absent, NoBroker) as fault:
-            raise why_not(address, fault) from None
-        except Odd:
-            was_there, ticket = tried[0].wire.was_there, tried[0].ticket if tried[0].has_asked else ""
-            silence.is_cut()
-    lab: Lab
-    helds: list[Held] = []
-
-    def wholly() -> Held:
-        held = lab.hold(*wish.instruments, any_of=wish.any_of, timeout=left(), waits=waits, limit=wish.limit, urgent=wish.urgent)
-        # (it may hold by now, and the broker's word be lost)
-        held.on_lacking, held._ticket, held._silence = within.lacks, ticket, silence
-        helds.append(held)
-        return ends.enter_context(held)
-
-    try:
-        with signals.later():
-            lab = ends.enter_context(connects(was_there))
-        return start.tries(wholly)
-    except (KeyboardInterrupt, SystemExit):
-        silence.ends()
-        if ticket and all(it.state == "new" for it in helds):
-            # (each that has begun tells by itself)
-            lab._leaves(ticket)
-        leaves(lab._is_left, address, wish.station)
-        raise
+            with self._signals.later():
+                lab = self._ends.enter_context(self._connects(self._was_there))
+            return self._start.tries(tries)
+        except (KeyboardInterrupt, SystemExit):
+            self._silence.ends()
+            if self._ticket and all(it.state == "new" for it in helds):
+                # (each that has begun tells by itself)
+                lab._leaves(self._ticket)
+            leaves(lab._is_left, self._address, wish.station)
+            raise
 
 
 def why_not(address: str, fault: Exception) -> Exception:

@@ -11,11 +11,11 @@ import resource
 import signal
 import sys
 import threading
-from typing import TYPE_CHECKING, Any, Awaitable, Callable, Iterator, Optional
+from typing import TYPE_CHECKING, Any, Awaitable, Callable, Iterator, NamedTuple, Optional, Union
 
 import labrun
 
-from .bay import BadAddress
+from .bay import BadAddress, Bay
 from .credentials import DEFAULT
 from .labs import Lab, read_any, texts_of
 from .standby import add_etcd, until_it_leads
@@ -59,76 +59,104 @@ def run_serve(args: argparse.Namespace) -> int:
 
 async def serve(args: argparse.Namespace) -> int:
     # (what only the broker needs: a client begins sooner without)
-    from . import door, service
-    from .aside import Aside, Lines
-    from .bays import Bays
-    from .entrance import Entrance
     from .folder import Folder
-    from .here import commands
-    from .keeping import Keeping
 
     with reading(args.bay):
         read = read_any(args.bay)
-    lab = read if isinstance(read, Lab) else None
-    bay = read.whole if isinstance(read, Lab) else read
-    if lab is not None and args.etcd is not None:
-        say(f"{args.bay} has [bays], and at etcd a broker keeps one bay: give each bay brokers of its own, or keep the lab in a folder (--state)")
-        return USAGE
-    if any(it.its_gone.may_release for it in (lab.bays.values() if lab else (bay,))) and args.grace < LEAST_GRACE:
-        say(f"--grace {args.grace:g}: where gone = \"release\" it is {LEAST_GRACE:g} s at least, so that a client that is there can say so")
+    if (why := cant_be(args, read)) is not None:
+        say(why)
         return USAGE
     _, hard = resource.getrlimit(resource.RLIMIT_NOFILE)
     resource.setrlimit(resource.RLIMIT_NOFILE, (hard, hard))
     # (the thread that syncs a slow disk isn't to wait for the interpreter's lock when it is through)
     sys.setswitchinterval(0.0005)
-    its_door = door.Door(tuple(args.listen or (DEFAULT,)), args.tls_certificate, args.tls_key, args.token_file, args.group, bool(bay.people))
-    its_door.check()
-    by_http = dataclasses.replace(its_door, addresses=tuple(args.http))
-    by_http.check()
+    doors = doors_of(args, whole_of(read))
     # (before a state is opened, or etcd asked)
-    its_door.tls()
+    doors.network.tls()
     end = the_end()
     # (while it begins, or stands by, there is no bay to be changed)
     asyncio.get_running_loop().add_signal_handler(signal.SIGHUP, lambda: None)
-    state: Optional[str] = args.state
     opens: Callable[[str, bool], State] = Folder
     # (at first stands which bay it is, and where)
     begins = list[str]()
-    if args.etcd is not None:
-        led = await until_it_leads(args, bay, its_door, end)
-        if led is None:
+    if args.etcd is not None and isinstance(read, Bay):
+        if (led := await until_it_leads(args, read, doors.network, end)) is None:
             return 0
-        state, bay, opens, begins = args.etcd, led.bay, led.opens, led.says
-        # (without people a door that needed no token would let in everybody)
-        its_door, by_http = (dataclasses.replace(it, has_people=bool(bay.people)) for it in (its_door, by_http))
-        its_door.check()
-        by_http.check()
-    its = max(LEAST_GRACE, args.grace), args.sync == "data"
-    keeping: Kept = Keeping(bay, state, *its, opens) if lab is None else Bays(lab, state, *its)
-    keeping.most_bytes = args.journal_size
+        read, opens, begins, doors = led.bay, led.opens, led.says, doors.of_bay(led.bay)
+    keeping = its_keeping(args, read, opens)
     keeping.says = begins.append
+    return await serves(args, keeping, read, doors, end, begins)
+
+
+def cant_be(args: argparse.Namespace, read: Union[Bay, Lab]) -> Optional[str]:
+    """Why no broker keeps it with these words."""
+    if isinstance(read, Lab) and args.etcd is not None:
+        return f"{args.bay} has [bays], and at etcd a broker keeps one bay: give each bay brokers of its own, or keep the lab in a folder (--state)"
+    if any(it.its_gone.may_release for it in bays_in(read)) and args.grace < LEAST_GRACE:
+        return f"--grace {args.grace:g}: where gone = \"release\" it is {LEAST_GRACE:g} s at least, so that a client that is there can say so"
+    return None
+
+
+def bays_in(read: Union[Bay, Lab]) -> tuple[Bay, ...]:
+    return tuple(read.bays.values()) if isinstance(read, Lab) else (read,)
+
+
+def whole_of(read: Union[Bay, Lab]) -> Bay:
+    return read.whole if isinstance(read, Lab) else read
+
+
+class Doors(NamedTuple):
+    """That of gRPC, and that of HTTP."""
+
+    network: Door
+    by_http: Door
+
+    def of_bay(self, bay: Bay) -> Doors:
+        # (without people a door that needed no token would let in everybody)
+        return Doors(*(dataclasses.replace(it, has_people=bool(bay.people)) for it in self)).checked()
+
+    def checked(self) -> Doors:
+        for it in self:
+            it.check()
+        return self
+
+
+def doors_of(args: argparse.Namespace, bay: Bay) -> Doors:
+    from .door import Door
+
+    its = Door(tuple(args.listen or (DEFAULT,)), args.tls_certificate, args.tls_key, args.token_file, args.group, bool(bay.people))
+    return Doors(its, dataclasses.replace(its, addresses=tuple(args.http))).checked()
+
+
+def its_keeping(args: argparse.Namespace, read: Union[Bay, Lab], opens: Callable[[str, bool], State]) -> Kept:
+    """What keeps it; it isn't open yet."""
+    from .bays import Bays
+    from .keeping import Keeping
+
+    its = max(LEAST_GRACE, args.grace), args.sync == "data"
+    keeping: Kept = Bays(read, args.state, *its) if isinstance(read, Lab) else Keeping(read, args.etcd or args.state, *its, opens)
+    keeping.most_bytes = args.journal_size
+    return keeping
+
+
+async def serves(args: argparse.Namespace, keeping: Kept, read: Union[Bay, Lab], doors: Doors, end: asyncio.Event, begins: list[str]) -> int:
+    """From its opening to its end; the status. `begins` is said once it is open."""
+    from .aside import Aside, Lines
+    from .door import is_read
+    from .here import commands
+
     ends = contextlib.AsyncExitStack()
     try:
         with told_if_late(args.state, args.etcd):
             await keeping.open()
         ends.push_async_callback(keeping.close)
-        entrance = Entrance(keeping, its_door.tokens(), its_door.seen_without_token(by_http))
-        # (whoever finds the broker's socket finds that of HTTP, too: it is there sooner, and for longer)
-        for runner in await by_requests(args, keeping, by_http, entrance):
-            ends.push_async_callback(runner.cleanup)
-        server = await service.start(keeping, its_door, entrance)
-        ends.push_async_callback(server.stop, 0.5)
-        for runner in await web(args, keeping):
-            ends.push_async_callback(runner.cleanup)
-        where = " ".join(its_door.addresses) + (f", by HTTP at {' '.join(args.http)}" if args.http else "")
-        of = "" if lab is None else f"{counted(len(lab.bays), 'bay')} ({', '.join(lab.bays)}), "
-        leads = "" if args.etcd is None else "leads: "
-        say(f"{leads}{called(bay.what, bay.name)}: {of}{counted(len(bay.instruments), 'instrument')}, at {where}")
-        lacking = [line for one in (lab.bays.values() if lab else (bay,)) for line in commands(one)]
-        for it in (*keeping.complaints, *its_door.complaints(), *entrance.complaints(), *lacking, *begins):
+        entrance = await opens_doors(args, keeping, doors, ends)
+        say_where(args, read, doors)
+        lacking = [line for one in bays_in(read) for line in commands(one)]
+        for it in (*keeping.complaints, *doors.network.complaints(), *entrance.complaints(), *lacking, *begins):
             say(plain(it))
         lines = Lines(say)
-        keeping.says = lambda text: lines.add(plain(text)[:MOST_TOLD]) if door.is_read() else None
+        keeping.says = lambda text: lines.add(plain(text)[:MOST_TOLD]) if is_read() else None
         tell_systemd("READY=1\nSTATUS=")
         files = Aside("files")
         asyncio.get_running_loop().add_signal_handler(signal.SIGHUP, lambda: hears(keeping, args.bay, files))
@@ -141,6 +169,28 @@ async def serve(args: argparse.Namespace) -> int:
         keeping.says(text)
     await lines.are_said()
     return NOT_WRITTEN if keeping.lost else 0
+
+
+async def opens_doors(args: argparse.Namespace, keeping: Kept, doors: Doors, ends: contextlib.AsyncExitStack) -> Entrance:
+    from . import service
+    from .entrance import Entrance
+
+    entrance = Entrance(keeping, doors.network.tokens(), doors.network.seen_without_token(doors.by_http))
+    # (whoever finds the broker's socket finds that of HTTP, too: it is there sooner, and for longer)
+    for runner in await by_requests(args, keeping, doors.by_http, entrance):
+        ends.push_async_callback(runner.cleanup)
+    server = await service.start(keeping, doors.network, entrance)
+    ends.push_async_callback(server.stop, 0.5)
+    for runner in await web(args, keeping):
+        ends.push_async_callback(runner.cleanup)
+    return entrance
+
+
+def say_where(args: argparse.Namespace, read: Union[Bay, Lab], doors: Doors) -> None:
+    bay, where = whole_of(read), " ".join(doors.network.addresses) + (f", by HTTP at {' '.join(args.http)}" if args.http else "")
+    of = f"{counted(len(read.bays), 'bay')} ({', '.join(read.bays)}), " if isinstance(read, Lab) else ""
+    leads = "" if args.etcd is None else "leads: "
+    say(f"{leads}{called(bay.what, bay.name)}: {of}{counted(len(bay.instruments), 'instrument')}, at {where}")
 
 
 @contextlib.contextmanager

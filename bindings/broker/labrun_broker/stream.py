@@ -82,7 +82,9 @@ class Stream:
 
     async def asks_until(self, moment: Optional[float], **what: Any) -> tuple[str, Any]:
         """The same, but Silent soon after that moment, unless the broker says that it is there."""
-        span = None if moment is None else max(0.0, moment - asyncio.get_running_loop().time()) + LATE
+        if moment is None:
+            return await self.asks(**what)
+        span = max(0.0, moment - asyncio.get_running_loop().time()) + LATE
         asked = asyncio.create_task(self.asks(**what))
         asked.add_done_callback(lambda it: it.cancelled() or it.exception())
         try:

@@ -299,7 +299,7 @@ WRONG = {
         (("            elif why := await _why_not(channel):\n", "            elif channel.get_state() is FAILS and (why := await _why_not(channel)):\n"),),
     ),
     "a hold that asks before its broker has said a word": Wrong(
-        "test_leaving.Leaves.test_a_broker_that_has_said_nothing", "quick.py", (("            self.wire.is_answered()\n", ""),)
+        "test_leaving.Leaves.test_a_broker_that_has_said_nothing", "quick.py", (("        self.wire.is_answered()\n", ""),)
     ),
     "a hold that ends by a signal, and doesn't say that its session may come to hold": Wrong(
         "test_leaving.Leaves.test_another_signal_ends_it", "leaving.py", (("        if not is_told:\n", "        if False:\n"),)
