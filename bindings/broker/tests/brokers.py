@@ -4,6 +4,7 @@ from __future__ import annotations
 
 import contextlib
 import glob
+import json
 import os
 import random
 import re
@@ -155,6 +156,12 @@ class Broker:
     def started(self, *words: str) -> subprocess.Popen[str]:
         environment = {**os.environ, "LABRUN_BROKER": self.address}
         return subprocess.Popen([*COMMAND, *words], env=environment, stdout=subprocess.PIPE, stderr=subprocess.PIPE, text=True)
+
+
+def records(broker: Broker) -> list[dict[str, Any]]:
+    """Those that it has written by now. (Where the disk is slow an end is told before its record is written.)"""
+    with open(f"{broker.folder}/state/records.jsonl", encoding="utf-8") as file:
+        return [json.loads(line) for line in file if line.endswith("\n")]
 
 
 def is_stopped(process: int) -> bool:

@@ -21,7 +21,7 @@ from labrun_broker.keeping import Keeping
 from labrun_broker.past import read_past
 from labrun_broker.service import fault_of
 from labrun_broker.wishes import Ended, Wish
-from tests.brokers import BAY, COMMAND, LIMIT, Broker, OnBroker, station, until
+from tests.brokers import BAY, COMMAND, LIMIT, Broker, OnBroker, records, station, until
 from tests.test_keeping import TICKET, OnFolder, Owner, how
 
 
@@ -56,9 +56,8 @@ class State(OnBroker):
         held.release()
         thread.join(LIMIT)
         self.assertEqual(order, ["board", "radio"])
-        with open(f"{broker.folder}/state/records.jsonl", encoding="utf-8") as file:
-            what = [json.loads(line)["what"] for line in file if '"station":"board"' in line]
-        self.assertEqual(what, ["asked", "held", "let_go", "asked", "held", "note", "gone", "back", "note", "let_go"])
+        whats = ["asked", "held", "let_go", "asked", "held", "note", "gone", "back", "note", "let_go"]
+        until(lambda: [it["what"] for it in records(broker) if it["station"] == "board"] == whats, f"{whats}")
 
     def test_a_client_that_is_back_has_its_instruments_in_its_own_order(self) -> None:
         broker = self.broker(BAY, "--state", "FOLDER/state")
