@@ -461,7 +461,7 @@ class FullDisk(OnFolder):
                 self.assertGreater(time.monotonic() - begun, 0.9)
                 self.assertEqual((how(keeping, "board")["state"], whats(keeping, "board")), ("idle", ["asked", "failed"]))
                 self.assertIn(why, self.said[-1])
-                self.assertGreater(keeping.write_failures, 1)
+                await eventually(lambda: keeping.write_failures > 1, "it is tried again")
                 self.breaks("")
                 held = await keeping.hold(Wish(("scope",), station="radio", timeout=LIMIT), self.owner)
                 self.assertEqual(held.name, "radio")
