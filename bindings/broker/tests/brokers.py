@@ -82,8 +82,10 @@ def expires(certificate: str, key: str) -> None:
     subprocess.run(["openssl", "x509", "-in", certificate, "-signkey", key, "-days", "-1", "-out", certificate], check=True, capture_output=True)
 
 
-# the line of a `hold` that has waited for its first word for some seconds: on a busy machine any may have to
-UNHEARD = re.compile(r"^labrun-(?:broker|hold): there is no word from the broker at \S+; (?:labrun-)?hold keeps trying for (?:a while|\S+ s in all), and Ctrl-C ends that\n", re.M)
+# the lines of a `hold` that has waited for its first word for some seconds, and of one whose turn isn't on the disk a moment later: on a busy
+# machine any may have to
+_NO_WORD = r"there is no word from the broker at \S+; (?:labrun-)?hold keeps trying for (?:a while|\S+ s in all), and Ctrl-C ends that"
+UNHEARD = re.compile(rf"^labrun-(?:broker|hold): (?:{_NO_WORD}|waits: (?:in the bay \S+: )?it is this session's turn, and it holds once that is .*)\n", re.M)
 
 
 def heard(lines: Optional[IO[str]]) -> str:

@@ -292,12 +292,12 @@ def is_back(lab: Any, name: str) -> bool:
 
 
 def steady(count: Callable[[], int]) -> int:
-    """A number that grows, once it doesn't any more."""
-    last = -1
-    while (now := count()) != last:
-        last = now
+    """A number that grows, once it hasn't for three seconds: a busy machine may pause for one."""
+    last = [-1]
+    while len(set(last)) > 1 or len(last) < 4:
+        last = [*last[-3:], count()]
         time.sleep(1)
-    return last
+    return last[0]
 
 
 class Slow:

@@ -29,7 +29,7 @@ from labrun_broker.door import Door, Seldom, is_loopback
 from labrun_broker.service import Pace
 from labrun_broker.stream import Lost, Stream
 from labrun_broker.words import NoFile
-from tests.brokers import BAY, LIMIT, SOON, Broker, OnBroker, Turns, certificate, free_port, heard, records, station, stopped, until
+from tests.brokers import BAY, LIMIT, SOON, UNHEARD, Broker, OnBroker, Turns, certificate, free_port, heard, records, station, stopped, until
 
 HOLDS = """
 import sys, labrun_broker
@@ -549,7 +549,8 @@ class WhoIsLetIn(OnBroker):
         until(lambda: [it["state"] for it in lab.status()["stations"] if it["state"] != "idle"] == ["holding"] * 2, "both are back")
         with open(f"{folder}/ends", "w", encoding="ascii"):
             pass
-        self.assertEqual((*runs[0].communicate(timeout=LIMIT), runs[0].returncode), ("", "", 0))
+        out, said = runs[0].communicate(timeout=LIMIT)
+        self.assertEqual((out, UNHEARD.sub("", said), runs[0].returncode), ("", "", 0))
         lets_in("the new token of this bay")
         broker.end()
         broker.begin()
@@ -713,7 +714,8 @@ class Floods(OnBroker):
         with open(f"{broker.folder}/state/records.jsonl", encoding="utf-8") as file:
             self.assertLess(len(file.readlines()), 20)
         broker.end()
-        self.assertEqual(broker.said, "")
+        # (but perhaps that the disk is slow)
+        self.assertEqual([it for it in broker.said.splitlines() if "/bay.journal: " not in it], [])
 
     def test_no_question_is_asked_for_ever(self) -> None:
         """Whatever ends the stream each time: the question is given up after the grace, and the session goes on."""

@@ -17,7 +17,7 @@ from unittest import mock
 
 import labrun
 import labrun_broker
-from labrun_broker import records, shell
+from labrun_broker import aside, records, shell
 from labrun_broker.applying import apply
 from labrun_broker.keeping import Keeping
 from labrun_broker.past import read_past
@@ -248,6 +248,10 @@ class OnDisk(OnFolder):
 
 class Soon(OnFolder):
     """A record is in the file with the next turn of the loop."""
+
+    def setUp(self) -> None:
+        # (for whatever takes longer than a moment the loop doesn't wait, and on a busy machine any write may)
+        self.enterContext(mock.patch.object(aside, "MOMENT", LIMIT))
 
     def whats(self, folder: str) -> list[str]:
         with open(f"{folder}/records.jsonl", encoding="utf-8") as file:
