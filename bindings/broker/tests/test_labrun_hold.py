@@ -43,6 +43,12 @@ MINDS = "trap 'date +%s.%N > FOLDER/ended; exit 0' TERM; echo > FOLDER/begun; wh
 MINDS_SILENTLY = "exec 2> /dev/null; trap ': > FOLDER/ended; exit 0' TERM; : > FOLDER/begun; n=0; while [ $((n += 1)) -lt 1500 ]; do sleep 0.05; done"
 
 
+def untaken(broker: Broker) -> int:
+    """How many connections to its socket for HTTP a broker that is stopped hasn't taken."""
+    with open("/proc/net/unix", encoding="ascii", errors="replace") as file:
+        return sum(it[7:] == [f"{broker.folder}/bay.sock.http"] and it[5] == "02" for it in map(str.split, file))
+
+
 def fill(end: int) -> None:
     """Whoever writes to this end later has to wait."""
     os.set_blocking(end, False)
@@ -744,17 +750,19 @@ class Held(OnBroker):
             for it in (*its, waits):
                 self.assertRegex(self.ends(it, 69), f"^{nothing}$")
             # (also by Ctrl-C, and by a second one)
-            with self.waits(broker, "load-2", "--", "true") as asks:
-                assert asks.stderr is not None
-                # (so it has asked)
-                self.assertIn("there is no word from the broker", asks.stderr.readline())
+            before = untaken(broker)
+            with self.waits(broker, "load-2", "--quiet", "--", "true") as asks:
+                until(lambda: untaken(broker) > before, "it has asked")
+                time.sleep(1)
                 asks.send_signal(signal.SIGINT)
+                assert asks.stderr is not None
                 self.assertIn("and is told for some seconds", asks.stderr.readline())
                 asks.send_signal(signal.SIGINT)
                 self.assertEqual(asks.stderr.readline(), f"labrun-hold: the broker wasn't told, as far as is known here; {nothing.partition('; ')[2]}")
         one.lets_go(ticket)
         until(lambda: all(it["state"] == "idle" for it in one.ask("GET", "/v1/status")[1]["stations"]), "that nothing is held")
-        self.assertNotIn("gone", [it["what"] for it in records(broker)])
+        # (the one that holds asks nothing meanwhile)
+        self.assertNotIn("gone", [it["what"] for it in records(broker) if it["station"] != "radio"])
 
     def answers(self, *answers: bytes, name: str = "dies.sock", usual: str = "") -> str:
         """What it says at a broker that hears each request, and answers so; then there is none."""
