@@ -696,6 +696,7 @@ class FullDisk(OnFolder):
 
     async def test_an_end_with_room_again(self) -> None:
         """It is written yet, as the broker waits a while for that."""
+        self.enterContext(mock.patch.multiple(shell, DISK=LIMIT, CLOSING=LIMIT))
         keeping = await self.on_disk()
         board = await keeping.hold(Wish(("scope",), station="board"), self.owner)
         self.breaks("full")
