@@ -52,21 +52,24 @@ def until(is_so: Callable[[], Any], what: str = "it") -> Any:
     return found
 
 
-_ports, _dice = set[int](), random.Random()
+_dice = random.Random()
 
 
 def free_port() -> int:
-    """One that nobody has. It is below those that the kernel gives to whoever connects: so it is still free when it is bound."""
+    """One that nobody has. It is below those that the kernel gives to whoever connects, and no other process of these tests picks it as long as
+    this one lives: so it is still free when it is bound."""
     while True:
-        port = _dice.randrange(10000, 32768)
+        port, mark = _dice.randrange(10000, 32768), socket.socket(socket.AF_UNIX)
         with socket.socket() as one:
             try:
                 one.bind(("127.0.0.1", port))
+                mark.bind(f"\0labrun-tests-port-{port}")
             except OSError:
+                mark.close()
                 continue
-        if port not in _ports:
-            _ports.add(port)
-            return port
+        # (it stays open)
+        mark.detach()
+        return port
 
 
 def certificate(folder: str, name: str = "certificate", key: str = "key", of: str = "DNS:localhost") -> tuple[str, str]:
