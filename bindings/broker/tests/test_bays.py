@@ -12,7 +12,7 @@ from typing import Any, Optional
 from unittest import mock
 
 import labrun
-from labrun_broker import guarding, lab_applying
+from labrun_broker import aside, guarding, lab_applying
 from labrun_broker.bays import Bays
 from labrun_broker.entrance import Entrance, NotLetIn
 from labrun_broker.errors import BadWish, CantChange, NoInstrument, NotAllowed
@@ -101,6 +101,8 @@ class OnBays(unittest.IsolatedAsyncioTestCase):
 
 class Holds(OnBays):
     async def test_a_wish_goes_to_the_bay_that_has_it(self) -> None:
+        # (for what takes longer than a moment the loop doesn't wait, and on a busy machine any write may)
+        self.enterContext(mock.patch.object(aside, "MOMENT", LIMIT))
         bays = await self.bays()
         scope, oven = await self.holds(bays, "scope"), await self.holds(bays, "oven", station="heat")
         self.assertEqual((scope.home, oven.home), (bays.of["north"], bays.of["south"]))

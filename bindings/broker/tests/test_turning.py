@@ -310,9 +310,10 @@ class Ends(OnSmall):
 
         with mock.patch.object(FileStore, "anew", anew), mock.patch.object(shell, "CLOSING", 0.5):
             keeping = await self.small(folder, 100)
+            keeping._shell.pump()
+            await eventually(begun.is_set)
             async with asyncio.timeout(LIMIT / 2):
                 await keeping.close()
-            self.assertTrue(begun.is_set())
             with self.assertRaisesRegex(JournalError, "another process has it open"):
                 FileStore(f"{folder}/bay.journal")
             may.set()
