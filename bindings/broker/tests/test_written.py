@@ -447,6 +447,7 @@ class FullDisk(OnFolder):
 
         self.enterContext(mock.patch("os.pwrite", writes))
         self.enterContext(mock.patch("os.fdatasync", syncs))
+        self.enterContext(mock.patch("os.fsync", lambda file: None))
         self.enterContext(mock.patch.multiple(shell, AGAIN=0.005, LATEST=0.02, DISK=1.0))
 
     async def on_disk(self, bay: str = BAY, grace: float = 60.0) -> Keeping:
