@@ -16,6 +16,7 @@ from unittest import mock
 
 import labrun
 import labrun_broker
+from labrun_broker import aside
 from labrun_broker.bay import bay_of
 from labrun_broker.keeping import Keeping
 from labrun_broker.past import read_past
@@ -126,7 +127,9 @@ class State(OnBroker):
         broker = self.broker(BAY, "--state", "FOLDER/state", "--http", "unix:FOLDER/http.sock")
         lab, started = self.lab(broker), list[subprocess.Popen[str]]()
         waiting = lambda: next(it for it in lab.status()["instruments"] if it["name"] == "scope")
-        for words, is_so in ((("sleep", "60"), lambda: waiting()["holder"]), (("true",), lambda: waiting()["waiting"])):
+        # (the first has been told that it holds once its command runs)
+        runs = lambda: started[0].stdout and started[0].stdout.readline()
+        for words, is_so in ((("sh", "-c", "echo runs; exec sleep 60"), runs), (("true",), lambda: waiting()["waiting"])):
             started.append(broker.started("hold", "scope", "--", *words))
             self.addCleanup(started[-1].communicate)
             self.addCleanup(started[-1].kill)
@@ -147,8 +150,11 @@ class State(OnBroker):
         """Nobody comes back for it: an operator releases it."""
         broker = self.broker(BAY, "--state", "FOLDER/state")
         other = self.lab(broker)
-        holds = broker.started("hold", "scope", "--station", "board", "--", "sleep", "30")
-        until(lambda: station(other, "board")["state"] == "holding")
+        holds = broker.started("hold", "scope", "--station", "board", "--", "sh", "-c", "echo runs; exec sleep 30")
+        # (it has been told so)
+        assert holds.stdout is not None
+        self.assertEqual(holds.stdout.readline(), "runs\n")
+        self.assertEqual(station(other, "board")["state"], "holding")
         broker.kill()
         holds.kill()
         holds.communicate()
@@ -417,6 +423,10 @@ class Emptied(OnFolder):
 
 
 class TakenUp(OnFolder):
+    def setUp(self) -> None:
+        # (for what takes longer than a moment the loop doesn't wait, and on a busy machine any write may)
+        self.enterContext(mock.patch.object(aside, "MOMENT", LIMIT))
+
     async def test_what_was_told_and_what_was_not(self) -> None:
         """Two sessions hold when the broker ends. Of one nobody was told, and its client asks again; the other one's client comes back."""
         folder, copy, may = self.folder(), self.folder(), threading.Event()
