@@ -78,6 +78,8 @@ class OnBays(unittest.IsolatedAsyncioTestCase):
     async def asyncSetUp(self) -> None:
         # (on a busy machine the disk may not be quiet within a second)
         self.enterContext(mock.patch("labrun_broker.turning.QUIET", SOON))
+        # (for what takes longer than a moment the loop doesn't wait, and there any write may)
+        self.enterContext(mock.patch.object(aside, "MOMENT", LIMIT))
         self.folder = self.enterContext(tempfile.TemporaryDirectory())
         self.state = f"{self.folder}/state"
         self.owner = Owner()
@@ -101,8 +103,6 @@ class OnBays(unittest.IsolatedAsyncioTestCase):
 
 class Holds(OnBays):
     async def test_a_wish_goes_to_the_bay_that_has_it(self) -> None:
-        # (for what takes longer than a moment the loop doesn't wait, and on a busy machine any write may)
-        self.enterContext(mock.patch.object(aside, "MOMENT", LIMIT))
         bays = await self.bays()
         scope, oven = await self.holds(bays, "scope"), await self.holds(bays, "oven", station="heat")
         self.assertEqual((scope.home, oven.home), (bays.of["north"], bays.of["south"]))
