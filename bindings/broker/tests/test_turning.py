@@ -230,7 +230,8 @@ class Fails(OnSmall):
             keeping._shell.pump()
             waits = asyncio.create_task(keeping.hold(Wish(("supply",)), owner))
             await waits
-        self.assertEqual(fails, -1)
+            # (it is made once the disk is quiet)
+            await eventually(lambda: fails < 0)
         with self.assertRaisesRegex(JournalError, "another process has it open"):
             FileStore(f"{folder}/bay.journal")
         await keeping.close()
