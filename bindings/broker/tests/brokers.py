@@ -4,6 +4,7 @@ from __future__ import annotations
 
 import contextlib
 import glob
+import json
 import os
 import random
 import re
@@ -51,21 +52,24 @@ def until(is_so: Callable[[], Any], what: str = "it") -> Any:
     return found
 
 
-_ports, _dice = set[int](), random.Random()
+_dice = random.Random()
 
 
 def free_port() -> int:
-    """One that nobody has. It is below those that the kernel gives to whoever connects: so it is still free when it is bound."""
+    """One that nobody has. It is below those that the kernel gives to whoever connects, and no other process of these tests picks it as long as
+    this one lives: so it is still free when it is bound."""
     while True:
-        port = _dice.randrange(10000, 32768)
+        port, mark = _dice.randrange(10000, 32768), socket.socket(socket.AF_UNIX)
         with socket.socket() as one:
             try:
                 one.bind(("127.0.0.1", port))
+                mark.bind(f"\0labrun-tests-port-{port}")
             except OSError:
+                mark.close()
                 continue
-        if port not in _ports:
-            _ports.add(port)
-            return port
+        # (it stays open)
+        mark.detach()
+        return port
 
 
 def certificate(folder: str, name: str = "certificate", key: str = "key", of: str = "DNS:localhost") -> tuple[str, str]:
@@ -81,8 +85,10 @@ def expires(certificate: str, key: str) -> None:
     subprocess.run(["openssl", "x509", "-in", certificate, "-signkey", key, "-days", "-1", "-out", certificate], check=True, capture_output=True)
 
 
-# the line of a `hold` that has waited for its first word for some seconds: on a busy machine any may have to
-UNHEARD = re.compile(r"^labrun-(?:broker|hold): there is no word from the broker at \S+; (?:labrun-)?hold keeps trying for (?:a while|\S+ s in all), and Ctrl-C ends that\n", re.M)
+# the lines of a `hold` that has waited for its first word for some seconds, and of one whose turn isn't on the disk a moment later: on a busy
+# machine any may have to
+_NO_WORD = r"there is no word from the broker at \S+; (?:labrun-)?hold keeps trying for (?:a while|\S+ s in all), and Ctrl-C ends that"
+UNHEARD = re.compile(rf"^labrun-(?:broker|hold): (?:{_NO_WORD}|waits: (?:in the bay \S+: )?it is this session's turn, and it holds once that is .*)\n", re.M)
 
 
 def heard(lines: Optional[IO[str]]) -> str:
@@ -155,6 +161,12 @@ class Broker:
     def started(self, *words: str) -> subprocess.Popen[str]:
         environment = {**os.environ, "LABRUN_BROKER": self.address}
         return subprocess.Popen([*COMMAND, *words], env=environment, stdout=subprocess.PIPE, stderr=subprocess.PIPE, text=True)
+
+
+def records(broker: Broker) -> list[dict[str, Any]]:
+    """Those that it has written by now. (Where the disk is slow an end is told before its record is written.)"""
+    with open(f"{broker.folder}/state/records.jsonl", encoding="utf-8") as file:
+        return [json.loads(line) for line in file if line.endswith("\n")]
 
 
 def is_stopped(process: int) -> bool:

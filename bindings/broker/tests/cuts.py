@@ -130,7 +130,8 @@ def cuts(times: int, seed: int, grace: float = GRACE, at_once: int = AT_ONCE, se
             list(pool.map(tries, range(times)))
         broker.end()
         gone = tuple(f" with {it} was taken away by the broker, because its client was gone for {grace:g} s" for it in names)
-        said = [line for line in broker.said.splitlines() if not line.endswith(gone)]
+        # (it may say that the disk is slow)
+        said = [line for line in broker.said.splitlines() if not line.endswith(gone) and "/bay.journal: " not in line]
         wrong = [line for trial in trials for line in trial.wrong] + said
     counts: collections.Counter[str] = sum((trial.counts for trial in trials), collections.Counter())
     return {"wrong": wrong, "counts": dict(counts), "late": max(trial.late for trial in trials)}

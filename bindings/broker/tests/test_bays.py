@@ -9,9 +9,10 @@ import tempfile
 import unittest
 from types import SimpleNamespace
 from typing import Any, Optional
+from unittest import mock
 
 import labrun
-from labrun_broker import guarding, lab_applying
+from labrun_broker import aside, guarding, lab_applying
 from labrun_broker.bays import Bays
 from labrun_broker.entrance import Entrance, NotLetIn
 from labrun_broker.errors import BadWish, CantChange, NoInstrument, NotAllowed
@@ -22,7 +23,7 @@ from labrun_broker.people import digest_of
 from labrun_broker.standing import Session
 from labrun_broker.wishes import Ended, Wish
 from tests import asking
-from tests.brokers import LIMIT, TOP
+from tests.brokers import LIMIT, SOON, TOP
 
 NORTH = """
 bay = "north"
@@ -75,6 +76,10 @@ class Owner:
 
 class OnBays(unittest.IsolatedAsyncioTestCase):
     async def asyncSetUp(self) -> None:
+        # (on a busy machine the disk may not be quiet within a second)
+        self.enterContext(mock.patch("labrun_broker.turning.QUIET", SOON))
+        # (for what takes longer than a moment the loop doesn't wait, and there any write may)
+        self.enterContext(mock.patch.object(aside, "MOMENT", LIMIT))
         self.folder = self.enterContext(tempfile.TemporaryDirectory())
         self.state = f"{self.folder}/state"
         self.owner = Owner()
@@ -88,7 +93,7 @@ class OnBays(unittest.IsolatedAsyncioTestCase):
         return bays
 
     async def holds(self, bays: Bays, *instruments: str, **more: Any) -> Session:
-        return await asyncio.wait_for(bays.hold(Wish(instruments, **more), self.owner), 10)
+        return await asyncio.wait_for(bays.hold(Wish(instruments, **more), self.owner), LIMIT)
 
     async def asks(self, bays: Bays, *instruments: str, **more: Any) -> "asyncio.Task[Session]":
         task = asyncio.create_task(bays.hold(Wish(instruments, **more), self.owner))
@@ -123,7 +128,7 @@ class Holds(OnBays):
     async def test_what_is_of_two_bays_is_had_of_both(self) -> None:
         bays = await self.bays(state=False)
         for wish, held in ((Wish(("scope", "oven")), ("scope", "oven")), (Wish(("load-*",)), ("load-1",)), (Wish(any_of=(("supply",), ("oven",))), ("supply",))):
-            session = await asyncio.wait_for(bays.hold(wish, self.owner), 10)
+            session = await asyncio.wait_for(bays.hold(wish, self.owner), LIMIT)
             self.assertEqual(session.instruments, held)
             await bays.let_go(session, self.owner)
 
@@ -184,7 +189,7 @@ class Holds(OnBays):
         waits = await self.asks(bays, "scope", ticket=TICKET)
         await self.holds(bays, "oven", ticket=TICKET)
         with self.assertRaises(Ended):
-            await asyncio.wait_for(waits, 10)
+            await asyncio.wait_for(waits, LIMIT)
         self.assertEqual(len(bays.of["north"].by_number), 1)
 
 
@@ -342,7 +347,7 @@ class LooksAfter(OnBays):
         seen = asyncio.ensure_future(anext(changes))
         await asyncio.sleep(0)
         await self.holds(bays, "oven")
-        await asyncio.wait_for(seen, 10)
+        await asyncio.wait_for(seen, LIMIT)
         self.assertEqual([(it["bay"], it["what"]) for it in bays.history if it["what"] != "opened"], [("south", "asked"), ("south", "held")])
         await bays.close()
         again = await self.bays()
@@ -355,10 +360,10 @@ class LooksAfter(OnBays):
         self.assertIsNone(guarding.why_not(bays, SimpleNamespace(instruments=["scope", "oven"])))
         self.assertIn("no instrument oevn", guarding.why_not(bays, SimpleNamespace(instruments=["oevn"])) or "")
         told = guarding.holders(bays, ("scope", "oven"))
-        first = await asyncio.wait_for(anext(told), 10)
+        first = await asyncio.wait_for(anext(told), LIMIT)
         self.assertEqual([(it.instrument, it.station) for it in first.holders], [("scope", "guest-1"), ("oven", "heat")])
         await bays.let_go(oven, self.owner)
-        after = await asyncio.wait_for(anext(told), 10)
+        after = await asyncio.wait_for(anext(told), LIMIT)
         self.assertEqual([(it.instrument, it.token) for it in after.holders], [("oven", 0)])
         await told.aclose()  # type: ignore[attr-defined]
         self.assertIs(bays.with_all(["oven", "load-2"]), bays.of["south"])
@@ -371,7 +376,7 @@ class LooksAfter(OnBays):
         self.assertEqual(scope.token, oven.token)
         scope.since -= 7000
         told = guarding.holders(bays, ("scope", "oven"))
-        first = await asyncio.wait_for(anext(told), 10)
+        first = await asyncio.wait_for(anext(told), LIMIT)
         its = {it.instrument: it.held_us / 1e6 for it in first.holders}
         # (it came to hold before the other one did, by milliseconds that each bay rounds by itself)
         self.assertGreater(its["scope"] - its["oven"], 6.99)

@@ -239,7 +239,7 @@ class MadeSafe(OnPair):
         command.ends(0, 0)
         until(lambda: any(b" end " in it for it in self.values("journal/").values()), "its end is in etcd")
         self.kills(0)
-        self.assertEqual(self.ran("hold", "scope", "--timeout", "9", "--", "echo", "held").stdout, "held\n")
+        self.assertEqual(self.ran("hold", "scope", "--timeout", f"{LIMIT:g}", "--", "echo", "held").stdout, "held\n")
         self.assertEqual([it[2] for it in command.begun() if it[2] == "board"], ["board"])
 
     def test_out_of_order(self) -> None:

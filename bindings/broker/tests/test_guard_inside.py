@@ -273,10 +273,10 @@ class Between(Inside):
         guard.told(holder(1))
         client, ends = await self.through(1), await self.client()
         self.assertEqual(await client.asks("abc"), "1")
-        answer = asyncio.create_task(ends.asks(f"labrun {TICKETS[1]} ends 1000"))
-        self.assertFalse((await asyncio.wait({answer}, timeout=0.5))[0])
-        client.writer.close()
-        async with asyncio.timeout(2):
+        with mock.patch.object(guards, "PATIENCE", 2 * LIMIT):
+            answer = asyncio.create_task(ends.asks(f"labrun {TICKETS[1]} ends 1000"))
+            self.assertFalse((await asyncio.wait({answer}, timeout=0.5))[0])
+            client.writer.close()
             self.assertEqual(await answer, "ok")
 
     async def test_numbers(self) -> None:

@@ -169,7 +169,7 @@ class HearsLate(Inside):
 
     async def test_the_session_has_ended(self) -> None:
         """The guard hasn't heard that, nor of the next, whose client comes: that one waits, and isn't cut once it has."""
-        await self.begins((2, 2 * APART))
+        await self.begins((2, LIMIT))
         self.told(1)
         answer = await self.asking(client := await self.client())
         await asyncio.sleep(0.5)
@@ -190,7 +190,7 @@ class HearsLate(Inside):
         self.assertEqual(self.said, ["scope: a connection from 127.0.0.1 came before the session of guest-2 began, and isn't let through"])
 
     async def test_it_came_before_the_guard_had_heard(self) -> None:
-        await self.begins((2, 2 * APART))
+        await self.begins((2, LIMIT))
         answer = await self.asking(await self.client())
         await asyncio.sleep(APART)
         self.told(2)

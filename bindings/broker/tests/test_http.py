@@ -32,7 +32,7 @@ from labrun_broker.keeping import Keeping
 from labrun_broker.visits import WAITING, Visits
 from labrun_broker.wishes import Ended, Wish, owner_of
 from tests.asking import KINDS, OPENAPI, Asking, found
-from tests.brokers import BAY, LIMIT, SOON, TOP, Broker, OnBroker, Turns, free_port, station, until
+from tests.brokers import BAY, LIMIT, SOON, TOP, Broker, OnBroker, Turns, free_port, records, station, until
 
 SOCKET = ("--http", "unix:FOLDER/bay.sock.http")
 RELEASES = f'gone = "release"\n{BAY}'
@@ -210,9 +210,8 @@ class Sessions(OnHttp):
     def test_work_that_failed(self) -> None:
         broker, one = self.http(BAY, "--state", "FOLDER/state")
         one.lets_go(one.holds("scope", station="board"), failed="smoke")
-        with open(f"{broker.folder}/state/records.jsonl", encoding="utf-8") as file:
-            records = [json.loads(it) for it in file]
-        self.assertEqual([(it["what"], it["text"]) for it in records if it["station"] == "board"][-1], ("failed", "smoke"))
+        its = lambda: [(it["what"], it["text"]) for it in records(broker) if it["station"] == "board"]
+        until(lambda: its()[-1] == ("failed", "smoke"), "that it failed")
 
     def test_who_asks_again_keeps_its_place(self) -> None:
         """It sends the same wish once more, because no answer came. Another wish with the ticket takes the place of the first

@@ -21,7 +21,7 @@ from labrun_broker.places import Places, places_of
 from labrun_broker.standing import Standings
 from labrun_broker.wishes import Ended, Wish
 from tests.brokers import BAY, LIMIT, OnBroker, until
-from tests.test_keeping import TICKET, OnFolder, Owner, eventually, how
+from tests.test_keeping import TICKET, OnQuiet, Owner, eventually, how
 
 # of a bay that keeps: both loads, and whoever is the radio, let go
 MIXED = BAY + 'gone = "keep"\n[instrument_gone]\nload-1 = "release"\nload-2 = "release"\n[station_gone]\nradio = "release"\n'
@@ -89,7 +89,7 @@ class Words(unittest.TestCase):
                 bay_of(text)
 
 
-class Sessions(OnFolder):
+class Sessions(OnQuiet):
     async def opened(self, bay: str, folder: Optional[str] = None, grace: float = 0.2) -> Keeping:
         keeping = Keeping(bay_of(bay), folder, grace)
         await keeping.open()

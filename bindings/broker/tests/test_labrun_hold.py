@@ -20,7 +20,7 @@ from importlib.util import find_spec
 
 import labrun_broker
 from tests.asking import Asking
-from tests.brokers import BAY, COMMAND, IGNORED, IGNORES, LIMIT, SOON, TOP, UNHEARD, Broker, OnBroker, Turns, broker, free_port, heard, is_stopped, station, stopped, until
+from tests.brokers import BAY, COMMAND, IGNORED, IGNORES, LIMIT, SOON, TOP, UNHEARD, Broker, OnBroker, Turns, broker, free_port, heard, is_stopped, records, station, stopped, until
 from tests.proxies import OfSockets, Ways
 from tests.test_people import ANA, BOB, PEOPLE, WITHOUT_BOB
 from tests.test_warned import LONG, SOONER, THEN
@@ -41,6 +41,12 @@ sys.exit(command.main())
 MINDS = "trap 'date +%s.%N > FOLDER/ended; exit 0' TERM; echo > FOLDER/begun; while :; do sleep 0.05; done"
 # the same, and it writes nothing, and ends by itself some day
 MINDS_SILENTLY = "exec 2> /dev/null; trap ': > FOLDER/ended; exit 0' TERM; : > FOLDER/begun; n=0; while [ $((n += 1)) -lt 1500 ]; do sleep 0.05; done"
+
+
+def untaken(broker: Broker) -> int:
+    """How many connections to its socket for HTTP a broker that is stopped hasn't taken."""
+    with open("/proc/net/unix", encoding="ascii", errors="replace") as file:
+        return sum(it[7:] == [f"{broker.folder}/bay.sock.http"] and it[5] == "02" for it in map(str.split, file))
 
 
 def fill(end: int) -> None:
@@ -95,10 +101,9 @@ class Held(OnBroker):
         held, station, token, around = ran.stdout.strip().split("|")
         self.assertEqual((ran.returncode, held, station, token, ran.stderr), (3, "scope supply", "board", "1", ""))
         self.assertEqual(around.split("\t")[1:], [broker.address, "board", "scope", "supply"])
-        with open(f"{broker.folder}/state/records.jsonl", encoding="utf-8") as file:
-            records = [json.loads(it) for it in file]
-        self.assertEqual([(it["what"], it["text"]) for it in records if it["what"] in ("held", "failed", "let_go")], [("held", ""), ("failed", "status 3")])
-        self.assertRegex(records[1]["by"], r"^ann@\S+ \d+ sh$")
+        its = lambda: [it for it in records(broker) if it["what"] in ("held", "failed", "let_go")]
+        until(lambda: [(it["what"], it["text"]) for it in its()] == [("held", ""), ("failed", "status 3")], "what is recorded")
+        self.assertRegex(its()[0]["by"], r"^ann@\S+ \d+ sh$")
 
     def test_a_broker_that_has_forgotten_it_as_the_command_ends(self) -> None:
         broker, _ = self.at()
@@ -115,9 +120,7 @@ class Held(OnBroker):
         broker, _ = self.at(BAY, "--state", "FOLDER/state")
         for words in (("scope", "--urgent"), ("scope",)):
             self.assertEqual(self.ran(broker, *words, "--", "true").returncode, 0)
-        with open(f"{broker.folder}/state/records.jsonl", encoding="utf-8") as file:
-            records = [json.loads(it) for it in file]
-        self.assertEqual([it.get("urgent", False) for it in records if it["what"] == "asked"], [True, False])
+        until(lambda: [it.get("urgent", False) for it in records(broker) if it["what"] == "asked"] == [True, False], "what is recorded")
 
     def test_it_is_warned(self) -> None:
         """Once, as `labrun-broker hold` is; and its command goes on."""
@@ -128,7 +131,7 @@ class Held(OnBroker):
         one = self.started(broker, "scope", "--station", "board", "--", "sh", "-c", "echo > FOLDER/begun; until [ -e FOLDER/go ]; do sleep 0.05; done")
         assert one.stderr is not None
         self.assertTrue(select.select([one.stderr], [], [], LIMIT)[0], "it says something")
-        self.assertRegex(one.stderr.readline(), f"^labrun-hold: board may hold scope for 1 min 0 s, which is over in [0-9]+ s: {THEN}\n$")
+        self.assertRegex(heard(one.stderr), f"^labrun-hold: board may hold scope for 1 min 0 s, which is over in [0-9]+ s: {THEN}\n$")
         time.sleep(1)
         with open(f"{broker.folder}/go", "w", encoding="ascii"):
             pass
@@ -642,8 +645,7 @@ class Held(OnBroker):
         broker.kill()
         with open(f"{broker.folder}/end", "w", encoding="utf-8"):
             pass
-        assert runs.stderr is not None
-        self.assertIn("the broker hasn't answered yet; labrun-hold keeps trying to tell it, and Ctrl-C ends that", runs.stderr.readline())
+        self.assertIn("the broker hasn't answered yet; labrun-hold keeps trying to tell it, and Ctrl-C ends that", heard(runs.stderr))
         broker.begin()
         back = time.monotonic()
         self.ends(runs, 0)
@@ -717,8 +719,7 @@ class Held(OnBroker):
                     hold.wait(LIMIT)
                 until(lambda: one.status("radio")["state"] == "idle", "that who held has let go")
                 self.assertEqual(one.asks("scope", wait=20)[0], 200)
-                with open(f"{broker.folder}/state/records.jsonl", encoding="utf-8") as file:
-                    its = [record["what"] for record in map(json.loads, file) if record["station"] == "guest-1" and record["by"] and "ann" in record["by"]]
+                its = [record["what"] for record in records(broker) if record["station"] == "guest-1" and record["by"] and "ann" in record["by"]]
                 self.assertNotIn("gone", its)
                 if not waits:
                     self.assertEqual(its, [])
@@ -749,7 +750,9 @@ class Held(OnBroker):
             for it in (*its, waits):
                 self.assertRegex(self.ends(it, 69), f"^{nothing}$")
             # (also by Ctrl-C, and by a second one)
+            before = untaken(broker)
             with self.waits(broker, "load-2", "--quiet", "--", "true") as asks:
+                until(lambda: untaken(broker) > before, "it has asked")
                 time.sleep(1)
                 asks.send_signal(signal.SIGINT)
                 assert asks.stderr is not None
@@ -758,8 +761,8 @@ class Held(OnBroker):
                 self.assertEqual(asks.stderr.readline(), f"labrun-hold: the broker wasn't told, as far as is known here; {nothing.partition('; ')[2]}")
         one.lets_go(ticket)
         until(lambda: all(it["state"] == "idle" for it in one.ask("GET", "/v1/status")[1]["stations"]), "that nothing is held")
-        with open(f"{broker.folder}/state/records.jsonl", encoding="utf-8") as file:
-            self.assertNotIn("gone", [it["what"] for it in map(json.loads, file)])
+        # (the one that holds asks nothing meanwhile)
+        self.assertNotIn("gone", [it["what"] for it in records(broker) if it["station"] != "radio"])
 
     def answers(self, *answers: bytes, name: str = "dies.sock", usual: str = "") -> str:
         """What it says at a broker that hears each request, and answers so; then there is none."""

@@ -185,6 +185,8 @@ class OverBays(OnCrossings):
                 shutil.rmtree(self.state)
 
     async def test_a_limit_counts_from_when_it_was_told_over_a_restart(self) -> None:
+        # (how long the disk takes would count)
+        self.enterContext(mock.patch("os.fdatasync", lambda file: None))
         bays = await self.bays()
         oven = await self.holds(bays, "oven", station="heat")
         task, _ = await self.waits(bays, "south", "scope", "oven", ticket=TICKET, limit=2.0)

@@ -24,7 +24,7 @@ from labrun_broker.standing import Standings
 from labrun_broker.telling import lines_of
 from labrun_broker.wishes import Ended, Wish
 from tests.brokers import BAY, COMMAND, LIMIT, SOON, OnBroker, until
-from tests.test_keeping import TICKET, OnFolder, Owner, eventually, how, whats
+from tests.test_keeping import TICKET, OnQuiet, Owner, eventually, how, whats
 
 OTHER = "the ticket of another one"
 # it notes that it began, and ends once there is a file `ended`, with the status that stands in that
@@ -61,7 +61,7 @@ class Files(unittest.TestCase):
                 bay_of(text)
 
 
-class OnScript(OnFolder):
+class OnScript(OnQuiet):
     """The scope has a command that ends when a test says so."""
 
     async def asyncSetUp(self) -> None:

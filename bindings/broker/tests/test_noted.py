@@ -31,7 +31,13 @@ TICKET = "t" * 43
 
 def noted(broker: Broker, bay: str = "") -> "list[str]":
     with open(f"{broker.folder}/state/{bay}records.jsonl", encoding="utf-8") as file:
-        return [it["text"] for it in map(json.loads, file) if it["what"] == "note"]
+        its = [json.loads(line) for line in file if line.endswith("\n")]
+    return [it["text"] for it in its if it["what"] == "note"]
+
+
+def are_noted(broker: Broker, texts: "list[str]", bay: str = "") -> None:
+    """(Where a write takes its time a note is answered before its record is written.)"""
+    until(lambda: noted(broker, bay) == texts, f"{texts}, and no others, are noted")
 
 
 class Talk:
@@ -69,11 +75,11 @@ class OfProtocol(OnBroker):
         for text, number in (("c", 8), ("d", 9), ("d", 10)):
             self.assertEqual(other.notes(text, number), "noted")
         self.assertEqual(other.says(let_go=pb.LetGo()), "gone")
-        self.assertEqual(noted(broker), ["a", "b", "b", "c", "d", "d"])
+        are_noted(broker, ["a", "b", "b", "c", "d", "d"])
         # (of another session it is another one)
         self.assertEqual(other.says(wish=pb.Wish(instruments=["scope"])), "held")
         self.assertEqual([other.notes("e", 10), other.says(let_go=pb.LetGo())], ["noted", "gone"])
-        self.assertEqual(noted(broker)[-1], "e")
+        until(lambda: noted(broker)[-1] == "e", "it is noted")
         for it in (first, other):
             it.ends()
 
@@ -83,7 +89,7 @@ class OfProtocol(OnBroker):
         talk.says(wish=pb.Wish(instruments=["scope"]))
         self.assertEqual([talk.notes("x" * 501, 1), talk.notes("x" * 501, 1), talk.notes("x", 1)], ["BadWish", "BadWish", "noted"])
         talk.ends()
-        self.assertEqual(noted(broker), ["x"])
+        are_noted(broker, ["x"])
 
     def test_after_a_restart(self) -> None:
         """The numbers are forgotten: a note whose answer was lost then may be there twice, and none is missing."""
@@ -97,7 +103,7 @@ class OfProtocol(OnBroker):
         self.assertEqual(other.says(wish=pb.Wish(ticket=TICKET, comes_back=True)), "held")
         self.assertEqual([other.notes("a", 1), other.notes("b", 2), other.notes("b", 2)], ["noted"] * 3)
         other.ends()
-        self.assertEqual(noted(broker), ["a", "a", "b"])
+        are_noted(broker, ["a", "a", "b"])
 
 
 class Clients(OnBroker):
@@ -123,7 +129,7 @@ class Clients(OnBroker):
         with self.lab(broker).hold("scope", timeout=LIMIT) as held, self.loses():
             asyncio.run(held.note_async("n3"))
             held.note("n3")
-        self.assertEqual(noted(broker), ["n0", "n1", "n2", "n3", "n3"])
+        are_noted(broker, ["n0", "n1", "n2", "n3", "n3"])
 
     def test_over_several_bays(self) -> None:
         with tempfile.TemporaryDirectory() as folder:
@@ -133,7 +139,7 @@ class Clients(OnBroker):
             with broker.lab() as lab, lab.hold("scope", "oven", timeout=LIMIT) as held, self.loses():
                 held.note("n0")
                 held.note("n1")
-            self.assertEqual(noted(broker, "north/"), ["n0", "n1"])
+            are_noted(broker, ["n0", "n1"], "north/")
             broker.end()
 
     def test_a_broker_that_is_stopped(self) -> None:
@@ -166,7 +172,7 @@ class Clients(OnBroker):
             finally:
                 over.set()
                 thread.join(LIMIT)
-        self.assertEqual(noted(broker), texts)
+        are_noted(broker, texts)
 
 
 @unittest.skipUnless(find_spec("aiohttp"), "there is no aiohttp")
@@ -177,7 +183,7 @@ class ByHttp(OnBroker):
         ticket = one.holds("scope", station="board")
         for it in ({"text": "a", "number": 1}, {"text": "a", "number": 1}, {"text": "b"}, {"text": "b"}, {"text": "c", "number": 2}):
             self.assertEqual(one.of(ticket, "/notes", "POST", it)[0], 200)
-        self.assertEqual(noted(broker), ["a", "b", "b", "c"])
+        are_noted(broker, ["a", "b", "b", "c"])
         self.assertEqual(station(self.lab(broker), "board")["note"], "c")
         status, told = one.of(ticket, "/notes", "POST", {"text": "d", "number": -1})
         self.assertEqual((status, told["kind"], told["text"]), (400, "BadWish", "number: a whole number is wanted"))

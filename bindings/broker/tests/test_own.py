@@ -9,9 +9,12 @@ import os
 import tempfile
 import unittest
 from typing import Any
+from unittest import mock
 
+from labrun_broker import aside
 from labrun_broker.own import Known, Own
 from labrun_broker.sessions import HOLDS, UNKNOWN, Past
+from tests.brokers import LIMIT
 from tests.test_past import START, past_of, ran, record
 
 Records = list[dict[str, Any]]
@@ -99,6 +102,8 @@ class Lacks(unittest.TestCase):
 
 class Files(unittest.IsolatedAsyncioTestCase):
     def setUp(self) -> None:
+        # (for what takes longer than a moment the loop doesn't wait, and on a busy machine any write may)
+        self.enterContext(mock.patch.object(aside, "MOMENT", LIMIT))
         self.folder = self.enterContext(tempfile.TemporaryDirectory())
 
     def lines(self) -> list[tuple[Any, Any]]:

@@ -38,7 +38,7 @@ from labrun_broker.users import Users
 from labrun_broker.wishes import Wish, resolved
 from tests.asking import Asking
 from tests.brokers import BAY, LIMIT, Broker, OnBroker, free_port, station, until
-from tests.test_keeping import TICKET, OnFolder, Owner, how
+from tests.test_keeping import TICKET, OnQuiet, Owner, how
 
 ANA, BOB, BOBS_NEW, EVE = "a" * 64, "b" * 64, "c" * 64, "e" * 64
 
@@ -133,7 +133,7 @@ jon = {{unix = "ana", may = ["load-9*", "tag:small", "2 of load-*"]}}\nkim = {{u
         self.assertEqual(list(people.changes(before, after)), [*told, "person bob: may ask for scope supply, instead of load-* supply (for whoever asks from now on)"])
 
 
-class Rights(OnFolder):
+class Rights(OnQuiet):
     async def test_who_may_ask_for_what(self) -> None:
         keeping, owner = await self.keeping(self.folder(), PEOPLE), Owner()
         held = await keeping.hold(Wish(("load-1", "supply"), person="bob", by="bob@bench-3 4711 sh"), owner)
@@ -233,7 +233,7 @@ class Rights(OnFolder):
         self.assertEqual((held.person, held.by), ("bob", "bob: ana: sh"))
 
 
-class Doors(OnFolder):
+class Doors(OnQuiet):
     async def entrance(self, bay: str, token: Optional[str] = None, seen: Optional[str] = None) -> Entrance:
         return Entrance(await self.keeping(self.folder(), bay), () if token is None else (token,), seen)
 

@@ -18,7 +18,7 @@ from labrun_broker import quick, run
 from labrun_broker.command import main
 from labrun_broker.quick import HELD
 from labrun_broker.wire import Odd, Wire, _number, field, fields_of, text_field
-from tests.brokers import BAY, LIMIT, SOON, UNHEARD, Broker, OnBroker, heard, station, stopped, until
+from tests.brokers import BAY, LIMIT, SOON, UNHEARD, Broker, OnBroker, heard, records, station, stopped, until
 
 RELEASES = BAY.replace('bay = "north"', 'bay = "north"\ngone = "release"')
 
@@ -29,8 +29,7 @@ class Quick(OnBroker):
             return str(station(lab, name)["state"])
 
     def records(self, broker: Broker) -> list[str]:
-        with open(f"{broker.folder}/state/records.jsonl", encoding="utf-8") as file:
-            return [line.partition('"what":"')[2].partition('"')[0] for line in file]
+        return [it["what"] for it in records(broker)]
 
     def holds(self, broker: Broker, script: str) -> "subprocess.Popen[str]":
         """A hold whose command has begun, and goes on once `go` is there."""
@@ -126,7 +125,7 @@ class Quick(OnBroker):
                 until(lambda: self.state(broker) == "holding", "that it is back")
                 self.ends(broker, runs, 5)
                 self.assertEqual(self.state(broker), "idle")
-                self.assertEqual(self.records(broker)[-2:], ["back", "failed"])
+                until(lambda: self.records(broker)[-2:] == ["back", "failed"], "that it came back and failed")  # noqa: B023
 
     def test_a_broker_that_is_killed_while_it_waits(self) -> None:
         broker = self.broker(BAY, "--state", "FOLDER/state")
@@ -236,13 +235,13 @@ class Quick(OnBroker):
             runs = broker.started("hold", "scope", "--broker", address, "--", "sh", "-c", f"kill -KILL {broker.process.pid}; exit 4")
             self.addCleanup(runs.kill)
             assert runs.stderr is not None
-            self.assertIn("hold keeps trying to tell it, and Ctrl-C ends that\n", runs.stderr.readline())
+            self.assertIn("hold keeps trying to tell it, and Ctrl-C ends that\n", heard(runs.stderr))
             # (by then it looks for another one)
             time.sleep(1)
             began = time.monotonic()
             runs.send_signal(signal.SIGINT)
             said = runs.communicate(timeout=LIMIT)[1]
-            self.assertLess(time.monotonic() - began, 4)
+            self.assertLess(time.monotonic() - began, SOON)
             self.assertRegex(said, rf"^labrun-broker: the broker wasn't told, .* until it is released by `labrun-broker release guest-1 --session {number}\b.*`\n$")
             self.assertEqual(runs.returncode, 4)
             broker.end()
@@ -325,7 +324,7 @@ class Quick(OnBroker):
         broker = self.broker(BAY, "--state", "FOLDER/state")
         runs = self.holds(broker, "exit 0")
         self.assertEqual(broker.ran("hold", "scope", "--timeout", "0.3", "--", "true").returncode, 75)
-        self.assertEqual(self.records(broker), ["opened", "asked", "held", "asked", "gave_up"])
+        until(lambda: self.records(broker) == ["opened", "asked", "held", "asked", "gave_up"], "that it has asked once")
         self.ends(broker, runs, 0)
 
     def test_a_signal_as_it_comes_to_hold(self) -> None:
@@ -354,7 +353,7 @@ class Quick(OnBroker):
         with mock.patch.object(Wire, "told", is_cut):
             self.assertEqual(main(["hold", "scope", "--broker", broker.address, "--", "true"]), 0)
         self.assertEqual(self.state(broker), "idle")
-        self.assertEqual([it for it in self.records(broker) if it not in ("gone", "back")], ["opened", "asked", "held", "let_go"])
+        until(lambda: [it for it in self.records(broker) if it not in ("gone", "back")] == ["opened", "asked", "held", "let_go"], "that it let go")
 
     def test_what_is_refused(self) -> None:
         broker = self.broker(BAY + "[limits]\nclients = 1\n")

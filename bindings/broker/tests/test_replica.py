@@ -208,9 +208,7 @@ class Deposed(Brokers):
 
         with mock.patch.object(first.leading.etcd, "txn", full), mock.patch("labrun_broker.service.FIRST_WORD", 1.0):
             await Client(first.keeping, context)._wish(pb.Wish(instruments=["scope"], timeout=0.5, wants_waits=True))
-            async with asyncio.timeout(10):
-                while not (told and told[-1].HasField("fault")):
-                    await asyncio.sleep(0.05)
+            await eventually(lambda: told and told[-1].HasField("fault"))
         self.assertEqual(told[-1].fault.kind, "JournalError")
         self.assertEqual([it.waits.text for it in told[:-1] if "once that is in etcd" not in it.waits.text], [])
         self.assertGreater(len(told), 1)
@@ -365,29 +363,32 @@ class Next(Brokers):
             asks += 1
             raise NoAnswer(f"member {asks}: no route")
 
-        self.enterContext(mock.patch.object(leading, "LATE", 1.0))
         tries = asyncio.create_task(asyncio.to_thread(second.leading.leads, second.said.append))
-        await asyncio.sleep(0.6)
-        leads = "stands by: first leads"
-        for seconds, more in ((0.5, []), (3.0, ["etcd doesn't answer"])):
-            with mock.patch.object(second.leading.etcd, "_asks", silent):
-                await asyncio.sleep(seconds)
-            self.assertEqual([it.partition(" (")[0].removeprefix("stands by: ") for it in second.said[1:]], more)
-            await asyncio.sleep(0.6)
-        self.assertGreater(asks, 6)
+        leads, silence = "stands by: first leads", mock.patch.object(second.leading.etcd, "_asks", silent)
+        await eventually(lambda: second.said)
+        with mock.patch.object(leading, "LATE", LIMIT), silence:
+            await eventually(lambda: asks > 1)
+            self.assertEqual(second.said, [leads])
+        await eventually(lambda: second.leading._tells_at is None, "it has an answer")
+        with mock.patch.object(leading, "LATE", 1.0), silence:
+            await eventually(lambda: len(second.said) > 1)
+            before = asks
+            await eventually(lambda: asks > before + 3)
+        await eventually(lambda: len(second.said) > 2)
+        self.assertRegex(second.said[1], r"^stands by: etcd doesn't answer \(member")
         self.assertEqual((second.said[0], second.said[2:]), (leads, [leads]))
         second.leading.close()
-        self.assertFalse(await asyncio.wait_for(tries, 5))
+        self.assertFalse(await asyncio.wait_for(tries, LIMIT))
 
     async def test_an_etcd_that_was_never_there(self) -> None:
         """It is told of at once."""
         only = Broker(self, "only")
         with mock.patch.object(only.leading.etcd, "_asks", side_effect=NoAnswer("no route")):
             tries = asyncio.create_task(asyncio.to_thread(only.leading.leads, only.said.append))
-            await asyncio.sleep(0.6)
+            await eventually(lambda: only.said)
             self.assertEqual(only.said, ["stands by: etcd doesn't answer (no route)"])
             only.leading.close()
-            self.assertFalse(await asyncio.wait_for(tries, 5))
+            self.assertFalse(await asyncio.wait_for(tries, LIMIT))
 
     async def test_an_etcd_that_only_answers_questions(self) -> None:
         """As one whose disk is stuck: it is told of, too."""
@@ -397,11 +398,9 @@ class Next(Brokers):
         tries = asyncio.create_task(asyncio.to_thread(second.leading.leads, second.said.append))
         await asyncio.sleep(0.6)
         await first.keeping.close()
-        async with asyncio.timeout(LEASE + 5):
-            while "stands by: etcd doesn't answer (no disk)" not in second.said:
-                await asyncio.sleep(0.1)
+        await eventually(lambda: "stands by: etcd doesn't answer (no disk)" in second.said)
         second.leading.close()
-        self.assertFalse(await asyncio.wait_for(tries, 5))
+        self.assertFalse(await asyncio.wait_for(tries, LIMIT))
 
     async def test_another_bays_file(self) -> None:
         """It is told of at once, and doesn't lead while a broker is there that has the file of the one that led last."""
@@ -417,8 +416,9 @@ class Next(Brokers):
         self.assertTrue(await asyncio.wait_for(tries[1], LIMIT))
         await right.opens()
         await eventually(lambda: "right leads, by another bay file" in wrong.said[-1])
-        await right.keeping.close()
+        # (its end may take a while)
         begun = time.monotonic()
+        await right.keeping.close()
         # (nobody else is there any more)
         self.assertTrue(await asyncio.wait_for(tries[0], LIMIT))
         self.assertGreater(time.monotonic() - begun, LEASE - 0.5)

@@ -3,7 +3,6 @@
 import asyncio
 import concurrent.futures
 import contextlib
-import json
 import os
 import queue
 import re
@@ -30,7 +29,7 @@ from labrun_broker.door import Door, Seldom, is_loopback
 from labrun_broker.service import Pace
 from labrun_broker.stream import Lost, Stream
 from labrun_broker.words import NoFile
-from tests.brokers import BAY, LIMIT, SOON, Broker, OnBroker, Turns, certificate, free_port, heard, station, stopped, until
+from tests.brokers import BAY, LIMIT, SOON, UNHEARD, Broker, OnBroker, Turns, certificate, free_port, heard, records, station, stopped, until
 
 HOLDS = """
 import sys, labrun_broker
@@ -424,9 +423,8 @@ class Clients(OnBroker):
             held.note("café")
             raise OSError("caf\udce9")
         self.assertEqual(lab.status()["instruments"][0]["holder"], None)
-        with open(f"{broker.folder}/state/records.jsonl", encoding="utf-8") as file:
-            its = [(it["what"], it["text"]) for it in map(json.loads, file) if it["what"] in ("note", "let_go", "failed")]
-        self.assertEqual(its, [("note", "café"), ("failed", "OSError: caf\\udce9")])
+        its = lambda: [(it["what"], it["text"]) for it in records(broker) if it["what"] in ("note", "let_go", "failed")]
+        until(lambda: its() == [("note", "café"), ("failed", "OSError: caf\\udce9")], "what is recorded")
 
     def test_threads(self) -> None:
         """Four share a lab, and no two hold at once."""
@@ -551,7 +549,8 @@ class WhoIsLetIn(OnBroker):
         until(lambda: [it["state"] for it in lab.status()["stations"] if it["state"] != "idle"] == ["holding"] * 2, "both are back")
         with open(f"{folder}/ends", "w", encoding="ascii"):
             pass
-        self.assertEqual((*runs[0].communicate(timeout=LIMIT), runs[0].returncode), ("", "", 0))
+        out, said = runs[0].communicate(timeout=LIMIT)
+        self.assertEqual((out, UNHEARD.sub("", said), runs[0].returncode), ("", "", 0))
         lets_in("the new token of this bay")
         broker.end()
         broker.begin()
@@ -625,10 +624,12 @@ class WhoIsLetIn(OnBroker):
         self.assertIn("asks for its token", done.stderr)
         self.assertEqual(broker.ran("status", "--broker", at, "--certificate", certificate, "--token-file", token).returncode, 0)
         broker.end()
-        # (of each kind a line a minute at most)
-        first, second = (line for line in broker.said.splitlines() if line.startswith("labrun-broker: "))
+        # (of each kind a line a minute at most, and on a busy machine all this takes longer than one)
+        first, second, *more = (line for line in broker.said.splitlines() if line.startswith("labrun-broker: "))
         self.assertRegex(first, r"^labrun-broker: (127\.0\.0\.1|\[::1\]):\d+ isn't let in, and is told: this broker asks for its token: give its file by --token-file, or by LABRUN_BROKER_TOKEN_FILE$")
         self.assertRegex(second, r"^labrun-broker: (127\.0\.0\.1|\[::1\]):\d+ isn't let in, and is told: this isn't its token$")
+        for line in more:
+            self.assertRegex(line, r"isn't let in, and is told: this (broker asks for its token: .*|isn't its token)( \(\d+ more since the last such line\))?$")
 
 
 class Floods(OnBroker):
@@ -713,7 +714,8 @@ class Floods(OnBroker):
         with open(f"{broker.folder}/state/records.jsonl", encoding="utf-8") as file:
             self.assertLess(len(file.readlines()), 20)
         broker.end()
-        self.assertEqual(broker.said, "")
+        # (but perhaps that the disk is slow)
+        self.assertEqual([it for it in broker.said.splitlines() if "/bay.journal: " not in it], [])
 
     def test_no_question_is_asked_for_ever(self) -> None:
         """Whatever ends the stream each time: the question is given up after the grace, and the session goes on."""

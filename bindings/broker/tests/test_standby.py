@@ -30,7 +30,7 @@ from tests.brokers import BAY, COMMAND, LIMIT, SOON, free_port, station, until
 from tests.etcds import Member, OnEtcd
 from tests.machines import status_of
 
-LEASE = 4
+LEASE = 10
 # an etcd whose records take a while: until there is a file
 SLOW = """
 import os, sys, time

@@ -16,12 +16,13 @@ from unittest import mock
 
 import labrun
 import labrun_broker
+from labrun_broker import aside
 from labrun_broker.bay import bay_of
 from labrun_broker.keeping import Keeping
 from labrun_broker.past import read_past
 from labrun_broker.service import fault_of
 from labrun_broker.wishes import Ended, Wish
-from tests.brokers import BAY, COMMAND, LIMIT, Broker, OnBroker, station, until
+from tests.brokers import BAY, COMMAND, LIMIT, Broker, OnBroker, records, station, until
 from tests.test_keeping import TICKET, OnFolder, Owner, how
 
 
@@ -56,9 +57,8 @@ class State(OnBroker):
         held.release()
         thread.join(LIMIT)
         self.assertEqual(order, ["board", "radio"])
-        with open(f"{broker.folder}/state/records.jsonl", encoding="utf-8") as file:
-            what = [json.loads(line)["what"] for line in file if '"station":"board"' in line]
-        self.assertEqual(what, ["asked", "held", "let_go", "asked", "held", "note", "gone", "back", "note", "let_go"])
+        whats = ["asked", "held", "let_go", "asked", "held", "note", "gone", "back", "note", "let_go"]
+        until(lambda: [it["what"] for it in records(broker) if it["station"] == "board"] == whats, f"{whats}")
 
     def test_a_client_that_is_back_has_its_instruments_in_its_own_order(self) -> None:
         broker = self.broker(BAY, "--state", "FOLDER/state")
@@ -127,7 +127,9 @@ class State(OnBroker):
         broker = self.broker(BAY, "--state", "FOLDER/state", "--http", "unix:FOLDER/http.sock")
         lab, started = self.lab(broker), list[subprocess.Popen[str]]()
         waiting = lambda: next(it for it in lab.status()["instruments"] if it["name"] == "scope")
-        for words, is_so in ((("sleep", "60"), lambda: waiting()["holder"]), (("true",), lambda: waiting()["waiting"])):
+        # (the first has been told that it holds once its command runs)
+        runs = lambda: started[0].stdout and started[0].stdout.readline()
+        for words, is_so in ((("sh", "-c", "echo runs; exec sleep 60"), runs), (("true",), lambda: waiting()["waiting"])):
             started.append(broker.started("hold", "scope", "--", *words))
             self.addCleanup(started[-1].communicate)
             self.addCleanup(started[-1].kill)
@@ -148,8 +150,11 @@ class State(OnBroker):
         """Nobody comes back for it: an operator releases it."""
         broker = self.broker(BAY, "--state", "FOLDER/state")
         other = self.lab(broker)
-        holds = broker.started("hold", "scope", "--station", "board", "--", "sleep", "30")
-        until(lambda: station(other, "board")["state"] == "holding")
+        holds = broker.started("hold", "scope", "--station", "board", "--", "sh", "-c", "echo runs; exec sleep 30")
+        # (it has been told so)
+        assert holds.stdout is not None
+        self.assertEqual(holds.stdout.readline(), "runs\n")
+        self.assertEqual(station(other, "board")["state"], "holding")
         broker.kill()
         holds.kill()
         holds.communicate()
@@ -418,6 +423,10 @@ class Emptied(OnFolder):
 
 
 class TakenUp(OnFolder):
+    def setUp(self) -> None:
+        # (for what takes longer than a moment the loop doesn't wait, and on a busy machine any write may)
+        self.enterContext(mock.patch.object(aside, "MOMENT", LIMIT))
+
     async def test_what_was_told_and_what_was_not(self) -> None:
         """Two sessions hold when the broker ends. Of one nobody was told, and its client asks again; the other one's client comes back."""
         folder, copy, may = self.folder(), self.folder(), threading.Event()

@@ -13,7 +13,7 @@ from unittest import mock
 
 import labrun_broker
 from labrun_broker import client, coming, finding, stream
-from tests.brokers import BAY, LIMIT, Broker, OnBroker, free_port, stopped, until
+from tests.brokers import BAY, LIMIT, Broker, OnBroker, free_port, heard, stopped, until
 from tests.proxies import Proxy, Ways
 
 RELEASES = 'gone = "release"\n' + BAY
@@ -194,7 +194,7 @@ class Killed(OnBroker):
         program = "import sys; from labrun_broker import coming, command; coming.GRACE = 0.5; sys.exit(command.main())"
         with subprocess.Popen([sys.executable, "-c", program, "hold", "scope", "--broker", broker.address, "--", "true"], stderr=subprocess.PIPE, text=True) as one:
             assert one.stderr is not None
-            self.assertIn("waits: scope has been held by guest-1", one.stderr.readline())
+            self.assertIn("waits: scope has been held by guest-1", heard(one.stderr))
             broker.kill()
             self.assertRegex(one.communicate(timeout=LIMIT)[1], f"labrun-broker: the broker at unix:.* can't be reached: .*; {MAY_HOLD.format(broker.address)}\n$")
         self.assertEqual(one.returncode, 69)

@@ -75,10 +75,11 @@ class Anew(OnSmall):
         guest = await keeping.hold(Wish(("supply",), ticket="the ticket of a guest"), owner)
         await keeping.note(held, owner, "5 V")
         await keeping.note(held, owner, "6 V\nof \\n")
-        await self.works(keeping, "load-1", times=20, ticket="one that lets go")
-        turns = keeping._shell.turns
-        await eventually(lambda: turns.count and not turns.is_under_way)
-        self.assertGreaterEqual(turns.count, 2)
+        turns, times = keeping._shell.turns, 0
+        # (one that is slow is quiet for it less often)
+        while times < 20 or turns.count < 2 or turns.is_under_way or len(journal_of(folder)) > SIZE:
+            await self.works(keeping, "load-1", ticket="one that lets go")
+            times += 1
         await self.works(keeping, "load-2", times=1)
         await keeping.close()
         self.assertLess(len(journal_of(folder)), 2 * SIZE)
@@ -93,7 +94,7 @@ class Anew(OnSmall):
         self.assertEqual(caught.exception.kind, "LetGo")
         await again.let_go(back, owner)
         new = await again.hold(Wish(("scope",), ticket="one more ticket, a new one"), owner)
-        self.assertEqual(new.number, 2 + 20 + 1 + 1, "no number is given twice")
+        self.assertEqual(new.number, 2 + times + 1 + 1, "no number is given twice")
 
     async def test_the_records_have_the_past(self) -> None:
         """Each session once, with its notes, though the file that had them is gone."""
@@ -102,16 +103,18 @@ class Anew(OnSmall):
         held = await keeping.hold(Wish(("scope",), ticket=TICKET), owner)
         for at in range(60):
             await keeping.note(held, owner, f"note {at}")
-        await self.works(keeping, "load-1", times=20)
-        await eventually(lambda: keeping._shell.turns.count > 2)
+        times = 0
+        while times < 20 or keeping._shell.turns.count < 3:
+            await self.works(keeping, "load-1")
+            times += 1
         for _ in range(2):
             await keeping.close()
             keeping = await self.small(folder)
         records, faults = read_records(folder)
         of = lambda what: [it for it in records if it["what"] == what]
         self.assertEqual(([it["text"] for it in of("note")], faults), ([f"note {at}" for at in range(60)], []))
-        self.assertEqual(sorted(it["session"] for it in of("held")), list(range(1, 22)))
-        self.assertEqual(sorted(it["session"] for it in of("let_go")), list(range(2, 22)))
+        self.assertEqual(sorted(it["session"] for it in of("held")), list(range(1, times + 2)))
+        self.assertEqual(sorted(it["session"] for it in of("let_go")), list(range(2, times + 2)))
 
     async def test_a_busy_bay(self) -> None:
         """One that is never quiet by itself is made so, and all go on."""
@@ -227,7 +230,8 @@ class Fails(OnSmall):
             keeping._shell.pump()
             waits = asyncio.create_task(keeping.hold(Wish(("supply",)), owner))
             await waits
-        self.assertEqual(fails, -1)
+            # (it is made once the disk is quiet)
+            await eventually(lambda: fails < 0)
         with self.assertRaisesRegex(JournalError, "another process has it open"):
             FileStore(f"{folder}/bay.journal")
         await keeping.close()
@@ -307,9 +311,10 @@ class Ends(OnSmall):
 
         with mock.patch.object(FileStore, "anew", anew), mock.patch.object(shell, "CLOSING", 0.5):
             keeping = await self.small(folder, 100)
+            keeping._shell.pump()
+            await eventually(begun.is_set)
             async with asyncio.timeout(LIMIT / 2):
                 await keeping.close()
-            self.assertTrue(begun.is_set())
             with self.assertRaisesRegex(JournalError, "another process has it open"):
                 FileStore(f"{folder}/bay.journal")
             may.set()
