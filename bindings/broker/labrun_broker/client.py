@@ -269,22 +269,22 @@ class Lab:
         self._run(waits())
         return not self._leaving
 
-    def close(self, lets_go: bool = True) -> None:
-        """What is still held is let go, unless the program just ends: then it is kept for whoever has its ticket. Who waits, and each further call,
-        gets Closed."""
+    def close(self, lets_go: bool = True, patience: float = ANSWER) -> None:
+        """What is still held is let go, unless the program just ends: then it is kept for whoever has its ticket. So it is if no broker has answered
+        after `patience` seconds. Who waits, and each further call, gets Closed."""
         if not self._is_closed and self._process == os.getpid():
             self._is_closed = True
-            self._run(self._close(lets_go), goes_on=True)
+            self._run(self._close(lets_go, patience), goes_on=True)
             atexit.unregister(self._at_exit)
 
-    async def _close(self, lets_go: bool) -> None:
+    async def _close(self, lets_go: bool, patience: float) -> None:
         # (gRPC doesn't end a watch with its channel. A thread that still watches as the program ends does so with it, and without a word)
         for each in (*self._waiting, *(self._watches if lets_go else ())):
             each.cancel()
         if self._waiting:
             await asyncio.wait(set(self._waiting))
         its = list(self._held)
-        fault = await self._lets_go(its) if lets_go else None
+        fault = await self._lets_go(its, patience) if lets_go else None
         # (a broker that doesn't answer finds, once it goes on, that nobody is there)
         await self._under_way.end(CLOSING)
         await self._leaving.end(CLOSING)
@@ -299,12 +299,12 @@ class Lab:
         if fault is not None:
             raise fault
 
-    async def _lets_go(self, its: list[Held]) -> Optional[BaseException]:
+    async def _lets_go(self, its: list[Held], patience: float) -> Optional[BaseException]:
         """What went wrong with one of them; the others are let go all the same."""
         leaving = {asyncio.create_task(it._let_go(None)): it for it in its}
         # (a broker that doesn't answer keeps what was held for whoever has its ticket)
         if leaving:
-            await asyncio.wait(leaving, timeout=ANSWER)
+            await asyncio.wait(leaving, timeout=patience)
         for it in leaving:
             it.cancel()
         faults = [(of, it.exception()) for it, of in leaving.items() if it.done() and not it.cancelled()]

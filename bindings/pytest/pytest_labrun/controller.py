@@ -105,6 +105,7 @@ class Alone(Runner):
 
     @pytest.hookimpl(trylast=True)
     def pytest_sessionfinish(self) -> None:
+        super().pytest_sessionfinish()
         self.server.stop()
         seen.write(self.config, self.past)
 

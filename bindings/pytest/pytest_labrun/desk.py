@@ -17,6 +17,7 @@ Way = tuple[str, ...]
 # why a note is kept nowhere
 NOTHING, A_FORK = "no instrument is held", "this is the child of a fork: instruments are held by its parent"
 GONE = "the run's controller is gone"
+PATIENCE = 5.0  # seconds, for which a run that is interrupted waits for a broker that doesn't answer
 
 
 class NotHeld(Exception):
@@ -30,8 +31,8 @@ class Desk(Protocol):
     def hold(self, test: str, ways: Sequence[Way], timeout: Optional[float]) -> tuple[Way, float]:
         """Sleeps until all instruments of one of the ways are held: that way, and for how long it waited."""
 
-    def let_go(self) -> Optional[str]:
-        """What went wrong, if something did: the instruments were taken away meanwhile."""
+    def let_go(self, within: Optional[float] = None) -> Optional[str]:
+        """What went wrong, if something did: the instruments were taken away meanwhile, or nothing was heard in so many seconds."""
 
     def note(self, text: str) -> Optional[str]:
         """Why it is kept nowhere, if so. It raises what the lab says that doesn't take it."""
@@ -53,7 +54,7 @@ class AloneDesk:
         self._held.held = self._held.asked
         return ways[0], 0.0
 
-    def let_go(self) -> Optional[str]:
+    def let_go(self, within: Optional[float] = None) -> Optional[str]:
         if self._held is not None:
             self._held.let_go, self._held.end = self.past.now(), "done"
             self._held = None
@@ -125,10 +126,10 @@ class SocketDesk:
         self._holds = True
         return tuple(told["held"]), told["waited"]
 
-    def let_go(self) -> Optional[str]:
+    def let_go(self, within: Optional[float] = None) -> Optional[str]:
         self._holds = False
         try:
-            return self._ask(do="let_go").get("fault")
+            return self._ask(do="let_go", within=within).get("fault")
         except NotHeld as gone:
             return str(gone)
 

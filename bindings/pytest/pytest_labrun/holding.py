@@ -7,7 +7,7 @@ from typing import Any, Optional, Sequence
 
 import pytest
 
-from .desk import Desk, NotHeld
+from .desk import PATIENCE, Desk, NotHeld
 from .needs import Bay, Need, Unit, chosen_for, held_by, units_of, uses
 
 
@@ -60,6 +60,7 @@ class Holding:
         self.fault: Optional[str] = None
         self._units: dict[pytest.Item, tuple[Unit, Need]] = {}
         self._unit: Optional[Unit] = None
+        self._interrupted: Optional[pytest.Item] = None
         # fixtures that hold for several tests, and are set up: each with the request by which it was
         self._wide: dict[Any, Any] = {}
 
@@ -90,17 +91,24 @@ class Holding:
         if need:
             item.user_properties.append(("lab_waited", round(self.waited, 3)))
 
-    def ends(self, item: pytest.Item, nextitem: Optional[pytest.Item]) -> None:
-        """Behind all of the test's reports: lets go, unless the next test is of its unit."""
-        if self._is_over(nextitem):
+    def ends(self, item: pytest.Item, nextitem: Optional[pytest.Item], is_interrupted: bool) -> None:
+        """Behind all of the test's reports: lets go, unless the next test is of its unit, or the tear-down is still to come."""
+        if is_interrupted:
+            self._interrupted = item
+        elif self._is_over(nextitem):
             self.lets_go(item)
+
+    def finishes(self) -> None:
+        """Behind all tear-downs of the run: lets go what a test held that was interrupted. Nobody is to wait long for that."""
+        if self._interrupted is not None:
+            self.lets_go(self._interrupted, PATIENCE)
 
     def tears_down(self, nextitem: Optional[pytest.Item]) -> None:
         """The end of the test's tear-down: fixtures that hold are torn down with the last test of their unit, not with its module."""
         if self._is_over(nextitem):
             self._finish_wide()
 
-    def lets_go(self, item: pytest.Item) -> None:
+    def lets_go(self, item: pytest.Item, within: Optional[float] = None) -> None:
         if self._unit is None:
             return
         try:
@@ -109,7 +117,7 @@ class Holding:
         except Exception as fault:
             item.warn(pytest.PytestWarning(f"in the tear-down of a fixture that holds instruments: {fault!r}"))
         self._unit, self.way = None, ()
-        wrong = self.desk.let_go()
+        wrong = self.desk.let_go(within)
         if wrong is not None:
             item.warn(pytest.PytestWarning(f"its instruments were no longer held at its end: {wrong}"))
 

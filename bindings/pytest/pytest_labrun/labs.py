@@ -14,6 +14,8 @@ from typing import Any, AsyncContextManager, AsyncIterator, Callable, Optional, 
 import labrun
 from labrun.machine import MOST_INSTRUMENTS
 
+from .desk import PATIENCE
+
 _LAG = 0.5  # seconds, by which what the broker tells may be late
 _AGAIN = 0.5  # seconds, after which a broker that is gone is looked for
 _NOTE = 500  # characters that it takes, if the bay says nothing else
@@ -150,8 +152,9 @@ class BrokerLab:
         return {name: station for name, station in self._holders.items() if self._own.get(station, 0.0) < now}
 
     def close(self) -> None:
+        # (what is still held then is that of tests that were interrupted)
         with contextlib.suppress(labrun.LabrunError, OSError):
-            self.client.close()
+            self.client.close(patience=PATIENCE)
 
     def _watch(self) -> None:
         """Looks who holds what, until this is closed."""

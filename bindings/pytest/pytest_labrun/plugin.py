@@ -132,15 +132,21 @@ class Runner:
         self.holding.collected(session.items, self.named if self.bay is None else self.bay)
 
     @pytest.hookimpl(hookwrapper=True, tryfirst=True)
-    def pytest_runtest_protocol(self, item: pytest.Item, nextitem: Optional[pytest.Item]) -> Iterator[None]:
+    def pytest_runtest_protocol(self, item: pytest.Item, nextitem: Optional[pytest.Item]) -> Generator[None, Any, None]:
         if not self.holding.knows(item):
             yield
             return
         self.holding.begins(item)
+        outcome: Any = None
         try:
-            yield
+            outcome = yield
         finally:
-            self.holding.ends(item, nextitem)
+            self.holding.ends(item, nextitem, outcome is None or outcome.excinfo is not None)
+
+    @pytest.hookimpl(trylast=True)
+    def pytest_sessionfinish(self) -> None:
+        # (pytest tears down an interrupted test only here)
+        self.holding.finishes()
 
     @pytest.hookimpl(tryfirst=True)
     def pytest_runtest_setup(self, item: pytest.Item) -> None:
@@ -169,6 +175,7 @@ class Single(Runner):
 
     @pytest.hookimpl(trylast=True)
     def pytest_sessionfinish(self) -> None:
+        super().pytest_sessionfinish()
         seen.write(self.config, self.past)
 
     def pytest_terminal_summary(self, terminalreporter: Any) -> None:

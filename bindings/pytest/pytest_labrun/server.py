@@ -199,8 +199,11 @@ class _Worker:
         self.lets_go.clear()
         self.session = asyncio.create_task(self.holds(test, tuple(map(tuple, ways)), timeout))
 
-    async def on_let_go(self) -> None:
+    async def on_let_go(self, within: Optional[float]) -> None:
         self.lets_go.set()
+        if within is not None and self.session is not None and not (await asyncio.wait({self.session}, timeout=within))[0]:
+            self.session.cancel()
+            self.tell(fault=f"the broker hasn't answered for {within:g} s, and may show them as gone")
 
     async def on_note(self, note: int, text: str) -> None:
         """`note` is its number, which its answer has, too."""

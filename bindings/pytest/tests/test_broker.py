@@ -5,6 +5,7 @@ from __future__ import annotations
 import contextlib
 import json
 import os
+import signal
 import socket
 import subprocess
 import sys
@@ -47,7 +48,7 @@ def broker(run: Run, tmp_path_factory: pytest.TempPathFactory, monkeypatch: pyte
 
 
 @contextlib.contextmanager
-def serves(folder: Path, *words: str) -> Iterator[None]:
+def serves(folder: Path, *words: str) -> Iterator[subprocess.Popen[bytes]]:
     """A broker in a folder with its bay."""
     words = (sys.executable, "-m", "labrun_broker", "serve", "bay.toml", *words)
     with open(folder / "log", "w", encoding="utf-8") as log:
@@ -58,7 +59,7 @@ def serves(folder: Path, *words: str) -> Iterator[None]:
                 break
             time.sleep(0.05)
         assert process.poll() is None, (folder / "log").read_text()
-        yield
+        yield process
     finally:
         process.terminate()
         process.wait(60)
@@ -82,6 +83,56 @@ def test_two_runs_at_once(pytester: pytest.Pytester, run: Run, broker: str) -> N
     for one in runs:
         told = one.communicate(timeout=300)[0]
         assert one.returncode == 0 and "33 passed" in told, told
+
+
+@pytest.mark.parametrize("is_there", [True, False])
+def test_control_c(pytester: pytest.Pytester, run: Run, tmp_path: Path, monkeypatch: pytest.MonkeyPatch, is_there: bool) -> None:
+    """What is held is let go behind the tear-down; a broker that is gone by then isn't waited for long, and that is told."""
+    pytester.makepyfile(
+        """
+        import os, time
+        import labrun_broker
+        import pytest
+        @pytest.fixture
+        def scope():
+            yield
+            try:
+                with labrun_broker.connect(os.environ["AT"]) as lab:
+                    held = [it["name"] for it in lab.status()["instruments"] if it["holder"]]
+            except labrun_broker.Unreachable:
+                held = "nobody answers"
+            with open("torn_down", "w") as file:
+                file.write(str(held))
+        @pytest.mark.instruments("scope")
+        def test_long(scope):
+            with open("runs", "w"):
+                pass
+            time.sleep(100)
+        """
+    )
+    monkeypatch.setenv("PYTHONPATH", os.pathsep.join([os.environ["PYTHONPATH"], BROKER]))
+    monkeypatch.setenv("AT", address := f"unix:{tmp_path}/bay.sock")
+    (tmp_path / "bay.toml").write_text('instruments = ["scope"]\n[guests]\ncount = 2\n')
+    with serves(tmp_path, "--listen", address) as broker:
+        words = [sys.executable, "-m", "pytest", "-p", "pytest_labrun.plugin", "-p", "no:cacheprovider", "--lab-broker", address]
+        process = subprocess.Popen(words, cwd=pytester.path, stdout=subprocess.PIPE, stderr=subprocess.STDOUT, text=True)
+        sleeps_until((pytester.path / "runs").exists)
+        if not is_there:
+            broker.kill()
+            broker.wait()
+        begun = time.monotonic()
+        process.send_signal(signal.SIGINT)
+        told = process.communicate(timeout=120)[0]
+        assert process.returncode == pytest.ExitCode.INTERRUPTED and "KeyboardInterrupt" in told, told
+        assert (pytester.path / "torn_down").read_text() == ("['scope']" if is_there else "nobody answers")
+        if is_there:
+            assert "Warning" not in told, told
+            status = subprocess.check_output([sys.executable, "-m", "labrun_broker", "status", "--broker", address, "--json"], timeout=60)
+            assert [it["holder"] for it in json.loads(status)["instruments"]] == [None]
+        else:
+            assert "the broker hasn't answered for 5 s, and may show them as gone" in told, told
+            # (twice five seconds, and what a busy machine takes)
+            assert time.monotonic() - begun < 40
 
 
 def test_a_killed_worker_lets_go(pytester: pytest.Pytester, run: Run, broker: str) -> None:
@@ -258,7 +309,7 @@ def test_a_broker_that_begins_again(monkeypatch: pytest.MonkeyPatch) -> None:
             closed.wait(60)
             raise labrun.Closed("the lab is closed")
 
-        def close(self) -> None:
+        def close(self, patience: float) -> None:
             closed.set()
 
     def is_watched() -> bool:
