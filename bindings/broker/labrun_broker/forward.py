@@ -128,6 +128,8 @@ class Forward:
         except ConnectionResetError:
             raise OSError(f"the guard at {at} doesn't let this through: {self._closed()}") from None
         except (OSError, builtins.TimeoutError) as fault:
+            if getattr(fault, "reason", "") == "WRONG_VERSION_NUMBER":
+                raise OSError(f"the guard at {at} has no TLS, and so wants `without-tls` in [guards]") from None
             raise OSError(f"the guard at {at} doesn't answer: {why_none(fault)}") from None
         said, is_whole, there.early = there.early.partition(b"\n")
         self._was_there = self._was_there or bool(is_whole)

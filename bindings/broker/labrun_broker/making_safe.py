@@ -181,6 +181,9 @@ async def _runs(command: list[str], environment: dict[str, str], limit: float) -
             fault = await _ends(process, limit)
     except OSError as it:
         return f"can't be run: {it.strerror}", ""
+    except RuntimeError as it:
+        # (asyncio has no thread to wait for it: it may have begun)
+        return f"can't be waited for: {it}", ""
     return fault, plain(" ".join(said.decode("utf-8", "replace").split()))
 
 

@@ -18,6 +18,8 @@ from .shell import Shell
 
 Work = TypeVar("Work", bound=Callable[..., Awaitable[Any]])
 
+AGAIN = 0.5  # seconds until the store is asked again
+
 
 class Settling:
     def __init__(self, state: Optional[State], shell: Shell) -> None:
@@ -51,8 +53,12 @@ class Settling:
         task.add_done_callback(self._tasks.discard)
 
     async def _tells(self, owner: Callable[[str], None], text: str) -> None:
-        await self.answers()
-        owner(text)
+        # (as long as the store refuses to say who leads, nobody comes to hold, either)
+        while True:
+            with contextlib.suppress(OSError):
+                await self.answers()
+                return owner(text)
+            await asyncio.sleep(AGAIN)
 
 
 def settled(work: Work) -> Work:

@@ -7,6 +7,7 @@ import argparse
 import contextlib
 import json
 import queue
+import select
 import sys
 import threading
 import time
@@ -85,7 +86,11 @@ class Lines:
         self._why = why
 
     def ticks(self) -> None:
-        """A moment without news."""
+        """A moment without news. Whoever read them may be gone by now, as `head` is, and nothing is written that would tell."""
+        poll = select.poll()
+        poll.register(1, 0)
+        if any(how & select.POLLERR for _, how in poll.poll(0)):
+            raise BrokenPipeError
 
 
 class Screen:

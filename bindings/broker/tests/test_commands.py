@@ -551,6 +551,15 @@ class WithBroker(OnBroker):
         self.assertEqual((top.returncode, said), (130, ""))
         self.assertLess(time.monotonic() - begun, SOON)
 
+    def test_top_whose_reader_is_gone(self) -> None:
+        """It ends though nothing happens at the bay that it would have to write, as in `top | head -3`."""
+        with self.broker().started("top") as top:
+            self.addCleanup(top.kill)
+            assert top.stdout is not None and top.stderr is not None
+            self.assertTrue(top.stdout.readline())
+            top.stdout.close()
+            self.assertEqual((top.wait(LIMIT), top.stderr.read()), (0, ""))
+
     def test_top_of_a_broker_that_dies(self) -> None:
         """It says so once, and goes on with the next one; and ends if none was ever there."""
         broker = self.broker(BAY, "--state", "FOLDER/state")

@@ -56,6 +56,12 @@ async def midway(reader: asyncio.StreamReader, writer: asyncio.StreamWriter) -> 
     writer.close()
 
 
+async def says_no(reader: asyncio.StreamReader, writer: asyncio.StreamWriter) -> None:
+    await reader.read(1 << 16)
+    writer.write(b"no: that is no ticket\n")
+    writer.close()
+
+
 async def lets_through_once(reader: asyncio.StreamReader, writer: asyncio.StreamWriter) -> None:
     if not (await reader.readline()).endswith(b" ends 3\n"):
         writer.write(b"ok\n")
@@ -109,6 +115,11 @@ class WithoutAnAnswer(unittest.IsolatedAsyncioTestCase):
             for guard, its in ((at_once, context), (once_all_is_read, context), (at_once, None), (by_reset, None), (once_all_is_read, None)):
                 with self.subTest(guard.__name__, has_tls=its is not None):
                     self.assertEqual(await self.said(guard, its, known=known), CLOSED)
+
+    async def test_one_that_has_no_tls(self) -> None:
+        """It is spoken to by TLS, takes that for a line, and says in the clear why not."""
+        with mock.patch("labrun_broker.forward.is_here", return_value=False):
+            self.assertEqual(await self.said(says_no), "has no TLS, and so wants `without-tls` in [guards]")
 
     async def test_one_that_let_through_before(self) -> None:
         """So it has no TLS."""

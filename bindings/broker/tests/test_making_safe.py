@@ -235,6 +235,15 @@ class AfterASession(OnScript):
                 await keeping.close()
                 self.said.clear()
 
+    async def test_no_thread_to_wait_with(self) -> None:
+        """Then it may have begun, and nobody knows how it ended."""
+        keeping = await self.opened(BAY + "[on_release]\nscope = \"true\"\n")
+        held = await keeping.hold(Wish(("scope",)), self.owner)
+        with mock.patch.object(asyncio, "create_subprocess_exec", side_effect=RuntimeError("can't start new thread")):
+            await keeping.let_go(held, self.owner)
+            await eventually(lambda: how(keeping, "scope")["holder"] is None)
+        self.assertRegex(how(keeping, "scope")["out"], "^it wasn't made safe after .*: true can't be waited for: can't start new thread$")
+
     async def test_a_broker_that_was_stopped_for_longer_than_the_limit(self) -> None:
         """It looks only then. What had ended well by that moment isn't said to have been killed."""
         process = await asyncio.create_subprocess_exec("true")

@@ -213,6 +213,27 @@ class Deposed(Brokers):
         self.assertEqual([it.waits.text for it in told[:-1] if "once that is in etcd" not in it.waits.text], [])
         self.assertGreater(len(told), 1)
 
+    async def test_what_one_is_told_once_etcd_says_again_who_leads(self) -> None:
+        """If it refuses that for a while, as after a change of rights, whoever lost its session isn't forgotten."""
+        first, owner = await self.broker("first"), Owner()
+        session, txn, refused = await first.keeping.hold(Wish(("scope",)), owner), first.leading.etcd.txn, list[Any]()
+
+        def refuses(compare: Any, what: Any, *given: Any, **more: Any) -> Any:
+            if compare and not what:
+                refused.append(what)
+                raise EtcdError(5, "etcd says no: permission denied")
+            return txn(compare, what, *given, **more)
+
+        with mock.patch.object(first.leading.etcd, "txn", refuses):
+            release = asyncio.ensure_future(first.keeping.release(session.name, "an operator"))
+            await asyncio.wait({release}, timeout=LIMIT)
+            await eventually(lambda: len(refused) > 3)
+            self.assertEqual(owner.told, [])
+        await eventually(lambda: owner.told)
+        self.assertRegex(owner.told[0], "the session with scope was taken away by an operator")
+        release.cancel()
+        await asyncio.wait({release})
+
     async def test_its_clock(self) -> None:
         """It ends once etcd hasn't answered for the length of its lease, though nobody asks it anything."""
         first = await self.broker("first")
