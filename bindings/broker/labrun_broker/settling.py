@@ -53,12 +53,14 @@ class Settling:
         task.add_done_callback(self._tasks.discard)
 
     async def _tells(self, owner: Callable[[str], None], text: str) -> None:
-        # (as long as the store refuses to say who leads, nobody comes to hold, either)
         while True:
-            with contextlib.suppress(OSError):
+            try:
                 await self.answers()
-                return owner(text)
-            await asyncio.sleep(AGAIN)
+                break
+            except OSError:
+                # (as long as the store refuses to say who leads, nobody comes to hold, either)
+                await asyncio.sleep(AGAIN)
+        owner(text)
 
 
 def settled(work: Work) -> Work:

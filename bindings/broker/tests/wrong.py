@@ -265,7 +265,7 @@ WRONG = {
         "test_replica.Deposed.test_nor_takes_away", "keeping.py", (("self.settling.tells(owner.taken, text)", "owner.taken(text)"),)
     ),
     "one that lost its session, and isn't told because etcd refused once to say who leads": Wrong(
-        "test_replica.Deposed.test_what_one_is_told_once_etcd_says_again_who_leads", "settling.py", (("            with contextlib.suppress(OSError):\n", "            with contextlib.nullcontext():\n"),)
+        "test_replica.Deposed.test_what_one_is_told_once_etcd_says_again_who_leads", "settling.py", (("            except OSError:\n", "            except ZeroDivisionError:\n"),)
     ),
     "a word of a client answered without a fence": Wrong(
         "test_replica.Deposed.test_nor_that_a_client_is_heard", "service.py", (("            await self.keeping.settling.leads()\n", "            pass\n"),)
