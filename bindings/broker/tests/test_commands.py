@@ -558,6 +558,8 @@ class WithBroker(OnBroker):
             self.addCleanup(top.kill)
             assert top.stdout is not None and top.stderr is not None
             self.assertTrue(top.stdout.readline())
+            # (what changes as the broker begins is written by then)
+            time.sleep(2)
             top.stdout.close()
             self.assertEqual((top.wait(LIMIT), top.stderr.read()), (0, ""))
 
