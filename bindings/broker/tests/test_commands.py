@@ -554,8 +554,8 @@ class WithBroker(OnBroker):
     def test_top_whose_reader_is_gone(self) -> None:
         """It ends though nothing happens at the bay that it would have to write, as in `top | head -3`."""
         broker = self.broker()
-        with broker.started("top") as top:
-            self.addCleanup(top.kill)
+        with broker.started("top") as top, contextlib.ExitStack() as ends:
+            ends.callback(top.kill)
             assert top.stdout is not None and top.stderr is not None
             self.assertTrue(top.stdout.readline())
             # (what changes as the broker begins is written by then)
