@@ -83,7 +83,7 @@ Path = Union[str, "os.PathLike[str]"]
 
 @dataclass(frozen=True)
 class Limits:
-    """What one client may ask of the broker, and how many clients there may be. `requests` are a second, of one client."""
+    """What one client may ask of the broker, and how many there may be. `requests` are a second, of one client; `name` is no less, for tickets are names."""
 
     clients: int = 200
     name: int = 64
@@ -381,7 +381,7 @@ class Reader:
     def limits(self) -> Limits:
         table, known = self.table("limits"), Limits()
         self.knows("limits.", table, tuple(vars(known)))
-        return Limits(**{key: self.number(f"limits.{key}", table.get(key, usual), 1) for key, usual in vars(known).items()})
+        return Limits(**{key: self.number(f"limits.{key}", table.get(key, it), it if key == "name" else 1) for key, it in vars(known).items()})
 
     def fits(self, bay: Bay) -> None:
         """Whether the library can take it."""

@@ -23,6 +23,7 @@ async def closes(keeping: Keeping) -> list[str]:
         session.stops_looking()
         lasting.stops(session)
     its, news, state = keeping._shell, keeping._news, keeping._opened.state
+    until = asyncio.get_running_loop().time() + shell.CLOSING
     its.machine.stop(keeping.now())
     its.pump()
     await making_safe.closes(keeping)
@@ -39,7 +40,7 @@ async def closes(keeping: Keeping) -> list[str]:
         # (what is left out is told below)
         state.records.ends(its.on_disk)
         state.records.write()
-        await _is_through(state.records)
+        await _is_through(state.records, until)
         state.close()
     lines = _of_the_journal(keeping, rest[its.on_disk - at :])
     return [*lines, *([] if state.records.is_written else [f"{state.records.path}: not all records are written"])]
@@ -51,11 +52,11 @@ def _handed_out_again(its: shell.Shell) -> bytes:
     return its.machine.journal()[0].removeprefix(its.turns.text)
 
 
-async def _is_through(records: Written) -> None:
-    """A write of them that takes its time is waited for, for a while."""
+async def _is_through(records: Written, until: float) -> None:
+    """A write of them that takes its time is waited for, for a while; one that fails is tried again until then."""
     try:
         async with asyncio.timeout(shell.CLOSING):
-            while records.is_under_way:
+            while records.is_under_way or records.is_behind and asyncio.get_running_loop().time() < until:
                 await asyncio.sleep(shell.LOOKS)
     except builtins.TimeoutError:
         pass

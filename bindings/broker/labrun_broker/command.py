@@ -16,7 +16,7 @@ from typing import TYPE_CHECKING, Any, Callable, NoReturn, Optional, Sequence
 from .credentials import user
 from .run import add_hold, run_hold
 from .streams import gives_up_output, written
-from .texts import called, counted, last, plain, session
+from .texts import called, counted, last, plain, session, whole_name
 from .words import ABOUT, INTERRUPTED, MAY_NOT, NO_BAY, NO_FILE, NOT_WRITTEN, PROGRAM, STATUSES, TAKEN, TIMED_OUT, UNREACHABLE, USAGE, Word, add_client, lab_of, reading, say
 
 if TYPE_CHECKING:
@@ -53,7 +53,7 @@ def run_status(args: argparse.Namespace) -> int:
 
 
 def add_release(parser: argparse.ArgumentParser) -> None:
-    parser.add_argument("station", metavar="STATION", help="whose session is ended; first see that nobody is at its instruments")
+    parser.add_argument("station", metavar="STATION", type=whole_name, help="whose session is ended; first see that nobody is at its instruments")
     parser.add_argument("--session", metavar="N", type=session, default=0, help="only if it is in this one, which `status --json` tells")
     parser.add_argument("--bay", metavar="NAME", default="", help="of several bays: in this one, if a guest of this name is in more than one")
     add_client(parser)
@@ -66,8 +66,8 @@ def run_release(args: argparse.Namespace) -> int:
 
 
 def add_disable(parser: argparse.ArgumentParser) -> None:
-    parser.add_argument("instrument", metavar="INSTRUMENT", help="nobody comes to hold it any more; whoever holds it goes on")
-    parser.add_argument("why", metavar="WHY", nargs="?", default="", help="what is told to whoever asks for it, as \"calibration until Friday\"")
+    parser.add_argument("instrument", metavar="INSTRUMENT", type=whole_name, help="nobody comes to hold it any more; whoever holds it goes on")
+    parser.add_argument("why", metavar="WHY", nargs="?", default="", type=whole_name, help="what is told to whoever asks for it, as \"calibration until Friday\"")
     add_client(parser)
 
 
@@ -81,7 +81,7 @@ def run_disable(args: argparse.Namespace) -> int:
 
 
 def add_enable(parser: argparse.ArgumentParser) -> None:
-    parser.add_argument("instrument", metavar="INSTRUMENT", help="which is in order again")
+    parser.add_argument("instrument", metavar="INSTRUMENT", type=whole_name, help="which is in order again")
     add_client(parser)
 
 

@@ -83,6 +83,7 @@ class Keeping:
         self._news.file = None if it.state is None else it.state.records
         store = None if it.state is None else it.state.store
         self._shell = Shell(it.machine, store, it.first, self._is_told, self._news.sync, self._says_of_the_disk)
+        self._news.says_faults(lambda text: self.says(text), self._shell.is_wrong)
         self.settling = Settling(it.state, self._shell)
         # (who only waited is in the records alone)
         asked = (record["session"] for record in it.recent if record.get("session"))

@@ -17,6 +17,7 @@ Record = dict[str, Any]
 
 KEPT_IN_MEMORY = 1000
 AGAIN = 0.2  # seconds after which what couldn't be written is tried again
+LONG = 3.0  # seconds after which that is told
 MOST_WAITING = 1 << 24  # bytes that can't be written; what comes then is lost but for what the journal has
 LINE = json.JSONEncoder(separators=(",", ":"))
 
@@ -43,6 +44,13 @@ class Written(Protocol):
     @property
     def is_under_way(self) -> bool:
         """Whether a write of them takes its time."""
+
+    @property
+    def is_behind(self) -> bool:
+        """Whether something waits to be written, or to be tried again."""
+
+    def says_faults(self, says: Callable[[str], bool]) -> None:
+        """Who is told, once, if they can't be written for a while, and then that they are. It answers whether it was worth that."""
 
     def waits(self) -> None:
         """A moment at most, for such a write."""
@@ -72,6 +80,10 @@ class Records:
         # nothing was lost: each record is in the file, or will be
         self.is_whole = True
         self._again: Optional[asyncio.TimerHandle] = None
+        self._says: Callable[[str], bool] = lambda text: False
+        # since when they can't be written, and whether that was told
+        self._fails_since: Optional[float] = None
+        self._is_told = False
         size = os.fstat(self.file).st_size
         if size and os.pread(self.file, 1, size - 1) != b"\n":
             # (the broker was killed in the midst of a line)
@@ -132,8 +144,23 @@ class Records:
         self.is_under_way = False
         if fault is not None and not self._is_closed:
             self._again = asyncio.get_running_loop().call_later(AGAIN, self.write)
-        elif self._waiting:
-            self.write()
+            return self._fails(fault)
+        if self._waiting:
+            return self.write()
+        if self._is_told:
+            self._says(f"{self.path}: all records are written")
+        self._fails_since, self._is_told = None, False
+
+    def _fails(self, fault: Exception) -> None:
+        now = asyncio.get_running_loop().time()
+        if self._fails_since is None:
+            self._fails_since = now
+        if not self._is_told and now >= self._fails_since + LONG:
+            why = getattr(fault, "strerror", None) or fault
+            self._is_told = self._says(f"{self.path}: a write failed ({why}), and is tried again: records are missing there until then")
+
+    def says_faults(self, says: Callable[[str], bool]) -> None:
+        self._says = says
 
     def waits(self) -> None:
         if self.is_under_way:
@@ -145,9 +172,13 @@ class Records:
             self._again = None
 
     @property
+    def is_behind(self) -> bool:
+        return bool(self._waiting or self._writing)
+
+    @property
     def is_written(self) -> bool:
         """Whether all that was added, and isn't left out, is in the file."""
-        return not self._waiting and not self._writing and not self._held_back and self.is_whole
+        return not self.is_behind and not self._held_back and self.is_whole
 
     def sync(self) -> None:
         """What was written is on the disk, as far as that can be. Another thread may call it."""
@@ -188,6 +219,17 @@ class News:
         self._watchers: set[asyncio.Event] = set()
         # who is told of each record at once, and of a change of which there is none
         self.tells: Callable[[Optional[Record]], None] = lambda record: None
+
+    def says_faults(self, says: Callable[[str], None], of_the_journal: Callable[[], str]) -> None:
+        """Of the file. While the journal can't be written, that alone is told."""
+
+        def told(text: str) -> bool:
+            if is_worth_it := not of_the_journal():
+                says(text)
+            return is_worth_it
+
+        if self.file is not None:
+            self.file.says_faults(told)
 
     def add(self, record: Record, **more: Any) -> None:
         self.history.append(record)

@@ -225,7 +225,11 @@ class EtcdRecords:
         if self._file is not None:
             self._file.write()
 
-    is_written, is_under_way = True, False
+    is_written, is_under_way, is_behind = True, False, False
+
+    def says_faults(self, says: Callable[[str], bool]) -> None:
+        if self._file is not None:
+            self._file.says_faults(says)
 
     def waits(self) -> None:
         if self._file is not None:

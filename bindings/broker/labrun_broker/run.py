@@ -44,7 +44,7 @@ def add_hold(parser: argparse.ArgumentParser) -> None:
     urgent = "once it waits, nobody who asks later goes before it, nor before anybody who waits with it; it goes before none of them"
     parser.add_argument("--urgent", action="store_true", help=urgent)
     parser.add_argument("--station", metavar="NAME", type=station_name, help="as which station; a guest without")
-    parser.add_argument("--by", metavar="TEXT", help="who holds, for people to read; user, machine and command without")
+    parser.add_argument("--by", metavar="TEXT", type=whole_name, help="who holds, for people to read; user, machine and command without")
     parser.add_argument("--quiet", action="store_true", help="don't say for whom it waits")
     add_client(parser)
     parser.usage = f"{PROGRAM} hold INSTRUMENT .. [options] -- COMMAND [ARGUMENT ..]"

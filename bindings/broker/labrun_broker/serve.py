@@ -223,8 +223,9 @@ async def applies(keeping: Kept, path: str, files: Aside) -> None:
         if not await applies_file(keeping, path, files):
             keeping.says(f"{path}: nothing has changed")
     except (labrun.LabrunError, OSError, ValueError) as fault:
-        for line in str(fault).split("\n"):
-            keeping.says(f"{path}: {line}")
+        at, why = (fault.filename, fault.strerror) if isinstance(fault, OSError) and fault.filename else (path, str(fault))
+        for line in why.split("\n"):
+            keeping.says(f"{at}: {line}")
 
 
 async def applies_file(keeping: Kept, path: str, files: Aside) -> list[str]:

@@ -407,6 +407,17 @@ class Commands(OnBroker):
         self.assertEqual(broker.end(), 0)
         self.assertIn(f"labrun-broker: {path}: it is no file\n", broker.said)
 
+    def test_a_file_that_is_gone(self) -> None:
+        broker = self.broker()
+        path = f"{broker.folder}/bay.toml"
+        os.unlink(path)
+        assert broker.process is not None
+        broker.process.send_signal(signal.SIGHUP)
+        with broker.lab() as lab:
+            lab.status()
+        self.assertEqual(broker.end(), 0)
+        self.assertIn(f"labrun-broker: {path}: No such file or directory\n", broker.said)
+
     def test_a_disk_that_hangs(self) -> None:
         """The broker goes on meanwhile, and what it read is applied in the order of the signals."""
         goes_on, read, applied = threading.Event(), list[str](), list[str]()

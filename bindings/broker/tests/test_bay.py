@@ -60,6 +60,7 @@ FAULTY = (
     (ONE + "[guards]\nscope = \"a:1 by-name\"\n", ["guards.scope: 'a:1 by-name': behind the address by-host and without-tls may stand"]),
     ('instruments = ["held"]\n[guests]\ncount = 1\n[guards]\nheld = "a:1"\n', ["guards.held: an instrument that has a guard isn't called held"]),
     (ONE + "[limits]\nnote = 0\n", ["limits.note: a number from 1"]),
+    (ONE + "[limits]\nname = 63\n", ["limits.name: a number from 64"]),
     (ONE + "[limits]\nnotes = 5\n", ["limits.notes: there is no such key; there are clients, name, note, requests"]),
     ('instruments = ["scope"]\n[stations]\nguest-99 = ["scope"]\n[guests]\ncount = 1\n', ["stations.guest-99: this is the name of a guest"]),
     (f"instruments = [{', '.join(chr(34) + f'i{it}' + chr(34) for it in range(65))}]\n[guests]\ncount = 1\n", ["instruments: 65 instruments; a bay has 64 at most"]),

@@ -185,6 +185,12 @@ class WithoutBroker(unittest.TestCase):
         self.assertEqual(end.exception.code, 2)
         return complained.getvalue()
 
+    def test_bytes_that_are_no_utf_8(self) -> None:
+        odd = b"sc\xf6pe".decode("utf-8", "surrogateescape")
+        for words in (["release", odd], ["disable", odd], ["disable", "scope", odd], ["enable", odd], ["hold", "scope", "--by", odd]):
+            with self.subTest(words):
+                self.assertIn(": sc\\xf6pe isn't UTF-8; labrun-broker ", self.said(*words))
+
     def test_an_option_that_isnt_there(self) -> None:
         """The usage and the help that are named are those of the word that was typed."""
         for words, usage, fault in (

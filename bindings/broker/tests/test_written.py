@@ -653,6 +653,49 @@ class FullDisk(OnFolder):
                 await again.close()
                 self.assertEqual(again.lost, [])
 
+    async def test_records_alone(self) -> None:
+        """There is room for the journal, and none for them: sessions go on, and that is told, once; and then, that all is written."""
+        self.enterContext(mock.patch.object(records, "LONG", 0.3))
+        keeping = await self.on_disk()
+        await eventually(lambda: keeping._opened.state.records.is_written)
+        with mock.patch("os.write", side_effect=OSError(28, "No space left on device")):
+            for _ in range(3):
+                await keeping.let_go(await keeping.hold(Wish(("scope",)), self.owner), self.owner)
+                await asyncio.sleep(0.3)
+            await eventually(lambda: self.said)
+            self.assertEqual(keeping.status()["disk"], "")
+        await eventually(lambda: len(self.said) > 1)
+        its = f"{self.its_folder}/records.jsonl"
+        fails = f"{its}: a write failed (No space left on device), and is tried again: records are missing there until then"
+        self.assertEqual(self.said, [fails, f"{its}: all records are written"])
+        whole = [it["what"] for it in read_records(self.its_folder)[0]]
+        self.assertEqual([whole.count(what) for what in ("asked", "held", "let_go")], [3, 3, 3])
+
+    async def test_an_end_with_records_alone(self) -> None:
+        """They are tried for as long as the journal would be."""
+        full, write = True, os.write
+
+        def writes(file: int, text: bytes) -> int:
+            if full:
+                raise OSError(28, "No space left on device")
+            return write(file, text)
+
+        for has_room in (True, False):
+            with self.subTest(has_room=has_room), mock.patch.object(shell, "CLOSING", LIMIT if has_room else 1.0):
+                keeping = await self.on_disk()
+                await eventually(lambda: keeping._opened.state.records.is_written)
+                full = True
+                with mock.patch("os.write", writes):
+                    await keeping.let_go(await keeping.hold(Wish(("scope",)), self.owner), self.owner)
+                    closes = asyncio.create_task(keeping.close())
+                    await asyncio.wait({closes}, timeout=0.5)
+                    self.assertFalse(closes.done())
+                    full = not has_room
+                    await asyncio.wait_for(closes, LIMIT)
+                self.assertEqual(keeping.lost, [] if has_room else [f"{self.its_folder}/records.jsonl: not all records are written"])
+                whole = [it["what"] for it in read_records(self.its_folder)[0]]
+                self.assertEqual(whole[-4:] if has_room else whole, ["asked", "held", "let_go", "closed"] if has_room else ["opened"])
+
     async def test_no_end_is_recorded_that_the_journal_hasnt(self) -> None:
         """There is room for records, and none for the journal: they have the end once that has it, or never; and each session ends once."""
         self.enterContext(mock.patch.object(shell, "CLOSING", 0.5))

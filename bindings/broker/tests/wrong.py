@@ -489,6 +489,12 @@ WRONG = {
         "test_full.Again.test_who_lets_go_and_asks_again", "visits.py", (("if self._letting_go is None or self._letting_go.done():", "if True:"),)
     ),
     "one that says that it let go, and hasn't written it": Wrong("test_full.Again.test_who_lets_go_and_asks_again", "keeping.py", (('if why.kind == "LetGo":', "if False:"),)),
+    "records that can't be written, and nobody is told": Wrong(
+        "test_written.FullDisk.test_records_alone", "records.py", (("            return self._fails(fault)\n", "            return\n"),)
+    ),
+    "an end that doesn't wait for records": Wrong(
+        "test_written.FullDisk.test_an_end_with_records_alone", "closing.py", (("records.is_under_way or records.is_behind and", "records.is_under_way or False and"),)
+    ),
     "one that waits twice as long as it says": Wrong(
         "test_full.Again.test_who_notes_releases_and_asks", "settling.py", (("        except labrun.JournalError:\n", "        except ZeroDivisionError:\n"),)
     ),
