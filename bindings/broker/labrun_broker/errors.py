@@ -117,7 +117,7 @@ HINTS = IS_THERE | {
     "Broken pipe": CLOSED,
     "Cancelling all calls": ENDED,
     "Permission denied": "permission denied",
-    **dict.fromkeys(("before receiving SETTINGS frame", "keepalive watchdog timeout", "ping timeout"), f"it doesn't answer {SILENT}"),
+    **dict.fromkeys(("before receiving SETTINGS frame", "Handshake read failed", "keepalive watchdog timeout", "ping timeout"), f"it doesn't answer {SILENT}"),
     "C-ares status is not ARES_SUCCESS": "no machine of that name is known here",
 }
 

@@ -14,6 +14,7 @@ import subprocess
 import sys
 import tempfile
 import threading
+import time
 import unittest
 from importlib.util import find_spec
 from typing import Any
@@ -102,6 +103,18 @@ class Network(OnBroker):
                     self.assertEqual((done.returncode, done.stderr), (69, f"labrun-broker: the broker at {host}:{port} {said}\n"))
         broker.end()
         self.assertEqual([it for it in broker.said.splitlines() if not it.startswith("labrun-broker: ")], [])
+
+    def test_one_that_is_stopped_for_a_while(self) -> None:
+        """What it says first, by TLS, doesn't come within five seconds; that is tried again for as long as without."""
+        at = f"localhost:{free_port()}"
+        broker = self.broker(BAY, "--listen", at, "--tls-certificate", f"{self.folder}/one", "--tls-key", f"{self.folder}/one.key", "--token-file", f"{self.folder}/token")
+        words = ["hold", "scope", "--quiet", "--broker", at, "--certificate", f"{self.folder}/one", "--token-file", f"{self.folder}/token", "--", "echo", "ran"]
+        with stopped(broker):
+            runs = broker.started(*words)
+            self.addCleanup(runs.kill)
+            time.sleep(8)
+        out, said = runs.communicate(timeout=LIMIT)
+        self.assertEqual((out, runs.returncode), ("ran\n", 0), said)
 
     def test_who_isnt_let_in_by_one_of_several(self) -> None:
         """The others stand by: that nobody listens there says nothing."""

@@ -14,8 +14,6 @@ from typing import Any, AsyncContextManager, AsyncIterator, Callable, Optional, 
 import labrun
 from labrun.machine import MOST_INSTRUMENTS
 
-from .desk import PATIENCE
-
 _LAG = 0.5  # seconds, by which what the broker tells may be late
 _AGAIN = 0.5  # seconds, after which a broker that is gone is looked for
 _NOTE = 500  # characters that it takes, if the bay says nothing else
@@ -47,8 +45,8 @@ class Lab(Protocol):
     def in_use(self) -> dict[str, str]:
         """The instruments that others than this run hold, each with who. Any thread may ask."""
 
-    def close(self) -> None:
-        """Nobody holds any more."""
+    def close(self, patience: float) -> None:
+        """Nobody holds any more. A broker that doesn't answer is waited for so many seconds; what is held then is that of interrupted tests."""
 
 
 def _asked(ways: Sequence[Way]) -> tuple[Way, dict[str, Any]]:
@@ -90,7 +88,7 @@ class OwnLab:
     def in_use(self) -> dict[str, str]:
         return {}
 
-    def close(self) -> None:
+    def close(self, patience: float) -> None:
         if self.lab is not None:
             self.lab.close()
 
@@ -151,10 +149,9 @@ class BrokerLab:
         now = time.monotonic()
         return {name: station for name, station in self._holders.items() if self._own.get(station, 0.0) < now}
 
-    def close(self) -> None:
-        # (what is still held then is that of tests that were interrupted)
+    def close(self, patience: float) -> None:
         with contextlib.suppress(labrun.LabrunError, OSError):
-            self.client.close(patience=PATIENCE)
+            self.client.close(patience=patience)
 
     def _watch(self) -> None:
         """Looks who holds what, until this is closed."""

@@ -12,14 +12,16 @@ import os
 import shutil
 import tempfile
 import threading
+import time
 from dataclasses import dataclass
 from typing import Any, Callable, Optional, Sequence
 
-from .desk import NOTHING
+from .desk import NOTHING, PATIENCE
 from .labs import Lab, LabFault, Way
 from .past import Held, Past, told
 
 _LONGEST_LINE = 1 << 28
+UNANSWERED = "the broker hasn't answered for {:g} s, and may show them as gone"
 
 
 @dataclass(frozen=True)
@@ -45,6 +47,9 @@ class Server:
         self.past = past
         self.units: Optional[tuple[UnitTold, ...]] = None
         self.fault: Optional[str] = None
+        # workers whose test was interrupted, and of whose instruments a broker doesn't say that they are let go; and since when one waits for that
+        self.unanswered = set[_Worker]()
+        self.asked_at: Optional[float] = None
         # to each worker, until it asks for that
         self.dealt: dict[str, Dealt] = {}
         self.ticks: list[Callable[[], None]] = []
@@ -109,7 +114,8 @@ class Server:
         for task in self._tasks:
             task.cancel()
         await asyncio.gather(*self._tasks, return_exceptions=True)
-        self.lab.close()
+        # (a broker that doesn't answer isn't waited for twice)
+        self.lab.close(PATIENCE if self.asked_at is None else max(0.0, self.asked_at + PATIENCE - time.monotonic()))
 
     async def _came(self, reader: asyncio.StreamReader, writer: asyncio.StreamWriter) -> None:
         task = asyncio.current_task()
@@ -201,9 +207,16 @@ class _Worker:
 
     async def on_let_go(self, within: Optional[float]) -> None:
         self.lets_go.set()
-        if within is not None and self.session is not None and not (await asyncio.wait({self.session}, timeout=within))[0]:
+        if within is None or self.session is None:
+            return
+        self.server.unanswered.add(self)
+        self.server.asked_at = self.server.asked_at or time.monotonic()
+        # (xdist may end the worker before that)
+        if (await asyncio.wait({self.session}, timeout=within))[0]:
+            self.server.unanswered.discard(self)
+        else:
             self.session.cancel()
-            self.tell(fault=f"the broker hasn't answered for {within:g} s, and may show them as gone")
+            self.tell(fault=UNANSWERED.format(within))
 
     async def on_note(self, note: int, text: str) -> None:
         """`note` is its number, which its answer has, too."""

@@ -85,9 +85,13 @@ def test_two_runs_at_once(pytester: pytest.Pytester, run: Run, broker: str) -> N
         assert one.returncode == 0 and "33 passed" in told, told
 
 
+@pytest.mark.parametrize("words", [(), ("-n", "1")], ids=["alone", "workers"])
 @pytest.mark.parametrize("is_there", [True, False])
-def test_control_c(pytester: pytest.Pytester, run: Run, tmp_path: Path, monkeypatch: pytest.MonkeyPatch, is_there: bool) -> None:
-    """What is held is let go behind the tear-down; a broker that is gone by then isn't waited for long, and that is told."""
+def test_control_c(
+    pytester: pytest.Pytester, run: Run, tmp_path: Path, monkeypatch: pytest.MonkeyPatch, is_there: bool, words: tuple[str, ...]
+) -> None:
+    """What is held is let go behind the tear-down; a broker that is gone by then is waited for once, for ten seconds here, and that is told."""
+    pytester.makeconftest("from pytest_labrun import controller, holding, server\ncontroller.PATIENCE = holding.PATIENCE = server.PATIENCE = 10.0\n")
     pytester.makepyfile(
         """
         import os, time
@@ -114,14 +118,15 @@ def test_control_c(pytester: pytest.Pytester, run: Run, tmp_path: Path, monkeypa
     monkeypatch.setenv("AT", address := f"unix:{tmp_path}/bay.sock")
     (tmp_path / "bay.toml").write_text('instruments = ["scope"]\n[guests]\ncount = 2\n')
     with serves(tmp_path, "--listen", address) as broker:
-        words = [sys.executable, "-m", "pytest", "-p", "pytest_labrun.plugin", "-p", "no:cacheprovider", "--lab-broker", address]
-        process = subprocess.Popen(words, cwd=pytester.path, stdout=subprocess.PIPE, stderr=subprocess.STDOUT, text=True)
+        line = [sys.executable, "-m", "pytest", "-p", "pytest_labrun.plugin", "-p", "no:cacheprovider", "--lab-broker", address, *words]
+        # (a terminal tells all processes of the run)
+        process = subprocess.Popen(line, cwd=pytester.path, stdout=subprocess.PIPE, stderr=subprocess.STDOUT, text=True, start_new_session=True)
         sleeps_until((pytester.path / "runs").exists)
         if not is_there:
             broker.kill()
             broker.wait()
         begun = time.monotonic()
-        process.send_signal(signal.SIGINT)
+        os.killpg(process.pid, signal.SIGINT)
         told = process.communicate(timeout=120)[0]
         assert process.returncode == pytest.ExitCode.INTERRUPTED and "KeyboardInterrupt" in told, told
         assert (pytester.path / "torn_down").read_text() == ("['scope']" if is_there else "nobody answers")
@@ -130,9 +135,9 @@ def test_control_c(pytester: pytest.Pytester, run: Run, tmp_path: Path, monkeypa
             status = subprocess.check_output([sys.executable, "-m", "labrun_broker", "status", "--broker", address, "--json"], timeout=60)
             assert [it["holder"] for it in json.loads(status)["instruments"]] == [None]
         else:
-            assert "the broker hasn't answered for 5 s, and may show them as gone" in told, told
-            # (twice five seconds, and what a busy machine takes)
-            assert time.monotonic() - begun < 40
+            assert "the broker hasn't answered for 10 s, and may show them as gone" in told, told
+            # (and not twice ten; a busy machine takes some seconds more)
+            assert time.monotonic() - begun < 19
 
 
 def test_a_killed_worker_lets_go(pytester: pytest.Pytester, run: Run, broker: str) -> None:
@@ -318,7 +323,7 @@ def test_a_broker_that_begins_again(monkeypatch: pytest.MonkeyPatch) -> None:
     monkeypatch.setitem(sys.modules, "labrun_broker", SimpleNamespace(connect=lambda address: Client()))
     lab = BrokerLab("unix:none")
     sleeps_until(lambda: lab.in_use() == {"scope": "guest-2"})
-    lab.close()
+    lab.close(1.0)
     sleeps_until(lambda: not is_watched())
 
 
