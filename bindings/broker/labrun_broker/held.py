@@ -219,8 +219,13 @@ class Held:
         if self.state == "waiting" and self._silence is not None:
             self._silence.hears()
 
+    @property
+    def is_let_go(self) -> bool:
+        """Whether it is over for its owner, and the broker may take its time to say so."""
+        return self._questions.let_go
+
     def _is_sure(self, sent: float) -> None:
-        """The broker answered what was sent then, and it holds."""
+        """The broker answered what was sent then, and it holds; or it is let go, and the broker is there."""
         if self._lease is not None:
             self._until = max(self._until, sent + self._lease)
 

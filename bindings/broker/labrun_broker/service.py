@@ -72,9 +72,9 @@ class Client:
         self.keeping, self.context, self.person = keeping, context, person
         self.session: Optional[Session] = None
         self.pace = Pace(keeping.bay.limits.requests)
-        # what waits until it holds; and a note that isn't answered yet
+        # what waits until it holds; and a note or let-go that isn't answered yet
         self._waiting: Optional[asyncio.Task[None]] = None
-        self._noting: Optional[asyncio.Task[None]] = None
+        self._writes: Optional[asyncio.Task[None]] = None
         # by which it is told that its session was taken away
         self._taking: Optional[asyncio.Task[None]] = None
         self._writing = asyncio.Lock()
@@ -87,18 +87,20 @@ class Client:
                 if (span := self.pace.span()) > 0:
                     await asyncio.sleep(span)
                 kind = ask.WhichOneof("ask")
-                if self._noting is not None and not self._noting.done() and kind != "ping":
-                    await asyncio.wait({self._noting})
-                if kind == "note":
-                    # (a disk may take its time, and the client says meanwhile that it is there)
-                    self._noting = self._starts(self._answers(kind, ask))
+                if self._writes is not None and kind != "ping":
+                    await asyncio.wait({self._writes})
+                if kind == "note" or kind == "let_go" and self._waiting is None:
+                    # (a disk may take its time, and the client says meanwhile that it is there; this begins, also if that is gone by now)
+                    self._writes = self._starts(self._answers(kind, ask))
+                    await asyncio.sleep(0)
                 else:
                     await self._answers(kind, ask)
+            await asyncio.gather(*filter(None, [self._writes]), return_exceptions=True)
             if self._waiting is not None:
                 await self._give_up(self._waiting)
         finally:
             # (nobody is there to be answered)
-            for task in (self._waiting, self._noting):
+            for task in (self._waiting, self._writes):
                 if task is not None:
                     task.cancel()
             if self.session is not None:

@@ -175,7 +175,7 @@ class Stream:
         elif kind == "warning":
             self._is_warned(told.text)
         elif kind == "pong" and told.at != self._asked_at:
-            if self.session is not None and told.holds:
+            if self.session is not None and (told.holds or self.session.is_let_go):
                 self.session._is_sure(told.at)
             elif self.session is not None:
                 with self._telling():

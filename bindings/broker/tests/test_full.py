@@ -19,7 +19,7 @@ from labrun_broker.entrance import Caller, Entrance
 from labrun_broker.etcd import EtcdError, put
 from labrun_broker.visits import OVER, WAITING, Visits
 from labrun_broker.wishes import Ended, Wish
-from tests.brokers import COMMAND, LIMIT, TOP, UNHEARD, free_port, until
+from tests.brokers import BAY, COMMAND, LIMIT, TOP, UNHEARD, free_port, until
 from tests.etcds import Member, OnEtcd
 from tests.test_keeping import TICKET, Owner
 from tests.test_replica import Brokers
@@ -32,6 +32,9 @@ DISK = 4.0  # seconds, for which one waits for etcd; the margin is as much again
 @unittest.skipUnless(find_spec("aiohttp"), "there is no aiohttp")
 @unittest.skipIf(COMPILER is None, "there is no compiler of C")
 class Full(OnEtcd):
+    gone = ""
+    words: tuple[str, ...] = ()
+
     @classmethod
     def setUpClass(cls) -> None:
         folder = cls.enterClassContext(tempfile.TemporaryDirectory())
@@ -45,7 +48,7 @@ class Full(OnEtcd):
         self.folder = self.enterContext(tempfile.TemporaryDirectory())
         port = free_port()
         self.unix = f"unix:{self.folder}/s"
-        self.broker = Serving(self, port, "--listen", self.unix, "--http", f"{self.unix}.http", lease=10)
+        self.broker = Serving(self, port, "--listen", self.unix, "--http", f"{self.unix}.http", *self.words, bay=self.gone + BAY, lease=10)
         self.broker.says("4 instruments, at ")
 
     def fills(self) -> None:
@@ -80,6 +83,12 @@ class Full(OnEtcd):
             ran = f"{name}: the command ran, and ended with status 0, but:\n"
             why = f"{name}: etcd, /labrun/{self.bay}/journal/: it isn't in etcd after 10 s: a write failed (etcd is full)\n"
             self.assertTrue(said.startswith(waits + ran + why), said)
+
+
+class FullAndReleased(Full):
+    """Each client is to be heard every few seconds, and it is while it waits until it has let go: its session isn't over before that."""
+
+    gone, words = 'gone = "release"\n', ("--grace", "8")
 
 
 class Again(Brokers):

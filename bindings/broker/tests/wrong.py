@@ -489,6 +489,12 @@ WRONG = {
         "test_full.Again.test_who_lets_go_and_asks_again", "visits.py", (("if self._letting_go is None or self._letting_go.done():", "if True:"),)
     ),
     "one that says that it let go, and hasn't written it": Wrong("test_full.Again.test_who_lets_go_and_asks_again", "keeping.py", (('if why.kind == "LetGo":', "if False:"),)),
+    "a let-go during which its client isn't heard": Wrong(
+        "test_full.FullAndReleased.test_who_lets_go", "service.py", (('kind == "note" or kind == "let_go" and self._waiting is None', 'kind == "note"'),)
+    ),
+    "a broker with TLS that is stopped, and given up at once": Wrong(
+        "test_texts.Network.test_one_that_is_stopped_for_a_while", "errors.py", ((', "Handshake read failed"', ""),)
+    ),
     "records that can't be written, and nobody is told": Wrong(
         "test_written.FullDisk.test_records_alone", "records.py", (("            return self._fails(fault)\n", "            return\n"),)
     ),
