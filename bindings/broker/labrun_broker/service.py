@@ -87,7 +87,7 @@ class Client:
                 if (span := self.pace.span()) > 0:
                     await asyncio.sleep(span)
                 kind = ask.WhichOneof("ask")
-                if self._writes is not None and kind != "ping":
+                if self._writes is not None and not self._writes.done() and kind != "ping":
                     await asyncio.wait({self._writes})
                 if kind == "note" or kind == "let_go" and self._waiting is None:
                     # (a disk may take its time, and the client says meanwhile that it is there; this begins, also if that is gone by now)

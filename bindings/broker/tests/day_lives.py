@@ -415,7 +415,12 @@ class Day:
     # ---- what is told, at once
 
     def is_said(self, text: str) -> None:
-        """To whoever looks after the broker. While it says that a write fails, whoever lets go may hold again after a kill."""
+        """To whoever looks after the broker. While it says that a write fails, whoever lets go may hold again after a kill. (Not so of the records,
+        which are for people.)"""
+        if "records" in text:
+            if "is tried again" in text and not self.has_bad_disk:
+                self.wrong = Wrong(7, f"the disk is sound, and it says {text}")
+            return
         self.has_failed = "is tried again" in text or self.has_failed and "all is written" not in text
         if self.has_failed and not self.has_bad_disk:
             self.wrong = Wrong(7, f"the disk is sound, and it says {text}")

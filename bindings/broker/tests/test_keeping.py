@@ -714,7 +714,7 @@ class Jumps(OnFolder):
 class Memory:
     """A bay's state that is no folder: all that another store has to be."""
 
-    path, lets_wait, is_written, is_under_way = "memory", False, True, False
+    path, lets_wait, is_written, is_under_way, is_behind = "memory", False, True, False, False
 
     def __init__(self) -> None:
         self.store, self.records, self._text, self._places, self.told = self, self, b"", Places(), list[dict[str, Any]]()
@@ -743,6 +743,8 @@ class Memory:
 
     def add(self, record: dict[str, Any]) -> None:
         self.told.append(record)
+
+    def says_faults(self, says: Callable[[str], bool]) -> None: ...
 
     def follows(self, at: int, has: int) -> None: ...
 
