@@ -109,6 +109,7 @@ FOR_GOOD = {
     "not in peer certificate": "its certificate is for another name: call it by that",
     "certificate verify failed": ANOTHER,
     "http1.x server": HTTP_THERE,
+    "Failed parsing HTTP/2": "somebody else than a broker is there",
     # (that by which TLS says what is spoken: of those that a client of a broker meets, HTTP's ports alone say nothing)
     "missing selected ALPN": HTTP_THERE,
 }

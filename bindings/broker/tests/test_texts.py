@@ -40,9 +40,16 @@ class SpeaksHttp(socketserver.BaseRequestHandler):
             pass
 
 
+class SpeaksFirst(socketserver.BaseRequestHandler):
+    def handle(self) -> None:
+        self.request.sendall(b"220 bench-3 is ready for mail\r\n")
+        while self.request.recv(1000):
+            pass
+
+
 class Http(unittest.TestCase):
-    def serves(self, kind: type[socketserver.BaseServer], at: object) -> Any:
-        server = kind(at, SpeaksHttp)  # type: ignore[arg-type]
+    def serves(self, kind: type[socketserver.BaseServer], at: object, speaks: type[socketserver.BaseRequestHandler] = SpeaksHttp) -> Any:
+        server = kind(at, speaks)  # type: ignore[arg-type]
         self.addCleanup(server.server_close)
         threading.Thread(target=server.serve_forever, args=(0.05,), daemon=True).start()
         self.addCleanup(server.shutdown)
@@ -54,7 +61,9 @@ class Http(unittest.TestCase):
         sock = f"unix:{self.serves(socketserver.ThreadingUnixStreamServer, f'{folder}/bay.sock.http')}"
         port = self.serves(socketserver.ThreadingTCPServer, ("127.0.0.1", 0))[1]
         why = "can't be reached: somebody speaks HTTP there, and not as the clients of a broker do"
-        rows = ((sock, f"{why}: leave out `.http`, which is for curl and the like"), (f"127.0.0.1:{port}", why))
+        other = self.serves(socketserver.ThreadingTCPServer, ("127.0.0.1", 0), SpeaksFirst)[1]
+        rows = [(sock, f"{why}: leave out `.http`, which is for curl and the like"), (f"127.0.0.1:{port}", why)]
+        rows.append((f"127.0.0.1:{other}", "can't be reached: somebody else than a broker is there"))
         for at, said in rows:
             text = f"the broker at {at} {said}"
             with self.subTest(at), labrun_broker.connect(at) as lab:
