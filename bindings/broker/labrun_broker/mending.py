@@ -3,6 +3,7 @@
 from __future__ import annotations
 
 import re
+from collections import Counter
 from typing import Iterable, Iterator, Optional
 
 from .journals import Left
@@ -48,14 +49,21 @@ def missing(left: dict[int, Left], records: list[Record], places: Places) -> lis
     """The records that aren't there, of sessions that held; `left` has them as they came to hold."""
     held = {it["session"] for it in records if it["what"] == "held"}
     over = {it["session"] for it in records if it["what"] in ENDS}
-    noted = {(it["session"], it.get("text")) for it in records if it["what"] == "note"}
+    # (of some notes the text is the same)
+    noted = Counter((it["session"], it.get("text")) for it in records if it["what"] == "note")
+    last = {it["session"]: it["t"] for it in records if it["what"] not in ENDS}
     found: list[Record] = []
     for it in _since_the_first(list(left.values()), held, len(records)):
         about = _About(it, places)
         # (one that is over, and never held by the records, gave up before its client was told)
         if it.number not in held and not (it.end and it.number in over):
             found.append({**about.record("held", it.since / 1000), "ticket": digits_of(it.owner)})
-        found += [about.record("note", it.since / 1000, text) for text in it.notes if (it.number, text) not in noted]
+        since = max(it.since / 1000, last.get(it.number, 0.0))
+        for text in it.notes:
+            if noted[it.number, text] > 0:
+                noted[it.number, text] -= 1
+            else:
+                found.append(about.record("note", since, text))
         if it.end and it.number not in over:
             found.append(about.record(it.what, (it.until or it.since) / 1000))
     return found
@@ -84,7 +92,7 @@ class _About:
         self._it, self._instruments = it, list(places.names(it.needs))
 
     def record(self, what: str, t: float, text: Optional[str] = None) -> Record:
-        """(When a note was written isn't in the journal: not before its session held.)"""
+        """(When a note was written isn't in the journal: not before its session held, nor before the last of its records.)"""
         of = {"station": self._station, "session": self._it.number, "instruments": self._instruments, "by": self._it.by or None}
         return {"t": round(t, 6), "what": what, **of, "text": self._why(what) if text is None else text}
 

@@ -4,7 +4,7 @@ one let in and goes on, they lack as it begins to lead again; both come from wha
 from __future__ import annotations
 
 import contextlib
-from collections import defaultdict
+from collections import Counter, defaultdict
 from typing import Iterable, Mapping, Optional, Sequence
 
 from .records import LINE, Record, Records
@@ -112,7 +112,7 @@ class Known:
         its = recents.get(key, ())
         if not self._is_same(key, its):
             its = ()
-        found = [*self._notes(key, mended), *(self._held(it) for it in its if it["what"] == "held" and session.held is None), *self._gone(key, its)]
+        found = [*self._notes(key, its, mended), *(self._held(it) for it in its if it["what"] == "held" and session.held is None), *self._gone(key, its)]
         over = [it for it in its if it["what"] in ENDS][-1:]
         # (it was open when this machine's last record was written)
         last = self._over_by.get(key, max([self._past.until, *(it["t"] for it in its)]))
@@ -127,18 +127,23 @@ class Known:
         key = key_of(hold)
         session, its = self._past.now.get(key), recents.get(key, ())
         if session is not None and session.held is not None and self._is_same(key, [hold]):
-            return [*self._notes(key, mended), *self._gone(key, its)]
-        return [self._held(hold), *self._notes(key, mended), *self._gone(key, its)]
+            return [*self._notes(key, its, mended), *self._gone(key, its)]
+        return [self._held(hold), *self._notes(key, its, mended), *self._gone(key, its)]
 
     def _held(self, hold: Record) -> Record:
         """Not before its instruments were free. (A clock may have been set back meanwhile, and two machines have two.)"""
         return {**hold, "t": max([hold["t"], *(self._free.get(name, 0.0) for name in hold.get("instruments") or ())])}
 
-    def _notes(self, key: Key, mended: Its) -> list[Record]:
-        """Those that were missing in etcd, and are here, too."""
-        session = self._past.now.get(key)
-        known = {text for _, text in session.notes} if session is not None else set[str]()
-        return [it for it in mended.get(key, ()) if it["what"] == "note" and it.get("text") not in known]
+    def _notes(self, key: Key, its: Iterable[Record], mended: Its) -> list[Record]:
+        """Those that were missing in etcd, and are here, too. (Of some the text is the same: then the last of them are.)"""
+        session, found = self._past.now.get(key), list[Record]()
+        lacks = Counter(it.get("text") for it in its if it["what"] == "note")
+        lacks.subtract(text for _, text in (session.notes if session is not None else ()))
+        for it in reversed([it for it in mended.get(key, ()) if it["what"] == "note"]):
+            if lacks[it.get("text")] > 0:
+                lacks[it.get("text")] -= 1
+                found.insert(0, it)
+        return found
 
     def _gone(self, key: Key, its: Iterable[Record]) -> list[Record]:
         """When its client was away while another machine led."""

@@ -52,8 +52,9 @@ def write_notes_csv(sessions: list[Session], lone: list[Record], out: TextIO) ->
     to.writerow(["time", "station", "session", "instruments", "note"])
     rows = [(t, it.station, it.number, it.instruments, text) for it in sessions for t, text in it.notes]
     rows += [(it["t"], it.get("station") or "", it.get("session"), tuple(it.get("instruments") or ()), it.get("text") or "") for it in lone]
-    its = sorted((t, station, number or 0, " ".join(instruments), text) for t, station, number, instruments, text in rows)
-    to.writerows([iso(t), station, number or "", *row] for t, station, number, *row in its)
+    # (those of one moment stand as they were written)
+    rows.sort(key=lambda row: (row[0], row[1], row[2] or 0))
+    to.writerows([iso(t), station, number or "", " ".join(instruments), text] for t, station, number, instruments, text in rows)
 
 
 OF_SESSION = ["station", "session", "asked", "waited", "held", "end", "instruments", "by", "notes"]

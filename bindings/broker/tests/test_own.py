@@ -99,6 +99,13 @@ class Lacks(unittest.TestCase):
         its = self.mended([*own, of(14.5, "let_go", 1, "scope")], [], [], missing[4:])
         self.assertEqual(self.told(its)[-1], (3, "done", 14.5, 15))
 
+    def test_notes_with_one_text(self) -> None:
+        """Of three, etcd lacked the last two, and the file has the first two."""
+        own = [held(10, 1, "scope"), of(11, "note", 1, text="5 V"), of(12, "note", 1, text="5 V")]
+        missing = [of(13, "note", 1, text="5 V"), of(14, "note", 1, text="5 V"), of(15, "note", 1, text="6 V")]
+        its = self.mended(own, own[:2], [held(10, 1, "scope")], missing)
+        self.assertEqual([(t - START, text) for t, text in its.sessions()[0].notes], [(11, "5 V"), (12, "5 V"), (14, "5 V"), (15, "6 V")])
+
 
 class Files(unittest.IsolatedAsyncioTestCase):
     def setUp(self) -> None:

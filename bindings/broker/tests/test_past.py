@@ -263,6 +263,14 @@ class Mended(unittest.TestCase):
         self.assertEqual(missing({3: it}, [], Places(("scope", "supply"), ("board",))), expected)
 
 
+    def test_notes_with_one_text(self) -> None:
+        """The journal has each as often as it was noted; those that the records lack come behind what they have of the session."""
+        it = Left(3, 1, 1, (0, 3), 5000, 5000, 3, "board", notes=["5 V", "6 V", "5 V", "5 V", "4 V"])
+        its = [record(6, "held", "board", "scope", session=3), record(7, "note", "board", session=3, text="5 V"), record(8, "note", "board", session=3, text="6 V")]
+        found = missing({3: it}, its, Places(("scope", "supply"), ("board",)))
+        self.assertEqual([(one["what"], one["t"] - START, one["text"]) for one in found], [("note", 8, "5 V"), ("note", 8, "5 V"), ("note", 8, "4 V")])
+
+
 class Words(unittest.TestCase):
     def test_csv(self) -> None:
         with state(DAY) as folder:
@@ -280,6 +288,13 @@ class Words(unittest.TestCase):
             status, out, _ = ran("table", folder, "--notes")
         rows = list(csv.reader(io.StringIO(out)))
         self.assertEqual((status, rows[1:]), (0, [["2023-11-14T22:13:50.000+00:00", "board", "2", "scope supply", "V = 5.0, \"ok\"\nsecond line"]]))
+
+    def test_notes_of_one_moment(self) -> None:
+        """They stand as they were written."""
+        its = [record(1, "held", "board", "scope", session=3), *(record(2, "note", "board", session=3, text=text) for text in ("6 V", "5 V", "6 V"))]
+        with state(its) as folder:
+            rows = list(csv.reader(io.StringIO(ran("table", folder, "--notes")[1])))
+        self.assertEqual([row[4] for row in rows[1:]], ["6 V", "5 V", "6 V"])
 
     def test_table_of_the_last_minute(self) -> None:
         with state(DAY) as folder:

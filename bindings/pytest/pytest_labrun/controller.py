@@ -7,12 +7,12 @@ from typing import Any, Optional, Sequence
 import pytest
 
 from . import seen
-from .desk import PATIENCE, SocketDesk
+from .desk import SocketDesk
 from .labs import BrokerLab, Lab, LabFault, OwnLab
 from .needs import Bay
 from .past import ALONE, Past
 from .plugin import Runner, broker_of, timeout_of
-from .server import UNANSWERED, Server
+from .server import Server
 
 # where pytest's cache has them
 _TIMES = "labrun/times"
@@ -89,8 +89,8 @@ class Controller:
     def pytest_terminal_summary(self, terminalreporter: Any) -> None:
         seen.tell(terminalreporter, self.past)
         # (a worker's warning isn't told once the run is interrupted)
-        if self.server.unanswered:
-            terminalreporter.write_line(f"instruments of an interrupted test: {UNANSWERED.format(PATIENCE)}")
+        for why in dict.fromkeys(self.server.unheard.values()):
+            terminalreporter.write_line(f"instruments of an interrupted test: {why}")
 
     def pytest_unconfigure(self) -> None:
         self.server.stop()

@@ -47,8 +47,8 @@ class Server:
         self.past = past
         self.units: Optional[tuple[UnitTold, ...]] = None
         self.fault: Optional[str] = None
-        # workers whose test was interrupted, and of whose instruments a broker doesn't say that they are let go; and since when one waits for that
-        self.unanswered = set[_Worker]()
+        # workers whose test was interrupted, and that didn't hear that its instruments are let go, each with why; and since when one waits for that
+        self.unheard = dict[_Worker, str]()
         self.asked_at: Optional[float] = None
         # to each worker, until it asks for that
         self.dealt: dict[str, Dealt] = {}
@@ -177,8 +177,9 @@ class _Worker:
         self.lets_go = asyncio.Event()
         self.held: Optional[Held] = None
         self.at: Any = None
-        # why the session was over before its end, as it was told first
+        # why the session was over before its end, as it was told first; and as the worker was
         self.taken: Optional[Exception] = None
+        self.fault = ""
 
     def tell(self, **words: Any) -> None:
         self.writer.write(json.dumps(words).encode() + b"\n")
@@ -203,20 +204,23 @@ class _Worker:
 
     async def on_hold(self, test: str, ways: list[list[str]], timeout: Optional[float]) -> None:
         self.lets_go.clear()
+        self.fault = ""
         self.session = asyncio.create_task(self.holds(test, tuple(map(tuple, ways)), timeout))
 
     async def on_let_go(self, within: Optional[float]) -> None:
         self.lets_go.set()
         if within is None or self.session is None:
             return
-        self.server.unanswered.add(self)
+        self.server.unheard[self] = UNANSWERED.format(within)
         self.server.asked_at = self.server.asked_at or time.monotonic()
         # (xdist may end the worker before that)
-        if (await asyncio.wait({self.session}, timeout=within))[0]:
-            self.server.unanswered.discard(self)
-        else:
+        if not (await asyncio.wait({self.session}, timeout=within))[0]:
             self.session.cancel()
-            self.tell(fault=UNANSWERED.format(within))
+            self.tell(fault=self.server.unheard[self])
+        elif self.fault:
+            self.server.unheard[self] = self.fault
+        else:
+            del self.server.unheard[self]
 
     async def on_note(self, note: int, text: str) -> None:
         """`note` is its number, which its answer has, too."""
@@ -267,7 +271,8 @@ class _Worker:
             raise
         except Exception as fault:
             held.end = "late" if held.held is None else "taken"
-            self.tell(fault=server.lab.who(f"{type(fault).__name__}: {fault}"))
+            self.fault = server.lab.who(f"{type(fault).__name__}: {fault}")
+            self.tell(fault=self.fault)
         finally:
             held.let_go = held.let_go or past.now()
             server.ends(held)

@@ -5,6 +5,7 @@ from __future__ import annotations
 import contextlib
 import json
 import os
+import re
 import signal
 import socket
 import subprocess
@@ -86,12 +87,13 @@ def test_two_runs_at_once(pytester: pytest.Pytester, run: Run, broker: str) -> N
 
 
 @pytest.mark.parametrize("words", [(), ("-n", "1")], ids=["alone", "workers"])
-@pytest.mark.parametrize("is_there", [True, False])
+@pytest.mark.parametrize(("is_there", "gone"), [(True, "keep"), (False, "keep"), (False, "release")], ids=["there", "gone", "released"])
 def test_control_c(
-    pytester: pytest.Pytester, run: Run, tmp_path: Path, monkeypatch: pytest.MonkeyPatch, is_there: bool, words: tuple[str, ...]
+    pytester: pytest.Pytester, run: Run, tmp_path: Path, monkeypatch: pytest.MonkeyPatch, is_there: bool, gone: str, words: tuple[str, ...]
 ) -> None:
-    """What is held is let go behind the tear-down; a broker that is gone by then is waited for once, for ten seconds here, and that is told."""
-    pytester.makeconftest("from pytest_labrun import controller, holding, server\ncontroller.PATIENCE = holding.PATIENCE = server.PATIENCE = 10.0\n")
+    """What is held is let go behind the tear-down; a broker that is gone by then is waited for once, for ten seconds here, or for as long as a
+    session is held without a word of it; and that is told."""
+    pytester.makeconftest("from pytest_labrun import holding, server\nholding.PATIENCE = server.PATIENCE = 10.0\n")
     pytester.makepyfile(
         """
         import os, time
@@ -116,8 +118,8 @@ def test_control_c(
     )
     monkeypatch.setenv("PYTHONPATH", os.pathsep.join([os.environ["PYTHONPATH"], BROKER]))
     monkeypatch.setenv("AT", address := f"unix:{tmp_path}/bay.sock")
-    (tmp_path / "bay.toml").write_text('instruments = ["scope"]\n[guests]\ncount = 2\n')
-    with serves(tmp_path, "--listen", address) as broker:
+    (tmp_path / "bay.toml").write_text(f'gone = "{gone}"\ninstruments = ["scope"]\n[guests]\ncount = 2\n')
+    with serves(tmp_path, "--listen", address, "--grace", "4") as broker:
         line = [sys.executable, "-m", "pytest", "-p", "pytest_labrun.plugin", "-p", "no:cacheprovider", "--lab-broker", address, *words]
         # (a terminal tells all processes of the run)
         process = subprocess.Popen(line, cwd=pytester.path, stdout=subprocess.PIPE, stderr=subprocess.STDOUT, text=True, start_new_session=True)
@@ -135,7 +137,8 @@ def test_control_c(
             status = subprocess.check_output([sys.executable, "-m", "labrun_broker", "status", "--broker", address, "--json"], timeout=60)
             assert [it["holder"] for it in json.loads(status)["instruments"]] == [None]
         else:
-            assert "the broker hasn't answered for 10 s, and may show them as gone" in told, told
+            why = "the broker hasn't answered for 10 s, and may show them as gone" if gone == "keep" else "TakenAway: .* for more than 3 s, so the session is over"
+            assert re.search(("instruments of an interrupted test: " if words else "its instruments were no longer held at its end: ") + why, told), told
             # (and not twice ten; a busy machine takes some seconds more)
             assert time.monotonic() - begun < 19
 
