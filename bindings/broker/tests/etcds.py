@@ -59,6 +59,13 @@ class OnEtcd(unittest.IsolatedAsyncioTestCase):
         self.etcd = self.member.client()
         self.addCleanup(self.etcd.close)
 
+    def lapses(self, lease: int) -> None:
+        """A lease is over. (On a busy machine it may be so by itself.)"""
+        try:
+            self.etcd.revoke(lease)
+        except EtcdError as fault:
+            self.assertIn("requested lease not found", str(fault))
+
     def values(self, prefix: str) -> dict[str, bytes]:
         """What etcd has of the bay."""
         begins = f"/labrun/{self.bay}/{prefix}".encode()

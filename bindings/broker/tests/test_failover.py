@@ -118,7 +118,7 @@ class OnPair(OnEtcd):
     def next_leads(self, at: int, count: int = 4) -> None:
         """The lease of the one that was killed is over."""
         for it in self.etcd.txn([], [get(f"/labrun/{self.bay}/leader".encode())]).responses[0].response_range.kvs:
-            self.etcd.revoke(it.lease)
+            self.lapses(it.lease)
         self.brokers[at].says(f"{count} instruments, at ")
 
     @property

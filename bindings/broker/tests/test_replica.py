@@ -88,7 +88,7 @@ class Brokers(OnEtcd):
         """The first was stopped for longer than its lease, and goes on: it doesn't know. The one that leads."""
         one.leading._sure_until = float("inf")
         self.enterContext(mock.patch.object(one.leading.etcd, "keeps_alive", lambda lease, timeout: 1000))
-        self.etcd.revoke(one.leading.lease)
+        self.lapses(one.leading.lease)
         return await self.broker("second", bay, grace, folder)
 
     async def never(self, one: Broker, work: Coroutine[Any, Any, Any]) -> None:
@@ -245,7 +245,7 @@ class Deposed(Brokers):
 
     async def test_its_lease(self) -> None:
         first = await self.broker("first")
-        self.etcd.revoke(first.leading.lease)
+        self.lapses(first.leading.lease)
         await asyncio.wait_for(first.is_lost.wait(), LIMIT)
         self.assertIn(first.why, (["its lease is over"], ["it leads no more"]))
 
@@ -369,7 +369,7 @@ class Next(Brokers):
         first, second = await self.broker("first"), Broker(self, "second")
         leads = asyncio.create_task(asyncio.to_thread(second.leading.leads, second.said.append))
         await eventually(lambda: self.values("standby/"))
-        self.etcd.revoke(second.leading.lease)
+        self.lapses(second.leading.lease)
         await eventually(lambda: list(self.values("standby/")) == ["standby/second"])
         await first.keeping.close()
         self.assertTrue(await asyncio.wait_for(leads, LIMIT))
@@ -591,7 +591,7 @@ class Stores(OnStore):
 
     def test_who_leads_no_more(self) -> None:
         """Nothing of it is written, and whoever waits is never answered."""
-        self.etcd.revoke(self.leading.lease)
+        self.lapses(self.leading.lease)
         self.leads("two")
         thread = threading.Thread(target=self.store.append, args=(b"one\n",), daemon=True)
         with mock.patch("threading.excepthook"):
