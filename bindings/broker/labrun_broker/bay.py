@@ -83,7 +83,7 @@ Path = Union[str, "os.PathLike[str]"]
 
 @dataclass(frozen=True)
 class Limits:
-    """What one client may ask of the broker, and how many there may be. `requests` are a second, of one client; `name` is no less, for tickets are names."""
+    """What one client may ask of the broker, and how many there may be. `requests` are a second, of one client; no bay has a smaller `name`, because tickets are as long."""
 
     clients: int = 200
     name: int = 64

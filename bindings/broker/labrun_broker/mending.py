@@ -51,7 +51,7 @@ def missing(left: dict[int, Left], records: list[Record], places: Places) -> lis
     over = {it["session"] for it in records if it["what"] in ENDS}
     # (of some notes the text is the same)
     noted = Counter((it["session"], it.get("text")) for it in records if it["what"] == "note")
-    last = {it["session"]: it["t"] for it in records if it["what"] not in ENDS}
+    last = {it.get("session"): it["t"] for it in records if it["what"] not in ENDS}
     found: list[Record] = []
     for it in _since_the_first(list(left.values()), held, len(records)):
         about = _About(it, places)

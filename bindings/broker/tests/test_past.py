@@ -266,7 +266,8 @@ class Mended(unittest.TestCase):
     def test_notes_with_one_text(self) -> None:
         """The journal has each as often as it was noted; those that the records lack come behind what they have of the session."""
         it = Left(3, 1, 1, (0, 3), 5000, 5000, 3, "board", notes=["5 V", "6 V", "5 V", "5 V", "4 V"])
-        its = [record(6, "held", "board", "scope", session=3), record(7, "note", "board", session=3, text="5 V"), record(8, "note", "board", session=3, text="6 V")]
+        # (what older brokers wrote may have no number)
+        its = [{"t": START, "what": "opened"}, record(6, "held", "board", "scope", session=3), record(7, "note", "board", session=3, text="5 V"), record(8, "note", "board", session=3, text="6 V")]
         found = missing({3: it}, its, Places(("scope", "supply"), ("board",)))
         self.assertEqual([(one["what"], one["t"] - START, one["text"]) for one in found], [("note", 8, "5 V"), ("note", 8, "5 V"), ("note", 8, "4 V")])
 
