@@ -50,7 +50,7 @@ class Written(Protocol):
         """Whether something waits to be written, or to be tried again."""
 
     def says_faults(self, says: Callable[[str], bool]) -> None:
-        """Who is told, once, if they can't be written for a while, and then that they are. It answers whether it was worth that."""
+        """Who is told if they can't be written for a while, and once they are. If that answers False, nobody was told, and it is tried again."""
 
     def waits(self) -> None:
         """A moment at most, for such a write."""
@@ -142,9 +142,11 @@ class Records:
 
     def _has_put(self, fault: Optional[Exception]) -> None:
         self.is_under_way = False
-        if fault is not None and not self._is_closed:
-            self._again = asyncio.get_running_loop().call_later(AGAIN, self.write)
-            return self._fails(fault)
+        if fault is not None:
+            if not self._is_closed:
+                self._again = asyncio.get_running_loop().call_later(AGAIN, self.write)
+                self._fails(fault)
+            return
         if self._waiting:
             return self.write()
         if self._is_told:
@@ -224,9 +226,10 @@ class News:
         """Of the file. While the journal can't be written, that alone is told."""
 
         def told(text: str) -> bool:
-            if is_worth_it := not of_the_journal():
-                says(text)
-            return is_worth_it
+            if of_the_journal():
+                return False
+            says(text)
+            return True
 
         if self.file is not None:
             self.file.says_faults(told)

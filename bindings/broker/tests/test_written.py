@@ -671,6 +671,15 @@ class FullDisk(OnFolder):
         whole = [it["what"] for it in read_records(self.its_folder)[0]]
         self.assertEqual([whole.count(what) for what in ("asked", "held", "let_go")], [3, 3, 3])
 
+    async def test_a_write_that_fails_behind_the_end(self) -> None:
+        """It hung until then: nobody is told that all is written."""
+        keeping = await self.on_disk()
+        its = keeping._opened.state.records
+        await keeping.close()
+        its._is_told = True
+        its._has_put(OSError(5, "Input/output error"))
+        self.assertEqual(self.said, [])
+
     async def test_an_end_with_records_alone(self) -> None:
         """They are tried for as long as the journal would be."""
         full, write = True, os.write

@@ -499,7 +499,7 @@ WRONG = {
         "test_past.Mended.test_notes_with_one_text", "mending.py", (("                noted[it.number, text] -= 1\n", "                pass\n"),)
     ),
     "records that can't be written, and nobody is told": Wrong(
-        "test_written.FullDisk.test_records_alone", "records.py", (("            return self._fails(fault)\n", "            return\n"),)
+        "test_written.FullDisk.test_records_alone", "records.py", (("                self._fails(fault)\n", ""),)
     ),
     "an end that doesn't wait for records": Wrong(
         "test_written.FullDisk.test_an_end_with_records_alone", "closing.py", (("records.is_under_way or records.is_behind and", "records.is_under_way or False and"),)
